@@ -1,0 +1,82 @@
+-- Document 01, section 4, tags 2, 3 and 4: what they test. The search and the good ways both rest on this.
+use mathlib.Core.Bool.{Bool, true, false, _&&_, _||_}
+use mathlib.Core.Option.{none, some}
+use mathlib.Core.List.{List, [], _∷_, map}
+use lib.IntN.{ℤ}
+use Rattle.rules.specs.Numbers.{same, plus}
+use Rattle.rules.specs.Forms.{Matcher, something, integer, list, multiset, Value, int, collection, Values, empty, _▸_}
+use Rattle.rules.specs.Reading.{entry}
+
+-- The values bound so far: entry v is variable v's. (Variables are numbered from left to right and atoms are taken up from left to right, so that
+-- a bind is always the next entry.)
+abbrev pub Bindings : Type 0
+Bindings = List Value
+
+-- "Lists are equal element by element in order."
+unfoldable pub inOrder : (Value → Value → Bool) → Values → Values → Bool
+inOrder eq empty empty = true
+inOrder eq empty (w ▸ ws) = false
+inOrder eq (v ▸ vs) empty = false
+inOrder eq (v ▸ vs) (w ▸ ws) = eq v w && inOrder eq vs ws
+
+-- One element, and the others without that one place.
+pub record Pick : Type 0 where
+  pub one : Value
+  pub others : Values
+
+unfoldable pub behind : Value → Pick → Pick
+behind v p = record { one = p .one; others = v ▸ p .others }
+
+-- Each element in target order, with the others.
+unfoldable pub picks : Values → List Pick
+unfolding behind
+picks empty = []
+picks (v ▸ vs) = record { one = v; others = vs } ∷ map (behind v) (picks vs)
+
+unfoldable pub any : (Pick → Bool) → List Pick → Bool
+any f [] = false
+any f (p ∷ ps) = f p || any f ps
+
+-- Multisets are equal "when the elements of one can be paired off with those of the other": the first element goes with some element of the
+-- other, and what is left of both can be paired off.
+unfoldable pub pairedOff : (Value → Value → Bool) → Values → Values → Bool
+unfolding picks any
+pairedOff eq empty empty = true
+pairedOff eq empty (w ▸ ws) = false
+pairedOff eq (v ▸ vs) ws = any (λ p. eq v (p .one) && pairedOff eq vs (p .others)) (picks ws)
+
+-- Equality under a matcher. (Under something nothing is compared: no tag 3 stands there.)
+unfoldable pub equal : Matcher → Value → Value → Bool
+unfolding same inOrder pairedOff
+equal something v w = false
+equal integer (int x) (int y) = same x y
+equal integer (int x) (collection ws) = false
+equal integer (collection vs) w = false
+equal (list m) (int x) w = false
+equal (list m) (collection vs) (int y) = false
+equal (list m) (collection vs) (collection ws) = inOrder (λ a b. equal m a b) vs ws
+equal (multiset m) (int x) w = false
+equal (multiset m) (collection vs) (int y) = false
+equal (multiset m) (collection vs) (collection ws) = pairedOff (λ a b. equal m a b) vs ws
+
+-- Tag 2: the constant integer c against v.
+unfoldable pub isConstant : ℤ → Value → Bool
+unfolding equal
+isConstant c v = equal integer (int c) v
+
+-- A value, plus c. (At a collection c is 0.)
+unfoldable pub raised : ℤ → Value → Value
+unfolding plus
+raised c (int x) = int (plus x c)
+raised c (collection vs) = collection vs
+
+-- Tag 3: the value of variable x, plus c, against v.
+unfoldable pub isValue : Matcher → Bindings → ℤ → ℤ → Value → Bool
+unfolding entry raised equal
+isValue m e x c v = elim (entry e x) [ none ↦ false | some w ↦ equal m (raised c w) v ]
+
+-- Tag 4: an empty collection.
+unfoldable pub isEmpty : Value → Bool
+isEmpty (int x) = false
+isEmpty (collection empty) = true
+isEmpty (collection (v ▸ vs)) = false

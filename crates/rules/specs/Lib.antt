@@ -1,0 +1,11 @@
+-- The rules of document 01 as definitions, to be read in this order.
+pub mod Numbers
+pub mod Forms
+pub mod Reading
+pub mod Variables
+pub mod Fit
+pub mod Equality
+pub mod Search
+pub mod Ways
+pub mod Review
+pub mod Services

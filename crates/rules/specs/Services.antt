@@ -1,0 +1,114 @@
+-- Document 01, sections 1 and 3: the two services as functions of their whole input, the answers and their order.
+use Prim.Native.Nat.{ℕ, _^_}
+use mathlib.Core.Bool.{true, false}
+use mathlib.Core.List.{List, [], _∷_, _++_}
+use lib.ListN.{length, drop}
+use lib.Dec.{leb, ltb}
+use lib.IntN.{ℤ, pos, negsuc}
+use Rattle.rules.specs.Forms.{Matcher, Pattern, Value}
+use Rattle.rules.specs.Reading.{Verdict, ok, fault, readMatcher, readPattern, readTarget}
+use Rattle.rules.specs.Variables.{variables}
+use Rattle.rules.specs.Fit.{fits, fitsValue}
+use Rattle.rules.specs.Search.{Run, run, start}
+use Rattle.rules.specs.Review.{formula}
+
+-- Accepted, with what was found; or refused, with the answer and the place.
+pub data Judged (A : Type 0) : Type 0 where
+  accepted : A → Judged A
+  refused : (answer place : ℕ) → Judged A
+
+-- One test: a fault is refused with the test's number, and nothing after it is looked at.
+unfoldable pub test : {A B : Type 0} → ℕ → Verdict A → (A → Judged B) → Judged B
+test number (ok x) next = next x
+test number (fault i) next = refused number i
+
+pub record Rule : Type 0 where
+  pub matcher : Matcher
+  pub pattern : Pattern
+
+-- 1 matcher, 2 pattern, 3 variable, 4 misfit: in that order, each over its whole slice.
+unfoldable pub ruleOf : (ms ps : List ℤ) → Judged Rule
+unfolding test readMatcher readPattern variables fits
+ruleOf ms ps =
+    test 1 (readMatcher ms) λ m.
+    test 2 (readPattern ps) λ p.
+    test 3 (variables p 0 0) λ _.
+    test 4 (fits p m 0 []) λ _.
+    accepted (record { matcher = m; pattern = p })
+
+-- 5 target, 6 unfit.
+unfoldable pub targetOf : Matcher → (ts : List ℤ) → Judged Value
+unfolding test readTarget fitsValue
+targetOf m ts =
+    test 5 (readTarget ts) λ v.
+    test 6 (fitsValue m v 0) λ _.
+    accepted v
+
+-- ---- Match: five numbers, and what the room holds after.
+
+pub record Matched : Type 0 where
+  pub answer : ℕ
+  pub place : ℕ
+  pub rows : ℕ
+  pub steps : ℕ
+  pub words : ℕ
+  pub room : List ℤ
+
+-- "Answers 1 to 6 have 0 rows, 0 steps, 0 words and the result room holds what it held."
+unfoldable pub turnedAway : (answer place : ℕ) → List ℤ → Matched
+turnedAway a i room = record { answer = a; place = i; rows = 0; steps = 0; words = 0; room = room }
+
+-- "In 0, 7 and 8 the rows counted stand whole from the start of the room, and each word after the words written is untouched."
+unfoldable pub carriedOut : Run → List ℤ → Matched
+carriedOut r room = record {
+  answer = r .answer;
+  place = 0;
+  rows = r .rows;
+  steps = r .steps;
+  words = length (r .written);
+  room = r .written ++ drop (length (r .written)) room;
+}
+
+unfoldable pub matchTarget : (budget : ℕ) (room : List ℤ) → Rule → Judged Value → Matched
+unfolding turnedAway carriedOut run start
+matchTarget budget room r (refused a i) = turnedAway a i room
+matchTarget budget room r (accepted v) = carriedOut (run budget (start (r .matcher) (r .pattern) v ∷ []) (length room)) room
+
+unfoldable pub matchRule : (budget : ℕ) (room : List ℤ) (ts : List ℤ) → Judged Rule → Matched
+unfolding turnedAway matchTarget targetOf
+matchRule budget room ts (refused a i) = turnedAway a i room
+matchRule budget room ts (accepted r) = matchTarget budget room r (targetOf (r .matcher) ts)
+
+unfoldable pub match : (ms ps ts : List ℤ) (budget : ℕ) (room : List ℤ) → Matched
+unfolding matchRule ruleOf
+match ms ps ts budget room = matchRule budget room ts (ruleOf ms ps)
+
+-- ---- Review: three numbers.
+
+pub record Reviewed : Type 0 where
+  pub answer : ℕ
+  pub place : ℕ
+  pub count : ℕ
+
+unfoldable pub declined : (answer place : ℕ) → Reviewed
+declined a i = record { answer = a; place = i; count = 0 }
+
+-- 10 too big: the formula passes 4,294,967,295.
+unfoldable pub counted : ℕ → Reviewed
+unfolding declined
+counted n = elim (ltb n (2 ^ 32)) [ true ↦ record { answer = 0; place = 0; count = n } | false ↦ declined 10 0 ]
+
+-- 9 cap: outside 0 to 64.
+unfoldable pub capped : ℤ → Rule → Reviewed
+unfolding declined counted formula
+capped (pos most) r = elim (leb most 64) [ true ↦ counted (formula most (r .pattern) (r .matcher)) | false ↦ declined 9 0 ]
+capped (negsuc n) r = declined 9 0
+
+unfoldable pub reviewRule : ℤ → Judged Rule → Reviewed
+unfolding declined capped
+reviewRule most (refused a i) = declined a i
+reviewRule most (accepted r) = capped most r
+
+unfoldable pub review : (ms ps : List ℤ) (most : ℤ) → Reviewed
+unfolding reviewRule ruleOf
+review ms ps most = reviewRule most (ruleOf ms ps)

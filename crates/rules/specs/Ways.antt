@@ -1,0 +1,94 @@
+-- Document 01, section 5: good ways, without the search. A way is followed down the pattern.
+use Prim.Native.Nat.{ℕ, zero, suc, _≤_, _<_}
+use mathlib.Core.Path.{_≡_}
+use mathlib.Core.Logic.{_⊎_}
+use mathlib.Core.Option.{Option, none, some}
+use mathlib.Core.List.{List, [], _∷_, _++_}
+use lib.Dec.{T}
+use Rattle.rules.specs.Forms.{Matcher, something, integer, list, multiset}
+use Rattle.rules.specs.Forms.{Pattern, wildcard, variable, constant, value, nil, cons, join}
+use Rattle.rules.specs.Forms.{Value, int, collection, Values, empty, _▸_, count}
+use Rattle.rules.specs.Fit.{element}
+use Rattle.rules.specs.Equality.{Bindings, isConstant, isValue, isEmpty}
+
+-- "A way names, for each cons under a multiset and each join in pattern order left to right, which of its states was chosen, counted in section
+-- 4's order." (Counted from 0.)
+abbrev pub Way : Type 0
+Way = List ℕ
+
+-- Dictionary order.
+infix 50 _≺_
+unfoldable pub _≺_ : Way → Way → Type 0
+[] ≺ [] = ⊥
+[] ≺ (b ∷ w) = Unit {0}
+(a ∷ u) ≺ [] = ⊥
+(a ∷ u) ≺ (b ∷ w) = (a < b) ⊎ ((a ≡ b) × (u ≺ w))
+
+-- The element at a place, and the elements without that place.
+unfoldable pub at : Values → ℕ → Option Value
+at empty k = none
+at (v ▸ vs) zero = some v
+at (v ▸ vs) (suc k) = at vs k
+
+unfoldable pub without : Values → ℕ → Values
+without empty k = empty
+without (v ▸ vs) zero = vs
+without (v ▸ vs) (suc k) = v ▸ without vs k
+
+-- The first k elements, and the others.
+unfoldable pub front : Values → ℕ → Values
+front vs zero = empty
+front empty (suc k) = empty
+front (v ▸ vs) (suc k) = v ▸ front vs k
+
+unfoldable pub back : Values → ℕ → Values
+back vs zero = vs
+back empty (suc k) = empty
+back (v ▸ vs) (suc k) = back vs k
+
+-- By the choices `here` (none under a list, one under a multiset) a cons under m takes a from v and leaves b.
+unfoldable pub ConsBy : Matcher → Value → (here : Way) → (a b : Value) → Type 0
+unfolding at without
+ConsBy something v here a b = ⊥
+ConsBy integer v here a b = ⊥
+ConsBy (list m) (int x) here a b = ⊥
+ConsBy (list m) (collection empty) here a b = ⊥
+ConsBy (list m) (collection (x ▸ xs)) here a b = (here ≡ []) × (a ≡ x) × (b ≡ collection xs)
+ConsBy (multiset m) (int x) here a b = ⊥
+ConsBy (multiset m) (collection vs) here a b = (k : ℕ) × (here ≡ k ∷ []) × (at vs k ≡ some a) × (b ≡ collection (without vs k))
+
+-- By the choice `here` a join cuts v into a front a and a back b.
+unfoldable pub JoinBy : Value → (here : Way) → (a b : Value) → Type 0
+unfolding count front back
+JoinBy (int x) here a b = ⊥
+JoinBy (collection vs) here a b = (k : ℕ) × (here ≡ k ∷ []) × (k ≤ count vs) × (a ≡ collection (front vs k)) × (b ≡ collection (back vs k))
+
+-- A cons or a join is followed from the bindings e to the bindings d by the way w: its own choice, then the first part's, then the second part's.
+pub record Both (By : Way → Value → Value → Type 0) (First Second : Value → Bindings → Way → Bindings → Type 0) (e : Bindings) (w : Way) (d : Bindings) : Type 0 where
+  pub here : Way
+  pub one : Way
+  pub two : Way
+  pub a : Value
+  pub b : Value
+  pub between : Bindings
+  pub divided : By here a b
+  pub first : First a e one between
+  pub second : Second b between two d
+  pub way : here ++ (one ++ two) ≡ w
+
+-- With exactly the choices w, p under m matches v from the bindings e, and d are the bindings then. "Every chosen state exists, every list cons has
+-- an element, every nil an empty collection, and tags 2 and 3 are equal."
+unfoldable pub Follows : Pattern → Matcher → Value → Bindings → Way → Bindings → Type 0
+unfolding ConsBy JoinBy isConstant isValue isEmpty element
+Follows wildcard m v e w d = (w ≡ []) × (d ≡ e)
+Follows (variable x) m v e w d = (w ≡ []) × (d ≡ e ++ (v ∷ []))
+Follows (constant c) m v e w d = T (isConstant c v) × (w ≡ []) × (d ≡ e)
+Follows (value x c) m v e w d = T (isValue m e x c v) × (w ≡ []) × (d ≡ e)
+Follows nil m v e w d = T (isEmpty v) × (w ≡ []) × (d ≡ e)
+Follows (cons p q) m v e w d = Both (ConsBy m v) (λ a x y z. Follows p (element m) a x y z) (λ b x y z. Follows q m b x y z) e w d
+Follows (join p q) m v e w d = Both (JoinBy v) (λ a x y z. Follows p m a x y z) (λ b x y z. Follows q m b x y z) e w d
+
+-- A way is good if with it the whole pattern matches the target; `e` are its bindings.
+unfoldable pub Good : Matcher → Pattern → Value → Way → Bindings → Type 0
+unfolding Follows
+Good m p v w e = Follows p m v [] w e
