@@ -14,22 +14,11 @@ use Rattle.rules.specs.Fit.{element}
 use Rattle.rules.specs.Equality.{Bindings, isConstant, isValue, isEmpty, Pick, picks, behind}
 use Rattle.rules.specs.Search.{Cut, cuts, longer, Halves, consHalves, joinHalves, isSomething, start, run}
 use Rattle.rules.specs.Review.{Weight, weight, leafSteps, consFactor, weights, total, formula}
+use Rattle.promises.specs.Written.{largest, largestOf}
 use Rattle.promises.specs.Lists.{Mem, length-flatMap-le}
 use Rattle.promises.specs.Solve.{Solution, Numbered, up, numbered, isMultiset, combine, just, whenSo, solve}
 use Rattle.promises.specs.Choices.{in-numbered}
 use Rattle.promises.specs.Trace.{Taken, passed, found, onlyIf, visit, visitAll, visitState, trace}
-
--- The most elements that a collection of a value has, nested ones too.
-unfoldable mutual
-  unfolding count
-
-  pub largest : Value → ℕ
-  largest (int x) = 0
-  largest (collection vs) = max (count vs) (largestOf vs)
-
-  pub largestOf : Values → ℕ
-  largestOf empty = 0
-  largestOf (v ▸ vs) = max (largest v) (largestOf vs)
 
 -- ---- The parts of a value are no larger, and there are no more of them than the factor says.
 

@@ -9,5 +9,11 @@ pub mod Order
 pub mod Listing
 pub mod Paired
 pub mod Pairing
+pub mod Written
+pub mod Readers
+pub mod ReadMatcher
+pub mod ReadPattern
+pub mod Depth
+pub mod ReadTarget
 pub mod Budget
 pub mod Bound
