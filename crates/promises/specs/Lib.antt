@@ -22,3 +22,4 @@ pub mod Bound
 pub mod Numbering
 pub mod Room
 pub mod Refusals
+pub mod Matching

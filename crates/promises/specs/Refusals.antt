@@ -166,7 +166,7 @@ out-answer : (n free : ℕ) (us : List Taken) (r : Run) → Outcome n free us r 
 unfolding report
 out-answer n free us r (done h f q) a b = let k = ap (λ (x : Run). x .answer) q in omega arith
 out-answer n free us r (spent h f q) a b = let k = ap (λ (x : Run). x .answer) q in omega arith
-out-answer n free us r (full vs e xs t h f g q) a b = let k = ap (λ (x : Run). x .answer) q in omega arith
+out-answer n free us r (full f q) a b = let k = ap (λ (x : Run). x .answer) q in omega arith
 
 run-answer : (n free : ℕ) (ss : List State) → 1 ≤ (run n ss free) .answer → (run n ss free) .answer ≤ 6 → ⊥
 run-answer n free ss = subst (λ (r : Run). 1 ≤ r .answer → r .answer ≤ 6 → ⊥) (sym (run-walks n ss free)) (out-answer n free (trace ss) _ (walk-outcome n (trace ss) free))
