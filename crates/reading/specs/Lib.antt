@@ -1,0 +1,3 @@
+-- What the tests answer, and the machine's view of each.
+pub mod Tests
+pub mod Matchers
