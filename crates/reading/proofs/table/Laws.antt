@@ -1,0 +1,63 @@
+-- The rows of the tag table, one by one. Assumes nothing.
+use mathlib.Core.Path.{_≡_, refl, sym, _∙_, ap}
+use mathlib.Core.Bool.{Bool, true, false}
+use mathlib.Core.Option.{Option, none, some}
+use mathlib.Core.List.{List, [], _∷_}
+use Prim.Native.Nat.{ℕ, zero, suc, _≤_, _<_}
+use native.Mathlib.Omega.{arith}
+use borrow.Author.Needs.{needs}
+use borrow.Author.Tests.{lt-ltb, le-ltb, lt-leb, ne-eqb}
+use lib.ListN.{getElem?, length}
+use Rattle.rules.specs.Forms.{Matcher, something, integer, list, multiset}
+use Rattle.rules.specs.Reading.{MatcherTag, bare, of, matcherTags, patternTags}
+use Rattle.rules.specs.Fit.{takes, among, tagsOf}
+use Rattle.reading.specs.Table.{rowOf, takenOf, takenIn, within, isTag, operandsIn, partsIn}
+use Rattle.reading.specs.declared.table.Row.{Row}
+use Rattle.reading.proofs.Known.{past}
+
+-- Two tests of a matcher's tag that agree on the four tags and on every other number.
+agree : (f g : ℕ → Bool) → f 0 ≡ g 0 → f 1 ≡ g 1 → f 2 ≡ g 2 → f 3 ≡ g 3 → ((m : ℕ) → 4 ≤ m → f m ≡ g m) → (m : ℕ) → f m ≡ g m
+agree f g a b c d e zero = a
+agree f g a b c d e (suc zero) = b
+agree f g a b c d e (suc (suc zero)) = c
+agree f g a b c d e (suc (suc (suc zero))) = d
+agree f g a b c d e (suc (suc (suc (suc m)))) = e (suc (suc (suc (suc m)))) (omega arith)
+
+none-above : (low high m t : ℕ) → low ≤ 3 → high ≤ 3 → 4 ≤ m → within low m high ≡ takenOf m t
+unfolding within takenOf takenIn matcherTags
+none-above low high m t l h g = rw (le-ltb m low (omega arith), lt-leb m high (omega arith), past (matcherTags 4) m g)
+
+-- A row of the table, whose matcher tags are those from low to high.
+pub row-is : (m : ℕ) (b : Bool) (t low high : ℕ) → low ≤ 3 → high ≤ 3
+    → within low 0 high ≡ takenOf 0 t → within low 1 high ≡ takenOf 1 t → within low 2 high ≡ takenOf 2 t → within low 3 high ≡ takenOf 3 t
+    → b ≡ within low m high
+    → record { known = isTag (getElem? patternTags t); operands = operandsIn (getElem? patternTags t); parts = partsIn (getElem? patternTags t); taken = b } ≡ rowOf m t
+unfolding rowOf
+row-is m b t low high l h p q r s e = rw (e ∙ agree (λ k. within low k high) (λ k. takenOf k t) p q r s (λ k. none-above low high k t l h) m)
+
+-- The numbers that are no tag.
+low : List ℕ → Type 0
+low [] = Unit {0}
+low (n ∷ ns) = (n < 7) × low ns
+
+not-among : (t : ℕ) (ns : List ℕ) → low ns → 7 ≤ t → false ≡ among t ns
+unfolding among low
+not-among t [] l h = refl
+not-among t (n ∷ ns) l h = rw (ne-eqb t n (λ e. omega arith)) (not-among t ns (l .1) h)
+
+low-tags : (m : Matcher) → low (tagsOf m)
+unfolding tagsOf low
+low-tags something = (omega arith, (omega arith, tt))
+low-tags integer = (omega arith, (omega arith, (omega arith, (omega arith, tt))))
+low-tags (list m) = (omega arith, (omega arith, (omega arith, (omega arith, (omega arith, (omega arith, tt))))))
+low-tags (multiset m) = (omega arith, (omega arith, (omega arith, (omega arith, (omega arith, tt)))))
+
+untaken : (t : ℕ) → 7 ≤ t → (o : Option MatcherTag) → false ≡ takenIn o t
+unfolding takenIn takes
+untaken t h none = refl
+untaken t h (some (bare m)) = not-among t (tagsOf m) (low-tags m) h
+untaken t h (some (of f)) = not-among t (tagsOf (f something)) (low-tags (f something)) h
+
+pub row-none : (m t : ℕ) → 7 ≤ t → record { known = false; operands = 0; parts = 0; taken = false } ≡ rowOf m t
+unfolding rowOf isTag operandsIn partsIn patternTags takenOf
+row-none m t h = rw (past patternTags t h, ← untaken t h (getElem? (matcherTags 4) m))
