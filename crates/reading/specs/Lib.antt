@@ -1,3 +1,4 @@
 -- What the tests answer, and the machine's view of each.
 pub mod Tests
 pub mod Matchers
+pub mod Table

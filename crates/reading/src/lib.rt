@@ -1,5 +1,7 @@
 // The tests 1 to 6 of document 01 on slices of words, one module a test.
 pub mod matcher;
+pub mod table;
+
 ghost use mathlib.Core.Path.{_≡_};
 ghost use Rattle.reading.specs.Tests.{restAt};
 

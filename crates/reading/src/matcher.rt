@@ -1,6 +1,6 @@
 // Test 1: the words are one whole matcher.
-use super::rest;
 use super::Tested;
+use super::rest;
 use words::tag_at;
 ghost use mathlib.Core.Path.{_≡_};
 ghost use Rattle.rules.specs.Reading.{readMatcher};

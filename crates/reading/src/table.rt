@@ -21,13 +21,53 @@ pub fn row_of(m: u32, t: u32) -> Row
     ensures { λ r. ⌜ r ≡ rowOf m t ⌝ }
 {
     match t {
-        0 => Row { known: true, operands: 0, parts: 0, taken: between(0, m, 3) },
-        1 => Row { known: true, operands: 1, parts: 0, taken: between(0, m, 3) },
-        2 => Row { known: true, operands: 1, parts: 0, taken: between(1, m, 1) },
-        3 => Row { known: true, operands: 2, parts: 0, taken: between(1, m, 3) },
-        4 => Row { known: true, operands: 0, parts: 0, taken: between(2, m, 3) },
-        5 => Row { known: true, operands: 0, parts: 2, taken: between(2, m, 3) },
-        6 => Row { known: true, operands: 0, parts: 2, taken: between(2, m, 2) },
-        7..=4294967295 => Row { known: false, operands: 0, parts: 0, taken: false },
+        0 => Row {
+            known: true,
+            operands: 0,
+            parts: 0,
+            taken: between(0, m, 3),
+        },
+        1 => Row {
+            known: true,
+            operands: 1,
+            parts: 0,
+            taken: between(0, m, 3),
+        },
+        2 => Row {
+            known: true,
+            operands: 1,
+            parts: 0,
+            taken: between(1, m, 1),
+        },
+        3 => Row {
+            known: true,
+            operands: 2,
+            parts: 0,
+            taken: between(1, m, 3),
+        },
+        4 => Row {
+            known: true,
+            operands: 0,
+            parts: 0,
+            taken: between(2, m, 3),
+        },
+        5 => Row {
+            known: true,
+            operands: 0,
+            parts: 2,
+            taken: between(2, m, 3),
+        },
+        6 => Row {
+            known: true,
+            operands: 0,
+            parts: 2,
+            taken: between(2, m, 2),
+        },
+        7..=4294967295 => Row {
+            known: false,
+            operands: 0,
+            parts: 0,
+            taken: false,
+        },
     }
 }

@@ -61,3 +61,13 @@ untaken t h (some (of f)) = not-among t (tagsOf (f something)) (low-tags (f some
 pub row-none : (m t : ℕ) → 7 ≤ t → record { known = false; operands = 0; parts = 0; taken = false } ≡ rowOf m t
 unfolding rowOf isTag operandsIn partsIn patternTags takenOf
 row-none m t h = rw (past patternTags t h, ← untaken t h (getElem? (matcherTags 4) m))
+
+-- A number that is none of the seven tags.
+pub above : (t : ℕ) → (t ≡ 0 → ⊥) → (t ≡ 1 → ⊥) → (t ≡ 2 → ⊥) → (t ≡ 3 → ⊥) → (t ≡ 4 → ⊥) → (t ≡ 5 → ⊥) → (t ≡ 6 → ⊥) → 7 ≤ t
+above t a b c d e f g = let h : 3 ≤ t = three t a b c in more t h d e f g
+  where
+    three : (n : ℕ) → (n ≡ 0 → ⊥) → (n ≡ 1 → ⊥) → (n ≡ 2 → ⊥) → 3 ≤ n
+    three n a b c = omega arith
+
+    more : (n : ℕ) → 3 ≤ n → (n ≡ 3 → ⊥) → (n ≡ 4 → ⊥) → (n ≡ 5 → ⊥) → (n ≡ 6 → ⊥) → 7 ≤ n
+    more n h d e f g = omega arith

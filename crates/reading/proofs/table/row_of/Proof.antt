@@ -4,7 +4,7 @@ use native.Mathlib.Omega.{arith}
 use borrow.Author.Needs.{needs}
 use Rattle.rules.specs.Reading.{patternTags}
 use Rattle.reading.specs.Table.{isTag, operandsIn, partsIn, within, takenOf}
-use Rattle.reading.proofs.table.Laws.{row-is, row-none}
+use Rattle.reading.proofs.table.Laws.{row-is, row-none, above}
 use Rattle.reading.proofs.table.row_of.Statement.{statement}
 use Rattle.reading.proofs.table.row_of.Tie as tie
 
@@ -25,4 +25,4 @@ row-of-spec = tie.close (tie.spec
     (λ c. rw (c .before .match .keys5) (row-is _ _ 4 2 3 (omega arith) (omega arith) refl refl refl refl (c .between5 .ensures)))
     (λ c. rw (c .before .match .keys6) (row-is _ _ 5 2 3 (omega arith) (omega arith) refl refl refl refl (c .between6 .ensures)))
     (λ c. rw (c .before .match .keys7) (row-is _ _ 6 2 2 (omega arith) (omega arith) refl refl refl refl (c .between7 .ensures)))
-    (λ c. row-none _ _ (omega arith)))
+    (λ c. let r = c .match .rest in row-none _ _ (above _ (r .0 .0 .0 .0 .0 .0 .1) (r .0 .0 .0 .0 .0 .1) (r .0 .0 .0 .0 .1) (r .0 .0 .0 .1) (r .0 .0 .1) (r .0 .1) (r .1))))
