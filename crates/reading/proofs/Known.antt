@@ -20,7 +20,7 @@ past [] i h = refl
 past (a ∷ table) zero h = absurd (omega arith)
 past (a ∷ table) (suc i) h = past table i (omega arith)
 
-entry-tag : {A : Type 0} (table : List A) (w : ℤ) → length table ≤ 2147483648 → entry table w ≡ getElem? table (tagZ w)
+pub entry-tag : {A : Type 0} (table : List A) (w : ℤ) → length table ≤ 2147483648 → entry table w ≡ getElem? table (tagZ w)
 unfolding entry
 entry-tag table (pos n) h = refl
 entry-tag table (negsuc n) h = sym (past table 2147483648 h)

@@ -2,3 +2,4 @@
 pub mod Tests
 pub mod Matchers
 pub mod Table
+pub mod Patterns

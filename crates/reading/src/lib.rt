@@ -1,5 +1,6 @@
 // The tests 1 to 6 of document 01 on slices of words, one module a test.
 pub mod matcher;
+pub mod pattern;
 pub mod table;
 
 ghost use mathlib.Core.Path.{_≡_};

@@ -2,13 +2,10 @@
 ghost use mathlib.Core.Path.{_≡_};
 ghost use Rattle.reading.specs.Table.{rowOf, within};
 
-// A pattern's tag under a matcher's tag: whether there is such a tag, how many operands and then how many parts follow it, and whether the matcher
-// takes it.
-pub struct Row {
-    pub known: bool,
-    pub operands: u32,
-    pub parts: u32,
-    pub taken: bool,
+// A pattern's tag under a matcher's tag: no such tag; or how many operands and then how many parts follow it, and whether the matcher takes it.
+pub enum Row {
+    Unknown,
+    Known(u32, u32, bool),
 }
 
 fn between(low: u32, m: u32, high: u32) -> bool
@@ -21,53 +18,13 @@ pub fn row_of(m: u32, t: u32) -> Row
     ensures { λ r. ⌜ r ≡ rowOf m t ⌝ }
 {
     match t {
-        0 => Row {
-            known: true,
-            operands: 0,
-            parts: 0,
-            taken: between(0, m, 3),
-        },
-        1 => Row {
-            known: true,
-            operands: 1,
-            parts: 0,
-            taken: between(0, m, 3),
-        },
-        2 => Row {
-            known: true,
-            operands: 1,
-            parts: 0,
-            taken: between(1, m, 1),
-        },
-        3 => Row {
-            known: true,
-            operands: 2,
-            parts: 0,
-            taken: between(1, m, 3),
-        },
-        4 => Row {
-            known: true,
-            operands: 0,
-            parts: 0,
-            taken: between(2, m, 3),
-        },
-        5 => Row {
-            known: true,
-            operands: 0,
-            parts: 2,
-            taken: between(2, m, 3),
-        },
-        6 => Row {
-            known: true,
-            operands: 0,
-            parts: 2,
-            taken: between(2, m, 2),
-        },
-        7..=4294967295 => Row {
-            known: false,
-            operands: 0,
-            parts: 0,
-            taken: false,
-        },
+        0 => Row::Known(0, 0, between(0, m, 3)),
+        1 => Row::Known(1, 0, between(0, m, 3)),
+        2 => Row::Known(1, 0, between(1, m, 1)),
+        3 => Row::Known(2, 0, between(1, m, 3)),
+        4 => Row::Known(0, 0, between(2, m, 3)),
+        5 => Row::Known(0, 2, between(2, m, 3)),
+        6 => Row::Known(0, 2, between(2, m, 2)),
+        7..=4294967295 => Row::Unknown,
     }
 }

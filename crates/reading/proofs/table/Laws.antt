@@ -2,17 +2,15 @@
 use mathlib.Core.Path.{_≡_, refl, sym, _∙_, ap}
 use mathlib.Core.Bool.{Bool, true, false}
 use mathlib.Core.Option.{Option, none, some}
-use mathlib.Core.List.{List, [], _∷_}
 use Prim.Native.Nat.{ℕ, zero, suc, _≤_, _<_}
 use native.Mathlib.Omega.{arith}
 use borrow.Author.Needs.{needs}
-use borrow.Author.Tests.{lt-ltb, le-ltb, lt-leb, ne-eqb}
+use borrow.Author.Tests.{lt-ltb, le-ltb, lt-leb}
 use lib.ListN.{getElem?, length}
-use Rattle.rules.specs.Forms.{Matcher, something, integer, list, multiset}
-use Rattle.rules.specs.Reading.{MatcherTag, bare, of, matcherTags, patternTags}
-use Rattle.rules.specs.Fit.{takes, among, tagsOf}
-use Rattle.reading.specs.Table.{rowOf, takenOf, takenIn, within, isTag, operandsIn, partsIn}
+use Rattle.rules.specs.Reading.{PatternTag, matcherTags, patternTags}
+use Rattle.reading.specs.Table.{rowOf, takenOf, takenIn, within, operandsIn, partsIn, rowIn}
 use Rattle.reading.specs.declared.table.Row.{Row}
+use Rattle.reading.specs.declared.table.Row.the-variants.{Unknown, Known}
 use Rattle.reading.proofs.Known.{past}
 
 -- Two tests of a matcher's tag that agree on the four tags and on every other number.
@@ -31,36 +29,14 @@ none-above low high m t l h g = rw (le-ltb m low (omega arith), lt-leb m high (o
 pub row-is : (m : ℕ) (b : Bool) (t low high : ℕ) → low ≤ 3 → high ≤ 3
     → within low 0 high ≡ takenOf 0 t → within low 1 high ≡ takenOf 1 t → within low 2 high ≡ takenOf 2 t → within low 3 high ≡ takenOf 3 t
     → b ≡ within low m high
-    → record { known = isTag (getElem? patternTags t); operands = operandsIn (getElem? patternTags t); parts = partsIn (getElem? patternTags t); taken = b } ≡ rowOf m t
+    → rowIn (getElem? patternTags t) b ≡ rowOf m t
 unfolding rowOf
 row-is m b t low high l h p q r s e = rw (e ∙ agree (λ k. within low k high) (λ k. takenOf k t) p q r s (λ k. none-above low high k t l h) m)
 
 -- The numbers that are no tag.
-low : List ℕ → Type 0
-low [] = Unit {0}
-low (n ∷ ns) = (n < 7) × low ns
-
-not-among : (t : ℕ) (ns : List ℕ) → low ns → 7 ≤ t → false ≡ among t ns
-unfolding among low
-not-among t [] l h = refl
-not-among t (n ∷ ns) l h = rw (ne-eqb t n (λ e. omega arith)) (not-among t ns (l .1) h)
-
-low-tags : (m : Matcher) → low (tagsOf m)
-unfolding tagsOf low
-low-tags something = (omega arith, (omega arith, tt))
-low-tags integer = (omega arith, (omega arith, (omega arith, (omega arith, tt))))
-low-tags (list m) = (omega arith, (omega arith, (omega arith, (omega arith, (omega arith, (omega arith, tt))))))
-low-tags (multiset m) = (omega arith, (omega arith, (omega arith, (omega arith, (omega arith, tt)))))
-
-untaken : (t : ℕ) → 7 ≤ t → (o : Option MatcherTag) → false ≡ takenIn o t
-unfolding takenIn takes
-untaken t h none = refl
-untaken t h (some (bare m)) = not-among t (tagsOf m) (low-tags m) h
-untaken t h (some (of f)) = not-among t (tagsOf (f something)) (low-tags (f something)) h
-
-pub row-none : (m t : ℕ) → 7 ≤ t → record { known = false; operands = 0; parts = 0; taken = false } ≡ rowOf m t
-unfolding rowOf isTag operandsIn partsIn patternTags takenOf
-row-none m t h = rw (past patternTags t h, ← untaken t h (getElem? (matcherTags 4) m))
+pub row-none : (m t : ℕ) → 7 ≤ t → Unknown ≡ rowOf m t
+unfolding rowOf rowIn patternTags
+row-none m t h = rw (past patternTags t h)
 
 -- A number that is none of the seven tags.
 pub above : (t : ℕ) → (t ≡ 0 → ⊥) → (t ≡ 1 → ⊥) → (t ≡ 2 → ⊥) → (t ≡ 3 → ⊥) → (t ≡ 4 → ⊥) → (t ≡ 5 → ⊥) → (t ≡ 6 → ⊥) → 7 ≤ t
@@ -71,3 +47,27 @@ above t a b c d e f g = let h : 3 ≤ t = three t a b c in more t h d e f g
 
     more : (n : ℕ) → 3 ≤ n → (n ≡ 3 → ⊥) → (n ≡ 4 → ⊥) → (n ≡ 5 → ⊥) → (n ≡ 6 → ⊥) → 7 ≤ n
     more n h d e f g = omega arith
+
+-- What a row says of its tag.
+pub record Means (m t o p : ℕ) (b : Bool) : Type 0 where
+  pub tag : PatternTag
+  pub entry : getElem? patternTags t ≡ some tag
+  pub operands : operandsIn tag ≡ o
+  pub parts : partsIn tag ≡ p
+  pub taken : takenOf m t ≡ b
+
+pub means : (m t o p : ℕ) (b : Bool) → Known o p b ≡ rowOf m t → Means m t o p b
+unfolding rowOf
+means m t o p b = go (getElem? patternTags t) refl
+  where
+    go : (x : Option PatternTag) → getElem? patternTags t ≡ x → Known o p b ≡ rowIn x (takenOf m t) → Means m t o p b
+    go none q e = let z : _≡_ {A = ℕ} 0 1 = cc in absurd (omega arith)
+    go (some x) q e = record { tag = x; entry = q; operands = cc; parts = cc; taken = cc }
+
+pub meaningless : (m t : ℕ) → Unknown ≡ rowOf m t → getElem? patternTags t ≡ none
+unfolding rowOf
+meaningless m t = go (getElem? patternTags t)
+  where
+    go : (x : Option PatternTag) → Unknown ≡ rowIn x (takenOf m t) → x ≡ none
+    go none e = refl
+    go (some x) e = let z : _≡_ {A = ℕ} 0 1 = cc in absurd (omega arith)

@@ -3,13 +3,13 @@ use mathlib.Core.Path.{refl}
 use native.Mathlib.Omega.{arith}
 use borrow.Author.Needs.{needs}
 use Rattle.rules.specs.Reading.{patternTags}
-use Rattle.reading.specs.Table.{isTag, operandsIn, partsIn, within, takenOf}
+use Rattle.reading.specs.Table.{rowIn, within, takenOf}
 use Rattle.reading.proofs.table.Laws.{row-is, row-none, above}
 use Rattle.reading.proofs.table.row_of.Statement.{statement}
 use Rattle.reading.proofs.table.row_of.Tie as tie
 
 pub row-of-spec : {M : Type 1} → statement M
-unfolding patternTags isTag operandsIn partsIn within takenOf
+unfolding patternTags rowIn within takenOf
 row-of-spec = tie.close (tie.spec
     (λ c κs. search needs)
     (λ c κs. search needs)
