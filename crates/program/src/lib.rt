@@ -1,0 +1,1 @@
+// The program of a rule. Its definitions are in specs/.
