@@ -1,0 +1,2 @@
+// The services of document 01.
+pub mod tally;
