@@ -3,3 +3,6 @@ pub mod Points
 pub mod Program
 pub mod Length
 pub mod Lines
+pub mod Meaning
+pub mod Numbered
+pub mod Compiled
