@@ -92,7 +92,7 @@ module _ (m p : List ℤ) (i : ℕ) (ts : List Waiting) (pc at t k o : ℕ) (h :
 
   turn-leaf : o ≤ 7 → linesFrom m 0 i ts pc (drop at p)
       ≡ stripLines k o i ++ (leafLine o i (slotOf ts) (drop (suc at) p)
-        ∷ resumed ts (λ j us. linesFrom m (operandsOf o) j us (suc (pc + length (stripLines k o i))) (drop (suc at) p)))
+      ∷ resumed ts (λ j us. linesFrom m (operandsOf o) j us (suc (pc + length (stripLines k o i))) (drop (suc at) p)))
   turn-leaf l = ap (linesFrom m 0 i ts pc) (drop-cons p at (negsuc 0) h) ∙ lines-leaf m i _ k o g x' (le-ltb 7 o l) ts pc (drop (suc at) p)
 
 -- ---- What holds at the loop's head.

@@ -57,7 +57,7 @@ past-all ms ops [] pc ws = refl
 past-all ms ops (waits i c ∷ us) pc ws = past ms ops i us pc ws
 
 module _ (ms : List ℤ) (i : ℕ) (us : List Waiting) (pc : ℕ) (w : ℤ) (ops ws : List ℤ) (k o : ℕ) (g : k ≡ tagAt ms i) (x : o ≡ opOf (tagZ w) k)
-  (l : ltb 7 o ≡ false) (n : operandsOf o ≡ length ops) where
+    (l : ltb 7 o ≡ false) (n : operandsOf o ≡ length ops) where
   leaf-lines : linesFrom ms 0 i us pc (w ∷ (ops ++ ws))
       ≡ stripLines k o i ++ (leafLine o i (slotOf us) (ops ++ ws) ∷ later ms us (suc (pc + length (stripLines k o i))) ws)
   leaf-lines = lines-leaf ms i w k o g x l us pc (ops ++ ws) ∙ rw (n, past-all ms ops us (suc (pc + length (stripLines k o i))) ws)
@@ -158,12 +158,12 @@ module _ {ms : List ℤ} {vars pc : ℕ} where
   unfolding patternWords variablesIn binding opOf operandsOf isSomething
   strip-goes {ks = ks} {m} {ts} loose-wildcard h (at-tag {ls = ls} i us a ps e v) =
       let r : ls ≡ line 1 0 0 i (pos 0) ∷ leafLine 2 i (slotOf us) (itemWords ts) ∷ later ms us (suc (suc pc)) (itemWords ts)
-        = e ∙ stripped-lines ms i us pc (pos 0) [] (itemWords ts) (tagOf m) 2 (matcher-tag m a) refl refl refl (loose-strip m 2 i h refl) in
+      = e ∙ stripped-lines ms i us pc (pos 0) [] (itemWords ts) (tagOf m) 2 (matcher-tag m a) refl refl refl (loose-strip m 2 i h refl) in
       let u = ap variablesIn r in
       record { first = _; others = _; lines = r; means = means-strip refl; stands = at-wildcard {ks = ks} i us ps refl (omega arith) }
   strip-goes {ks = ks} {m} {ts} (loose-variable {x}) h (at-tag {ls = ls} i us a ps e v) =
       let r : ls ≡ line 1 0 0 i (pos 0) ∷ leafLine 3 i (slotOf us) (x ∷ itemWords ts) ∷ later ms us (suc (suc pc)) (itemWords ts)
-        = e ∙ stripped-lines ms i us pc (pos 1) (x ∷ []) (itemWords ts) (tagOf m) 3 (matcher-tag m a) refl refl refl (loose-strip m 3 i h refl) in
+      = e ∙ stripped-lines ms i us pc (pos 1) (x ∷ []) (itemWords ts) (tagOf m) 3 (matcher-tag m a) refl refl refl (loose-strip m 3 i h refl) in
       let u = ap variablesIn r in
       record { first = _; others = _; lines = r; means = means-strip refl; stands = at-variable {ks = ks} {x = x} i us ps refl (omega arith) }
   strip-goes loose-wildcard h (at-wildcard i us ps e v) = never h
@@ -183,10 +183,10 @@ module _ {ms : List ℤ} {vars pc : ℕ} where
   bind-goes {ks} {x} {m} {ts} (numbered {k = k} at l h w) (at-tag i us a ps e v) =
       let r = e ∙ plain-lines ms i us pc (pos 1) (x ∷ []) (itemWords ts) 0 3 (matcher-tag something a) refl refl refl (bare-strip 3 i) in
       leaf-goes ks (ks ++ (m ∷ [])) 3 i (x ∷ itemWords ts) ps r v (length-append ks (m ∷ []))
-        (let c = number-is x at (length ks) k h in rw (slot-from ps) (bind-means i (slotOf us) (length ks) x (itemWords ts) (c .0) (c .1)))
+      (let c = number-is x at (length ks) k h in rw (slot-from ps) (bind-means i (slotOf us) (length ks) x (itemWords ts) (c .0) (c .1)))
   bind-goes {ks} {x} {m} {ts} (numbered {k = k} at l h w) (at-variable i us ps e v) =
       leaf-goes ks (ks ++ (m ∷ [])) 3 i (x ∷ itemWords ts) ps e v (length-append ks (m ∷ []))
-        (let c = number-is x at (length ks) k h in rw (slot-from ps) (bind-means i (slotOf us) (length ks) x (itemWords ts) (c .0) (c .1)))
+      (let c = number-is x at (length ks) k h in rw (slot-from ps) (bind-means i (slotOf us) (length ks) x (itemWords ts) (c .0) (c .1)))
 
   constant-goes : {ks : List Matcher} {c : ℤ} {ts : List Item} {ls : List Line}
       → Stands ms vars pc ls (point ks (constant c) integer integer ts) → Goes ms vars pc ls (test (asConstant c) (from ts)) (enter ks ts)

@@ -6,3 +6,6 @@ pub mod Lines
 pub mod Meaning
 pub mod Numbered
 pub mod Compiled
+pub mod Accepted
+pub mod Bounds
+pub mod Columns

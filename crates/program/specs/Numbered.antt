@@ -27,12 +27,12 @@ pub data Waits : ℕ → List Item → Type 0 where
 pub data Numbered : Point → Type 0 where
   numbered : {ms : List Matcher} {p : Pattern} {m b : Matcher} {ts : List Item} {k : ℕ} (at : ℕ)
       → length ms ≤ 16 → variables p at (length ms) ≡ ok k → Waits k ts → Numbered (point ms p m b ts)
-  numbered-end : {ms : List Matcher} → Numbered (finish ms)
+  numbered-end : {ms : List Matcher} → length ms ≤ 16 → Numbered (finish ms)
   numbered-beyond : Numbered beyond
 
 enters : (ms : List Matcher) {n : ℕ} {ts : List Item} → length ms ≤ 16 → length ms ≡ n → Waits n ts → Numbered (enter ms ts)
 unfolding enter
-enters ms l e waits-none = numbered-end
+enters ms l e waits-none = numbered-end l
 enters ms l e (waits {k = k} {p = p} at h w) = let g : variables p at (length ms) ≡ ok k = rw e h in numbered {ms = ms} {p = p} at l g w
 
 -- A tag without parts: what is found is the number of variables to the left of what follows.
@@ -76,8 +76,8 @@ numbered-at m p at k h (suc pc) = go (pointAt m p pc) (numbered-at m p at k h pc
   where
     go : (P : Point) → Numbered P → Numbered (followOf pc P)
     go (point ms q j b ts) (numbered i l e w) = next pc q ms j b ts i l e w
-    go (finish ms) n = numbered-beyond
-    go beyond n = numbered-beyond
+    go (finish ms) (numbered-end l) = numbered-beyond
+    go beyond numbered-beyond = numbered-beyond
 
 -- What a variable's number is, and which one tag 3 names.
 pub number-is : (x : ℤ) (at n k : ℕ) → variables (variable x) at n ≡ ok k → (x ≡ pos n) × (n < 16)
