@@ -22,4 +22,6 @@ pub mod Bound
 pub mod Numbering
 pub mod Room
 pub mod Refusals
+pub mod Reviewing
 pub mod Matching
+pub mod Main

@@ -70,3 +70,7 @@ matcher-read ms m = (
   whole-sound (matcher 4) matcherWords (λ k. levels k ≤ 4) (matcher-sound 4) ms m,
   λ h. ap (whole (matcher 4)) (h .0) ∙ whole-complete (matcher 4) matcherWords (λ k. levels k ≤ 4) (matcher-complete 4) m (h .1),
 )
+
+-- No words are two matchers'.
+pub matcher-once : (m k : Matcher) → levels m ≤ 4 → levels k ≤ 4 → matcherWords m ≡ matcherWords k → m ≡ k
+matcher-once m k a b e = cc (matcher-read (matcherWords m) m .1 (refl, a), matcher-read (matcherWords m) k .1 (e, b))

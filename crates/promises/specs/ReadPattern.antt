@@ -115,3 +115,7 @@ pattern-read ps p = (
         ∙ whole-complete (pattern 256) patternWords (λ q. length (patternWords q) ≤ 256) (λ q. pattern-complete q 256) p (subst (λ (l : List ℤ). length l ≤ 256) (h .0) (h .1)),
   ),
 )
+
+-- No words are two patterns'.
+pub pattern-once : (p q : Pattern) → length (patternWords p) ≤ 256 → patternWords p ≡ patternWords q → p ≡ q
+pattern-once p q a e = cc (pattern-read (patternWords p) p .1 (refl, a), pattern-read (patternWords p) q .1 (e, a))

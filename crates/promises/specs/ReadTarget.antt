@@ -142,3 +142,7 @@ target-read ts v = (
       (s .0, l .0, s .1 .1, s .1 .0),
   λ h. limited-ok 1024 (whole (target 8)) ts v .1 (h .1, ap (whole (target 8)) (h .0) ∙ whole-complete (target 8) words (Within 8) (λ w. target-complete w 8) v (h .3, h .2)),
 )
+
+-- No words are two values'.
+pub target-once : (v w : Value) → length (words v) ≤ 1024 → (largest v ≤ 64) × (deepest v ≤ 8) → (largest w ≤ 64) × (deepest w ≤ 8) → words v ≡ words w → v ≡ w
+target-once v w l a b e = cc (target-read (words v) v .1 (refl, l, a .0, a .1), target-read (words v) w .1 (e, l, b .0, b .1))

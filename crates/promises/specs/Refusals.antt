@@ -113,6 +113,12 @@ pub record Sane (ms ps ts : List ℤ) (r : Rule) (v : Value) : Type 0 where
   pub rule : WellFormed ms ps r
   pub target : Fitting (r .matcher) ts v
 
+pub sane-exactly : (ms ps ts : List ℤ) (r : Rule) (v : Value) → (ruleOf ms ps ≡ accepted r) × (targetOf (r .matcher) ts ≡ accepted v) ↔ Sane ms ps ts r v
+sane-exactly ms ps ts r v = (
+  λ h. record { rule = rule-accepted ms ps r .0 (h .0); target = target-accepted (r .matcher) ts v .0 (h .1) },
+  λ s. (rule-accepted ms ps r .1 (s .rule), target-accepted (r .matcher) ts v .1 (s .target)),
+)
+
 -- What match gives, by the first fault or by the run.
 pub data Judgement (ms ps ts : List ℤ) (budget : ℕ) (room : List ℤ) (x : Matched) : Type 0 where
   turned : (a i : ℕ) → Fault ms ps ts a i → x ≡ turnedAway a i room → Judgement ms ps ts budget room x
@@ -148,7 +154,7 @@ module _ (ms ps ts : List ℤ) (budget : ℕ) (room : List ℤ) where
 
 -- ---- And not both: a fault has an answer from 1 to 6, a run has not.
 
-rule-range : {ms ps : List ℤ} {a i : ℕ} → RuleFault ms ps a i → (1 ≤ a) × (a ≤ 6)
+pub rule-range : {ms ps : List ℤ} {a i : ℕ} → RuleFault ms ps a i → (1 ≤ a) × (a ≤ 4)
 rule-range (notMatcher e) = omega arith
 rule-range (notPattern x e) = omega arith
 rule-range (misnumbered x y e) = omega arith
@@ -159,7 +165,7 @@ target-range (notTarget e) = omega arith
 target-range (unfit x e) = omega arith
 
 fault-range : {ms ps ts : List ℤ} {a i : ℕ} → Fault ms ps ts a i → (1 ≤ a) × (a ≤ 6)
-fault-range (ofRule f) = rule-range f
+fault-range (ofRule f) = let h = rule-range f in omega arith
 fault-range (ofTarget r w f) = target-range f
 
 out-answer : (n free : ℕ) (us : List Taken) (r : Run) → Outcome n free us r → 1 ≤ r .answer → r .answer ≤ 6 → ⊥
