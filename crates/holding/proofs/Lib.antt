@@ -1,0 +1,3 @@
+pub mod Forest
+pub mod Elements
+pub mod Tables

@@ -1,0 +1,5 @@
+-- The program of a rule, to be read in this order.
+pub mod Points
+pub mod Program
+pub mod Length
+pub mod Lines
