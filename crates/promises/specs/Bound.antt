@@ -1,25 +1,23 @@
 -- Review's count bounds the steps, and the product of the factors bounds the rows, where no collection has more elements than the cap.
-use Prim.Native.Nat.{ℕ, zero, suc, _+_, _*_, _≤_, _<_, max}
+use Prim.Native.Nat.{ℕ, suc, _+_, _*_, _≤_}
 use native.Mathlib.Omega.{arith}
-use native.Mathlib.Nat.{le-refl, le-trans, mul-le-mul-right, mul-le-mul, mul-le-mul-left, mul-one, mul-assoc}
-use mathlib.Core.Path.{_≡_, refl, sym, ap, _∙_, subst}
-use mathlib.Core.Logic.{⊎-elim}
+use native.Mathlib.Nat.{le-trans, mul-le-mul-right, mul-one, mul-assoc}
+use mathlib.Core.Path.{_≡_, refl, sym, ap, _∙_}
 use mathlib.Core.Bool.{Bool, true, false, cond}
-use mathlib.Core.List.{List, [], _∷_, _++_, map, flatMap, append-nil, append-assoc, List·Memᴰ·head, List·Memᴰ·tail, List·Memᴰ·not-nil, List·Memᴰ·cases-cons, List·Memᴰ·eq-of-singleton, Memᴰ·of-map}
-use lib.ListN.{length, length-append, length-map}
-use lib.IntN.{ℤ, pos, negsuc}
+use mathlib.Core.List.{List, [], _∷_, _++_, flatMap, append-nil, append-assoc}
+use lib.ListN.{length, length-map}
 use Rattle.rules.specs.Forms.{Matcher, something, integer, list, multiset, Pattern, wildcard, nil, variable, constant, value, cons, join}
 use Rattle.rules.specs.Forms.{Value, int, collection, Values, empty, _▸_, count}
 use Rattle.rules.specs.Fit.{element}
-use Rattle.rules.specs.Equality.{Bindings, isConstant, isValue, isEmpty, Pick, picks, behind}
-use Rattle.rules.specs.Search.{Cut, cuts, longer, Halves, consHalves, joinHalves, isSomething, start, run}
+use Rattle.rules.specs.Equality.{Bindings, isConstant, isValue, isEmpty, picks, behind}
+use Rattle.rules.specs.Search.{cuts, longer, Halves, consHalves, joinHalves, isSomething, start}
 use Rattle.rules.specs.Review.{Weight, weight, leafSteps, consFactor, weights, total, formula}
-use Rattle.promises.specs.Written.{largest, largestOf}
+use Rattle.promises.specs.Written.{largest}
 use Rattle.promises.specs.Parts.{cons-parts, join-parts, part-largest}
 use Rattle.promises.specs.Lists.{Mem, length-flatMap-le}
-use Rattle.promises.specs.Solve.{Solution, Numbered, up, numbered, isMultiset, combine, just, whenSo, solve}
+use Rattle.promises.specs.Solve.{Solution, up, numbered, isMultiset, combine, just, whenSo, solve}
 use Rattle.promises.specs.Choices.{in-numbered}
-use Rattle.promises.specs.Trace.{Taken, passed, found, onlyIf, visit, visitAll, visitState, trace}
+use Rattle.promises.specs.Trace.{Taken, passed, found, onlyIf, visit, trace}
 
 -- ---- A cons or a join has no more choices than its factor says.
 

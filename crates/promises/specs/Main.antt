@@ -2,7 +2,7 @@
 -- nothing else is assumed. The words that the statements use are defined in Trace (order, seen), Solve (founds), Listing (Listing), Budget (rowsOf,
 -- report, Full, Outcome), Matching (states, ways, rowsOfWays), Bound (product), Written (the words and the numbers of the forms), Refusals, Reviewing
 -- (Review, TooBig, countOf) and Pairing (greedy).
-use Prim.Native.Nat.{ℕ, _*_, _≤_, _<_}
+use Prim.Native.Nat.{ℕ, suc, _*_, _≤_, _<_}
 use mathlib.Core.Path.{_≡_, sym, _∙_}
 use mathlib.Core.Logic.{_↔_}
 use mathlib.Core.List.{List, [], _∷_, _++_, map}
@@ -21,7 +21,7 @@ use Rattle.promises.specs.Written.{matcherWords, patternWords, levels, l
 use Rattle.promises.specs.Trace.{order, seen, trace-order}
 use Rattle.promises.specs.Solve.{Solution, founds, founds-start}
 use Rattle.promises.specs.Listing.{Listing, solve-listing, listing-unique}
-use Rattle.promises.specs.Budget.{Full, Outcome}
+use Rattle.promises.specs.Budget.{report, Full, Outcome}
 use Rattle.promises.specs.Bound.{product}
 use Rattle.promises.specs.Pairing.{greedy, equal-equiv, multisets-greedy}
 use Rattle.promises.specs.ReadMatcher.{matcher-read, matcher-once}
@@ -29,7 +29,7 @@ use Rattle.promises.specs.ReadPattern.{pattern-read, pattern-once}
 use Rattle.promises.specs.ReadTarget.{target-read, target-once}
 use Rattle.promises.specs.Refusals.{Fault, Judgement, Sane, sane-exactly, rule-accepted, match-turned, match-judged, refused-exactly, fault-once, not-both}
 use Rattle.promises.specs.Reviewing.{Review, TooBig, countOf, review-judged, count-is, answer-10}
-use Rattle.promises.specs.Matching.{states, ways, rowsOfWays, outcome, result, answer-0, answer-7, answer-8, first-ways, all-ways, no-row, steps-bounded, rows-bounded, room-enough, tags-counted}
+use Rattle.promises.specs.Matching.{states, ways, rowsOfWays, outcome, result, answer-0, answer-7, answer-8, full-stands, first-ways, all-ways, no-row, steps-bounded, rows-bounded, room-enough, tags-counted}
 
 -- ---- Determined: two results that a contract allows agree in every number and every word of the room.
 
@@ -62,8 +62,11 @@ module _ (r : Rule) (v : Value) where
   unfolding states ways
   rows-of-ways = founds-start (r .matcher) (r .pattern) v
 
--- For an input that is not refused, read as the rule r and the value v.
+-- For an input that is not refused, read as the rule r and the value v; `it` is what match gives.
 module _ (ms ps ts : List ℤ) (budget : ℕ) (room : List ℤ) (r : Rule) (v : Value) (rule : ruleOf ms ps ≡ accepted r) (target : targetOf (r .matcher) ts ≡ accepted v) where
+  abbrev it : Matched
+  it = match ms ps ts budget room
+
   abbrev free : ℕ
   free = length room
 
@@ -72,58 +75,40 @@ module _ (ms ps ts : List ℤ) (budget : ℕ) (room : List ℤ) (r : Rule) (v : 
 
   -- ---- At every budget: a run takes up the first states, its steps are their number, and what it writes are their rows.
 
+  pub match-is : it ≡ carriedOut (run budget (start (r .matcher) (r .pattern) v ∷ []) free) room
+  match-is = result ms ps ts budget room r v sane
+
   pub at-every-budget : Outcome budget free (states r v) (run budget (start (r .matcher) (r .pattern) v ∷ []) free)
   at-every-budget = outcome ms ps ts budget room r v sane
 
-  pub match-is : match ms ps ts budget room ≡ carriedOut (run budget (start (r .matcher) (r .pattern) v ∷ []) free) room
-  match-is = result ms ps ts budget room r v sane
-
   -- The room holds the rows of the first good ways, whole, and each word after them is untouched.
-  pub room-holds : ((match ms ps ts budget room) .rows ≤ length (ways r v))
-      × ((match ms ps ts budget room) .words ≡ length (rowsOfWays (take ((match ms ps ts budget room) .rows) (ways r v))))
-      × ((match ms ps ts budget room) .room ≡ rowsOfWays (take ((match ms ps ts budget room) .rows) (ways r v)) ++ drop ((match ms ps ts budget room) .words) room)
+  pub room-holds : (it .rows ≤ length (ways r v)) × (it .words ≡ length (rowsOfWays (take (it .rows) (ways r v))))
+      × (it .room ≡ rowsOfWays (take (it .rows) (ways r v)) ++ drop (it .words) room)
   room-holds = first-ways ms ps ts budget room r v sane
 
-  -- Answer 0: every good way's row.
-  pub all-rows : (match ms ps ts budget room) .answer ≡ 0 → (match ms ps ts budget room) .rows ≡ length (ways r v)
+  -- With answer 0 they are all good ways.
+  pub all-rows : it .answer ≡ 0 → it .rows ≡ length (ways r v)
   all-rows = all-ways ms ps ts budget room r v sane
 
-  -- ---- No row: answer 0 with 0 rows exactly when no good way exists and the run ended by itself.
+  -- ---- No row: answer 0 with 0 rows exactly when no state remains and no good way exists.
 
-  pub no-row-exactly : ((match ms ps ts budget room) .answer ≡ 0) × ((match ms ps ts budget room) .rows ≡ 0)
-      ↔ (length (states r v) ≤ budget) × ((w : Way) (e : Bindings) → Good (r .matcher) (r .pattern) v w e → ⊥)
+  pub no-row-exactly : (it .answer ≡ 0) × (it .rows ≡ 0) ↔ (length (states r v) ≤ budget) × ((w : Way) (e : Bindings) → Good (r .matcher) (r .pattern) v w e → ⊥)
   no-row-exactly = no-row ms ps ts budget room r v sane
 
   -- ---- Full and budget. `Full`: among the first `budget` states there is one whose row does not fit after those of the states before it.
 
-  pub full-exactly : (match ms ps ts budget room) .answer ≡ 8 ↔ Full budget free (states r v)
+  pub full-exactly : it .answer ≡ 8 ↔ Full budget free (states r v)
   full-exactly = answer-8 ms ps ts budget room r v sane
 
-  pub budget-exactly : (match ms ps ts budget room) .answer ≡ 7 ↔ (budget < length (states r v)) × (Full budget free (states r v) → ⊥)
+  -- Then its state is the last step, and the rows before it stand whole.
+  pub full-is : (f : Full budget free (states r v)) → it ≡ carriedOut (report 8 (suc (length (f .before))) (f .before)) room
+  full-is = full-stands ms ps ts budget room r v sane
+
+  pub budget-exactly : it .answer ≡ 7 ↔ (budget < length (states r v)) × (Full budget free (states r v) → ⊥)
   budget-exactly = answer-7 ms ps ts budget room r v sane
 
-  pub done-exactly : (match ms ps ts budget room) .answer ≡ 0 ↔ (length (states r v) ≤ budget) × (Full budget free (states r v) → ⊥)
+  pub done-exactly : it .answer ≡ 0 ↔ (length (states r v) ≤ budget) × (Full budget free (states r v) → ⊥)
   done-exactly = answer-0 ms ps ts budget room r v sane
-
-  -- ---- Review's numbers bound every run on a target whose collections, nested ones too, have at most `most` elements.
-
-  module _ (most : ℕ) (small : largest v ≤ most) where
-    pub steps-at-most : (match ms ps ts budget room) .steps ≤ countOf most r
-    steps-at-most = steps-bounded ms ps ts budget room r v sane most small
-
-    pub rows-at-most : (match ms ps ts budget room) .rows ≤ product (weights most (r .pattern) (r .matcher))
-    rows-at-most = rows-bounded ms ps ts budget room r v sane most small
-
-    -- ---- Room enough: with the count as budget, and (product of factors) × (variables) × (target words) words of room, match answers 0.
-
-    pub enough : countOf most r ≤ budget → product (weights most (r .pattern) (r .matcher)) * variableTags (r .pattern) * length ts ≤ length room
-        → (match ms ps ts budget room) .answer ≡ 0
-    enough = room-enough ms ps ts budget room r v sane most small
-
--- The variables are those that the test of section 2 counts, at most 16.
-pub variables-counted : (ms ps : List ℤ) (r : Rule) → ruleOf ms ps ≡ accepted r
-    → (variables (r .pattern) 0 0 ≡ ok (variableTags (r .pattern))) × (variableTags (r .pattern) ≤ 16)
-variables-counted ms ps r e = tags-counted ms ps r (rule-accepted ms ps r .0 e)
 
 -- ---- Review: one of a refusal, a cap outside 0 to 64, too big, or the formula.
 
@@ -136,6 +121,26 @@ too-big-exactly = answer-10
 pub count-is-formula : (ms ps : List ℤ) (most : ℕ) (r : Rule) → ruleOf ms ps ≡ accepted r → (review ms ps (pos most)) .answer ≡ 0
     → (review ms ps (pos most)) .count ≡ countOf most r
 count-is-formula ms ps most r e a = count-is ms ps most r (rule-accepted ms ps r .0 e) a
+
+-- The variables are those that the test of section 2 counts, at most 16.
+pub variables-counted : (ms ps : List ℤ) (r : Rule) → ruleOf ms ps ≡ accepted r
+    → (variables (r .pattern) 0 0 ≡ ok (variableTags (r .pattern))) × (variableTags (r .pattern) ≤ 16)
+variables-counted ms ps r e = tags-counted ms ps r (rule-accepted ms ps r .0 e)
+
+-- The count bounds every run on a target whose collections, nested ones too, have at most `most` elements.
+module _ (ms ps ts : List ℤ) (budget : ℕ) (room : List ℤ) (r : Rule) (v : Value) (rule : ruleOf ms ps ≡ accepted r) (target : targetOf (r .matcher) ts ≡ accepted v)
+    (most : ℕ) (small : largest v ≤ most) where
+  pub steps-at-most : (match ms ps ts budget room) .steps ≤ countOf most r
+  steps-at-most = steps-bounded ms ps ts budget room r v (sane ms ps ts budget room r v rule target) most small
+
+  pub rows-at-most : (match ms ps ts budget room) .rows ≤ product (weights most (r .pattern) (r .matcher))
+  rows-at-most = rows-bounded ms ps ts budget room r v (sane ms ps ts budget room r v rule target) most small
+
+  -- ---- Room enough: with the count as budget, and (product of factors) × (variables) × (target words) words of room, match answers 0.
+
+  pub enough : countOf most r ≤ budget → product (weights most (r .pattern) (r .matcher)) * variableTags (r .pattern) * length ts ≤ length room
+      → (match ms ps ts budget room) .answer ≡ 0
+  enough = room-enough ms ps ts budget room r v (sane ms ps ts budget room r v rule target) most small
 
 -- ---- Refusals: for every input exactly one of a refusal, by the first fault in the fixed order, or a run.
 

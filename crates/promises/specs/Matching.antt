@@ -1,5 +1,5 @@
 -- What match gives for a sane input, at every budget and with every room.
-use Prim.Native.Nat.{ℕ, zero, suc, _+_, _*_, _≤_, _<_}
+use Prim.Native.Nat.{ℕ, zero, suc, _*_, _≤_, _<_}
 use native.Mathlib.Omega.{arith}
 use native.Mathlib.Nat.{le-trans, mul-assoc}
 use mathlib.Core.Path.{_≡_, refl, sym, ap, _∙_, subst}
@@ -7,26 +7,26 @@ use mathlib.Core.Logic.{_↔_}
 use mathlib.Core.List.{List, [], _∷_, _++_, map, flatMap, List·Memᴰ·not-nil, List·Memᴰ·head}
 use lib.ListN.{length, length-map, take, drop}
 use lib.IntN.{ℤ}
-use Rattle.rules.specs.Forms.{Matcher, Pattern, Value, words, size}
+use Rattle.rules.specs.Forms.{Value, words, size}
 use Rattle.rules.specs.Reading.{ok}
 use Rattle.rules.specs.Variables.{variables}
 use Rattle.rules.specs.Equality.{Bindings}
 use Rattle.rules.specs.Search.{row, Run, run, start}
 use Rattle.rules.specs.Ways.{Way, Good}
 use Rattle.rules.specs.Review.{weights}
-use Rattle.rules.specs.Services.{accepted, Rule, ruleOf, targetOf, Matched, carriedOut, match}
+use Rattle.rules.specs.Services.{Rule, Matched, carriedOut, match}
 use Rattle.promises.specs.Written.{variableTags, largest, length-words}
 use Rattle.promises.specs.Lists.{Mem, flatMap-map}
 use Rattle.promises.specs.Trace.{Taken, trace, walk, run-walks}
 use Rattle.promises.specs.Solve.{Solution, solve, founds, founds-start}
-use Rattle.promises.specs.Listing.{Listing, solve-listing}
-use Rattle.promises.specs.Budget.{rowsOf, report, Full, Outcome, done, spent, full, full-rows, walk-outcome, answers-0, answers-7, answers-8, steps-most, first-rows}
+use Rattle.promises.specs.Listing.{solve-listing}
+use Rattle.promises.specs.Budget.{report, Full, Outcome, done, spent, full, full-rows, walk-outcome, walk-full, answers-0, answers-7, answers-8, steps-most, first-rows}
 use Rattle.promises.specs.Bound.{product, steps-bound, rows-bound}
 use Rattle.promises.specs.Numbering.{variables-found}
 use Rattle.promises.specs.Room.{rows-words}
 use Rattle.promises.specs.ReadTarget.{target-read}
 use Rattle.promises.specs.Reviewing.{countOf}
-use Rattle.promises.specs.Refusals.{Sane, WellFormed, Fitting, rule-accepted, target-accepted, match-ran}
+use Rattle.promises.specs.Refusals.{Sane, WellFormed, match-ran}
 
 -- The states of the search in the order in which they are taken up; and the good ways, in dictionary order.
 unfoldable pub states : Rule → Value → List Taken
@@ -95,6 +95,12 @@ module _ (ms ps ts : List ℤ) (budget : ℕ) (room : List ℤ) (r : Rule) (v : 
 
   pub answer-8 : it .answer ≡ 8 ↔ Full budget (length room) (states r v)
   answer-8 = by-answer 8 _ (answers-8 budget (length room) (states r v) ran outcome)
+
+  -- The state whose row does not fit is counted as a step, and the rows before it stand whole.
+  pub full-stands : (f : Full budget (length room) (states r v)) → it ≡ carriedOut (report 8 (suc (length (f .before))) (f .before)) room
+  unfolding states
+  full-stands f = result ∙ ap (λ x. carriedOut x room) (run-walks budget (start (r .matcher) (r .pattern) v ∷ []) (length room)
+      ∙ ap (λ l. walk budget l (length room)) (f .is) ∙ walk-full budget (length room) (f .before) (f .bound) (f .after) (f .reached) (f .fit) (f .over))
 
   -- ---- The rows.
 

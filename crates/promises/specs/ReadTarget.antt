@@ -2,7 +2,7 @@
 -- elements, and collections stand inside collections to depth 8.
 use Prim.Native.Nat.{ℕ, zero, suc, _+_, _≤_, _<_, max, zero-le, suc-le-suc}
 use native.Mathlib.Omega.{arith}
-use native.Mathlib.Nat.{suc-ne-zero, not-suc-le-zero, le-of-suc-le-suc}
+use native.Mathlib.Nat.{not-suc-le-zero, le-of-suc-le-suc}
 use mathlib.Core.Path.{_≡_, refl, sym, ap, ap₂, _∙_, subst}
 use mathlib.Core.Logic.{_↔_}
 use mathlib.Core.Bool.{Bool, true, false}
@@ -12,7 +12,7 @@ use lib.ListN.{length, length-append}
 use lib.Dec.{T, leb, leb→le}
 use lib.IntN.{ℤ, pos, negsuc}
 use Rattle.rules.specs.Forms.{Value, int, collection, Values, empty, _▸_, count, words, wordsAll}
-use Rattle.rules.specs.Reading.{Verdict, ok, fault, _then_, Got, Reader, give, _>>=_, known, word, entry, whole}
+use Rattle.rules.specs.Reading.{ok, fault, _then_, Got, Reader, give, _>>=_, known, word, entry, whole}
 use Rattle.rules.specs.Reading.{TargetTag, one, many, targetTags, atMost64, times, targetParts, target, readTarget}
 use Rattle.promises.specs.Tests.{leb-true}
 use Rattle.promises.specs.Written.{deepest, deepestOf, largest, largestOf}

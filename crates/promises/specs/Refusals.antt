@@ -1,5 +1,5 @@
 -- For every input exactly one of: a refusal, by the first fault in the fixed order, or a run. In a refusal the room is as it was.
-use Prim.Native.Nat.{ℕ, zero, suc, _≤_}
+use Prim.Native.Nat.{ℕ, _≤_}
 use native.Mathlib.Omega.{arith}
 use mathlib.Core.Path.{_≡_, refl, sym, ap, _∙_, subst, subst₂}
 use mathlib.Core.Logic.{_↔_}
@@ -13,7 +13,7 @@ use Rattle.rules.specs.Fit.{fits, fitsValue}
 use Rattle.rules.specs.Search.{State, Run, run, start}
 use Rattle.rules.specs.Services.{Judged, accepted, refused, test, Rule, ruleOf, targetOf, Matched, turnedAway, carriedOut, matchTarget, matchRule, match}
 use Rattle.promises.specs.Budget.{Outcome, done, spent, full, report, walk-outcome}
-use Rattle.promises.specs.Trace.{Taken, trace, walk, run-walks}
+use Rattle.promises.specs.Trace.{Taken, trace, run-walks}
 
 -- ---- The tests, in their order: what each answer means.
 

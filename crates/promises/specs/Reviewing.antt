@@ -1,12 +1,11 @@
 -- What review gives: the first fault of the rule, a cap outside 0 to 64, too big, or the count.
-use Prim.Native.Nat.{ℕ, zero, suc, _^_, _≤_, _<_}
+use Prim.Native.Nat.{ℕ, _^_, _≤_, _<_}
 use native.Mathlib.Omega.{arith}
 use native.Mathlib.Decide.{decLe}
 use mathlib.Core.Path.{_≡_, refl, sym, ap, ap₂, _∙_}
 use mathlib.Core.Logic.{_↔_}
 use mathlib.Core.Bool.{true, false}
 use mathlib.Core.List.{List}
-use lib.Dec.{leb, ltb}
 use lib.IntN.{ℤ, pos, negsuc, pos-ne-negsuc}
 use Rattle.rules.specs.Review.{formula}
 use Rattle.rules.specs.Services.{Judged, accepted, refused, Rule, ruleOf, Reviewed, declined, counted, capped, reviewRule, review}

@@ -1,24 +1,24 @@
 -- The words of a row: a good way binds as many values as the pattern has variables, each a part of the target and so with no more words than the target.
-use Prim.Native.Nat.{ℕ, zero, suc, _+_, _*_, _≤_}
+use Prim.Native.Nat.{ℕ, _+_, _*_, _≤_}
 use native.Mathlib.Omega.{arith}
 use native.Mathlib.Nat.{le-refl, le-trans, mul-le-mul-right, zero-add}
 use mathlib.Core.Path.{_≡_, refl, sym, ap, _∙_, subst}
-use mathlib.Core.List.{List, [], _∷_, _++_, map, flatMap, append-assoc, append-nil, Memᴰ·of-map}
+use mathlib.Core.List.{List, [], _∷_, _++_, map, append-assoc, append-nil, Memᴰ·of-map}
 use lib.ListN.{length, length-append, length-map}
 use lib.IntN.{ℤ}
 use Rattle.rules.specs.Forms.{Matcher, Pattern, wildcard, nil, variable, constant, value, cons, join, Value, words, size}
 use Rattle.rules.specs.Fit.{element}
 use Rattle.rules.specs.Equality.{Bindings}
 use Rattle.rules.specs.Search.{Halves, row, consHalves, joinHalves, start}
-use Rattle.rules.specs.Ways.{Way, ConsBy, JoinBy, Both, Follows}
+use Rattle.rules.specs.Ways.{Way, ConsBy, JoinBy, Follows}
 use Rattle.rules.specs.Review.{weights}
 use Rattle.promises.specs.Written.{variableTags, length-words, largest}
 use Rattle.promises.specs.Lists.{Mem, length-flatMap-le}
 use Rattle.promises.specs.Trace.{trace}
-use Rattle.promises.specs.Solve.{Solution, Numbered, solve, founds, founds-start}
-use Rattle.promises.specs.Choices.{Made, in-numbered, cons-complete, join-complete}
+use Rattle.promises.specs.Solve.{Solution, solve, founds-start}
+use Rattle.promises.specs.Choices.{in-numbered, cons-complete, join-complete}
 use Rattle.promises.specs.GoodWays.{sound}
-use Rattle.promises.specs.Parts.{Part, Parts, cons-parts, join-parts, part-size}
+use Rattle.promises.specs.Parts.{Parts, cons-parts, join-parts, part-size}
 use Rattle.promises.specs.Budget.{rowsOf}
 use Rattle.promises.specs.Bound.{product, rows-bound}
 
