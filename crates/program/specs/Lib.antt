@@ -2,3 +2,4 @@
 pub mod Points
 pub mod Program
 pub mod Length
+pub mod Lines

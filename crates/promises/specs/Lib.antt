@@ -9,5 +9,17 @@ pub mod Order
 pub mod Listing
 pub mod Paired
 pub mod Pairing
+pub mod Sums
+pub mod Written
+pub mod Readers
+pub mod ReadMatcher
+pub mod ReadPattern
+pub mod Depth
+pub mod ReadTarget
+pub mod Parts
 pub mod Budget
 pub mod Bound
+pub mod Numbering
+pub mod Room
+pub mod Refusals
+pub mod Matching

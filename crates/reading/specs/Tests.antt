@@ -1,0 +1,18 @@
+-- What the code's answers stand for: each case of `Tested` is a verdict of the rules.
+use Prim.Native.Nat.{ℕ}
+use mathlib.Core.Bool.{Bool, cond}
+use mathlib.Core.List.{List}
+use lib.ListN.{length}
+use lib.Dec.{ltb}
+use lib.IntN.{ℤ}
+use Rattle.rules.specs.Reading.{Verdict, ok, fault}
+use Rattle.reading.specs.declared.Tested.{Tested}
+use Rattle.reading.specs.declared.Tested.the-variants.{Passed, Fault}
+
+unfoldable pub tested : {A : Type 0} → Verdict A → Tested
+tested (ok a) = Passed
+tested (fault i) = Fault i
+
+-- After a form that ends at the index: nothing is left over, or the first word that is.
+unfoldable pub restAt : List ℤ → ℕ → Tested
+restAt s at = cond (ltb at (length s)) (Fault at) Passed
