@@ -1,0 +1,2 @@
+-- What the leaves on words give.
+pub mod Words

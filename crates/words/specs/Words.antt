@@ -1,0 +1,14 @@
+-- A word as an unsigned tag: numbers that no table has stand for a negative word and for a word that is not there.
+use Prim.Native.Nat.{ℕ}
+use mathlib.Core.List.{List}
+use lib.ListN.{getD}
+use lib.IntN.{ℤ, pos, negsuc}
+
+-- A word's number; of a negative word a number that no word has.
+abbrev pub tagZ : ℤ → ℕ
+tagZ (pos n) = n
+tagZ (negsuc n) = 2147483648
+
+-- The tag at an index; past the end a number that no word has.
+unfoldable pub tagAt : List ℤ → ℕ → ℕ
+tagAt s at = tagZ (getD s at (negsuc 0))
