@@ -1,0 +1,2 @@
+// The trial program's text: what it reads, and what it prints.
+mod number;
