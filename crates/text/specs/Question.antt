@@ -59,30 +59,44 @@ limits (a ∷ b ∷ c ∷ ps) = none
 
 -- ---- The input.
 
+pub record Lines : Type 0 where
+  pub one : List ℕ
+  pub two : List ℕ
+  pub three : List ℕ
+  pub four : List ℕ
+
+-- "Four lines, each ended by a newline": nothing stands behind the fourth newline.
+unfoldable pub lines : List (List ℕ) → Option Lines
+lines [] = none
+lines (a ∷ []) = none
+lines (a ∷ b ∷ []) = none
+lines (a ∷ b ∷ c ∷ []) = none
+lines (a ∷ b ∷ c ∷ d ∷ []) = none
+lines (a ∷ b ∷ c ∷ d ∷ [] ∷ []) = some (record { one = a; two = b; three = c; four = d })
+lines (a ∷ b ∷ c ∷ d ∷ [] ∷ (e ∷ ls)) = none
+lines (a ∷ b ∷ c ∷ d ∷ (x ∷ xs) ∷ ls) = none
+
+-- "It reads at most 32,768 bytes".
+unfoldable pub linesOf : List ℕ → Option Lines
+unfolding given split lines
+linesOf bytes = given (leb (length bytes) 32768) (lines (split newline bytes))
+
 pub record Question : Type 0 where
   pub matcher : List ℤ
   pub pattern : List ℤ
   pub target : List ℤ
   pub limits : Limits
 
--- "Four lines, each ended by a newline": nothing stands behind the fourth newline.
-unfoldable pub question : List (List ℕ) → Option Question
+-- "Lines 1 to 3 are matcher, pattern, target, line 4 the budget and the room".
+unfoldable pub question : Lines → Option Question
 unfolding _then_ wordsOf limits pieces
-question [] = none
-question (a ∷ []) = none
-question (a ∷ b ∷ []) = none
-question (a ∷ b ∷ c ∷ []) = none
-question (a ∷ b ∷ c ∷ d ∷ []) = none
-question (a ∷ b ∷ c ∷ d ∷ [] ∷ []) =
-    wordsOf a then λ m.
-    wordsOf b then λ p.
-    wordsOf c then λ t.
-    limits (pieces d) then λ l.
+question ls =
+    wordsOf (ls .one) then λ m.
+    wordsOf (ls .two) then λ p.
+    wordsOf (ls .three) then λ t.
+    limits (pieces (ls .four)) then λ l.
     some (record { matcher = m; pattern = p; target = t; limits = l })
-question (a ∷ b ∷ c ∷ d ∷ [] ∷ (e ∷ ls)) = none
-question (a ∷ b ∷ c ∷ d ∷ (x ∷ xs) ∷ ls) = none
 
--- "It reads at most 32,768 bytes".
 unfoldable pub asked : List ℕ → Option Question
-unfolding given split question
-asked bytes = given (leb (length bytes) 32768) (question (split newline bytes))
+unfolding _then_ linesOf question
+asked bytes = linesOf bytes then question

@@ -1,2 +1,3 @@
 // The trial program's text: what it reads, and what it prints.
+mod line;
 mod number;

@@ -123,6 +123,7 @@ pub(crate) fn up_to(s: &[u8], most: u64) -> Digits
 pub(crate) fn find(s: &[u8], from: usize, c: u8) -> usize
     requires { ⌜ from ≤ length (now s) ⌝ }
     ensures { λ r. ⌜ r ≡ from + before c (drop from (now (s .entry))) ⌝ }
+    ensures { λ r. ⌜ (from ≤ r) × (r ≤ length (now (s .entry))) ⌝ }
 {
     let mut i = from;
     while i < s.len() {

@@ -8,7 +8,7 @@ use Rattle.text.proofs.number.find.Statement.{statement}
 use Rattle.text.proofs.number.find.Tie as tie
 
 abbrev Inv-loop : tie.InvT-loop
-Inv-loop s from c i₀ i = (from + before c (drop from s) ≡ i + before c (drop i s)) × (i ≤ length s)
+Inv-loop s from c i₀ i = (from + before c (drop from s) ≡ i + before c (drop i s)) × (from ≤ i) × (i ≤ length s)
 
 abbrev μ-loop : tie.MeasureT-loop
 μ-loop s from c i₀ i = length s - i
