@@ -82,3 +82,17 @@ pub some-piece : (c : ℕ) (l : List ℕ) → Some (split c l)
 unfolding split
 some-piece c [] = record { one = []; others = []; is = refl }
 some-piece c (b ∷ bs) = some-by (eqb b c) (split c bs) (onto b (split c bs)) (some-onto b (split c bs))
+
+-- What is looked for stands within the bytes, or at their end.
+before-by : (c b : ℕ) (bs : List ℕ) (t : Bool) → eqb b c ≡ t → before c bs ≤ length bs → before c (b ∷ bs) ≤ length (b ∷ bs)
+unfolding before
+before-by c b bs true e h = rw e (omega arith)
+before-by c b bs false e h = rw e (omega arith)
+
+before-le : (c : ℕ) (l : List ℕ) → before c l ≤ length l
+unfolding before
+before-le c [] = omega arith
+before-le c (b ∷ bs) = before-by c b bs (eqb b c) refl (before-le c bs)
+
+pub in-bytes : (s : List ℕ) (c from r : ℕ) → from ≤ length s → r ≡ from + before c (drop from s) → (r ≡ length s → ⊥) → r < length s
+in-bytes s c from r l e z = let d = length-drop from s in let b = before-le c (drop from s) in omega (arith, z)
