@@ -82,10 +82,12 @@ visit-cost most (constant c) m v e k n s h = test-cost (isConstant c v) (k e) n 
 visit-cost most (value x c) m v e k n s h = test-cost (isValue m e x c v) (k e) n (h e)
 visit-cost most (cons p q) m v e k n s h = both-cost _ (consHalves m v) (consFactor most m) _ (cons-count most m v s)
     (λ g i. let j = cons-parts m v g i in
-    visit-cost most p (element m) (g .first) e _ _ (le-trans (part-largest (j .first)) s) (λ d. visit-cost most q m (g .second) d k n (le-trans (part-largest (j .second)) s) h))
+    visit-cost most p (element m) (g .first) e _ _ (le-trans (part-largest (j .first)) s)
+    (λ d. visit-cost most q m (g .second) d k n (le-trans (part-largest (j .second)) s) h))
 visit-cost most (join p q) m v e k n s h = both-cost _ (joinHalves v) (suc most) _ (join-count most v s)
     (λ g i. let j = join-parts v g i in
-    visit-cost most p m (g .first) e _ _ (le-trans (part-largest (j .first)) s) (λ d. visit-cost most q m (g .second) d k n (le-trans (part-largest (j .second)) s) h))
+    visit-cost most p m (g .first) e _ _ (le-trans (part-largest (j .first)) s)
+    (λ d. visit-cost most q m (g .second) d k n (le-trans (part-largest (j .second)) s) h))
 
 -- ---- Review's formula is that cost.
 
@@ -105,8 +107,10 @@ horner-nested most nil m ts = omega arith
 horner-nested most (variable x) m ts = omega arith
 horner-nested most (constant c) m ts = omega arith
 horner-nested most (value x c) m ts = omega arith
-horner-nested most (cons p q) m ts = rw (append-assoc (weights most p (element m)) (weights most q m) ts, horner-nested most q m ts, horner-nested most p (element m) (weights most q m ++ ts))
-horner-nested most (join p q) m ts = rw (append-assoc (weights most p m) (weights most q m) ts, horner-nested most q m ts, horner-nested most p m (weights most q m ++ ts))
+horner-nested most (cons p q) m ts =
+    rw (append-assoc (weights most p (element m)) (weights most q m) ts, horner-nested most q m ts, horner-nested most p (element m) (weights most q m ++ ts))
+horner-nested most (join p q) m ts =
+    rw (append-assoc (weights most p m) (weights most q m) ts, horner-nested most q m ts, horner-nested most p m (weights most q m ++ ts))
 
 pub horner-formula : (most : ℕ) (p : Pattern) (m : Matcher) → horner most p m 1 ≡ formula most p m
 unfolding formula nested
@@ -115,7 +119,8 @@ horner-formula most p m = horner-nested most p m [] ∙ ap nested (append-nil (w
 -- THE BOUND: the whole search has at most as many states as review says.
 pub steps-bound : (most : ℕ) (m : Matcher) (p : Pattern) (v : Value) → largest v ≤ most → length (trace (start m p v ∷ [])) ≤ formula most p m
 unfolding trace start
-steps-bound most m p v s = rw (← horner-formula most p m, append-nil (visit p m v [] (λ d. found d ∷ []))) (visit-cost most p m v [] (λ d. found d ∷ []) 1 s (λ d. omega arith))
+steps-bound most m p v s = rw (← horner-formula most p m, append-nil (visit p m v [] (λ d. found d ∷ [])))
+    (visit-cost most p m v [] (λ d. found d ∷ []) 1 s (λ d. omega arith))
 
 -- ---- The rows: the product of all factors bounds them.
 

@@ -58,7 +58,8 @@ module _ (b : Bool) (hs : List Halves) (By : Way → Value → Value → Type 0)
         between = y .0 .bound;
         divided = made (x .0) (x .1);
         first = hf (x .0 .halves .first) (y .0) (y .1);
-        second = subst (λ (t : Solution). Second (x .0 .halves .second) (y .0 .bound) (z .0 .way) (t .bound)) (z .2) (hg (x .0 .halves .second) (y .0 .bound) (z .0) (z .1));
+        second = subst (λ (t : Solution). Second (x .0 .halves .second) (y .0 .bound) (z .0 .way) (t .bound)) (z .2)
+            (hg (x .0 .halves .second) (y .0 .bound) (z .0) (z .1));
         way = ap (λ (t : Solution). t .way) (z .2);
       }
 

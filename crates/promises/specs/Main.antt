@@ -1,6 +1,6 @@
 -- What document 01 demands, as theorems about its definitions. Each is stated here and proved elsewhere; what it assumes stands before its arrows, and
 -- nothing else is assumed. The words that the statements use are defined in Trace (order, seen), Solve (founds), Listing (Listing), Budget (rowsOf,
--- report, Full, Outcome), Matching (states, ways, rowsOfWays), Bound (product), Written (the words and the numbers of the forms), Refusals, Reviewing
+-- report, Full, Outcome), Matching (states, ways, rowsOfWays), Bound (product), Written (the words and the numbers of the forms), Faults, Reviewing
 -- (Review, TooBig, countOf) and Pairing (greedy).
 use Prim.Native.Nat.{ℕ, suc, _*_, _≤_, _<_}
 use mathlib.Core.Path.{_≡_, sym, _∙_}
@@ -27,9 +27,10 @@ use Rattle.promises.specs.Pairing.{greedy, equal-equiv, multisets-greedy
 use Rattle.promises.specs.ReadMatcher.{matcher-read, matcher-once}
 use Rattle.promises.specs.ReadPattern.{pattern-read, pattern-once}
 use Rattle.promises.specs.ReadTarget.{target-read, target-once}
-use Rattle.promises.specs.Refusals.{Fault, Judgement, Sane, sane-exactly, rule-accepted, match-turned, match-judged, refused-exactly, fault-once, not-both}
+use Rattle.promises.specs.Faults.{Fault, Judgement, Sane, sane-exactly, rule-accepted, match-turned, match-judged, refused-exactly, fault-once, not-both}
 use Rattle.promises.specs.Reviewing.{Review, TooBig, countOf, review-judged, count-is, answer-10}
-use Rattle.promises.specs.Matching.{states, ways, rowsOfWays, outcome, result, answer-0, answer-7, answer-8, full-stands, first-ways, all-ways, no-row, steps-bounded, rows-bounded, room-enough, tags-counted}
+use Rattle.promises.specs.Matching.{states, ways, rowsOfWays, outcome, result, answer-0, answer-7, answer-8, full-stands, first-ways, all-ways, no-row}
+use Rattle.promises.specs.Matching.{steps-bounded, rows-bounded, room-enough, tags-counted}
 
 -- ---- Determined: two results that a contract allows agree in every number and every word of the room.
 
@@ -63,7 +64,8 @@ module _ (r : Rule) (v : Value) where
   rows-of-ways = founds-start (r .matcher) (r .pattern) v
 
 -- For an input that is not refused, read as the rule r and the value v; `it` is what match gives.
-module _ (ms ps ts : List ℤ) (budget : ℕ) (room : List ℤ) (r : Rule) (v : Value) (rule : ruleOf ms ps ≡ accepted r) (target : targetOf (r .matcher) ts ≡ accepted v) where
+module _ (ms ps ts : List ℤ) (budget : ℕ) (room : List ℤ) (r : Rule) (v : Value)
+    (rule : ruleOf ms ps ≡ accepted r) (target : targetOf (r .matcher) ts ≡ accepted v) where
   abbrev it : Matched
   it = match ms ps ts budget room
 
@@ -92,7 +94,8 @@ module _ (ms ps ts : List ℤ) (budget : ℕ) (room : List ℤ) (r : Rule) (v : 
 
   -- ---- No row: answer 0 with 0 rows exactly when no state remains and no good way exists.
 
-  pub no-row-exactly : (it .answer ≡ 0) × (it .rows ≡ 0) ↔ (length (states r v) ≤ budget) × ((w : Way) (e : Bindings) → Good (r .matcher) (r .pattern) v w e → ⊥)
+  pub no-row-exactly : (it .answer ≡ 0) × (it .rows ≡ 0)
+      ↔ (length (states r v) ≤ budget) × ((w : Way) (e : Bindings) → Good (r .matcher) (r .pattern) v w e → ⊥)
   no-row-exactly = no-row ms ps ts budget room r v sane
 
   -- ---- Full and budget. `Full`: among the first `budget` states there is one whose row does not fit after those of the states before it.
@@ -128,7 +131,8 @@ pub variables-counted : (ms ps : List ℤ) (r : Rule) → ruleOf ms ps ≡ accep
 variables-counted ms ps r e = tags-counted ms ps r (rule-accepted ms ps r .0 e)
 
 -- The count bounds every run on a target whose collections, nested ones too, have at most `most` elements.
-module _ (ms ps ts : List ℤ) (budget : ℕ) (room : List ℤ) (r : Rule) (v : Value) (rule : ruleOf ms ps ≡ accepted r) (target : targetOf (r .matcher) ts ≡ accepted v)
+module _ (ms ps ts : List ℤ) (budget : ℕ) (room : List ℤ) (r : Rule) (v : Value)
+    (rule : ruleOf ms ps ≡ accepted r) (target : targetOf (r .matcher) ts ≡ accepted v)
     (most : ℕ) (small : largest v ≤ most) where
   pub steps-at-most : (match ms ps ts budget room) .steps ≤ countOf most r
   steps-at-most = steps-bounded ms ps ts budget room r v (sane ms ps ts budget room r v rule target) most small
@@ -190,5 +194,6 @@ one-matcher = matcher-once
 pub one-pattern : (p q : Pattern) → length (patternWords p) ≤ 256 → patternWords p ≡ patternWords q → p ≡ q
 one-pattern = pattern-once
 
-pub one-value : (v w : Value) → length (words v) ≤ 1024 → (largest v ≤ 64) × (deepest v ≤ 8) → (largest w ≤ 64) × (deepest w ≤ 8) → words v ≡ words w → v ≡ w
+pub one-value : (v w : Value) → length (words v) ≤ 1024
+    → (largest v ≤ 64) × (deepest v ≤ 8) → (largest w ≤ 64) × (deepest w ≤ 8) → words v ≡ words w → v ≡ w
 one-value = target-once

@@ -20,13 +20,14 @@ use Rattle.promises.specs.Lists.{Mem, flatMap-map}
 use Rattle.promises.specs.Trace.{Taken, trace, walk, run-walks}
 use Rattle.promises.specs.Solve.{Solution, solve, founds, founds-start}
 use Rattle.promises.specs.Listing.{solve-listing}
-use Rattle.promises.specs.Budget.{report, Full, Outcome, done, spent, full, full-rows, walk-outcome, walk-full, answers-0, answers-7, answers-8, steps-most, first-rows}
+use Rattle.promises.specs.Budget.{report, Full, Outcome, done, spent, full}
+use Rattle.promises.specs.Budget.{walk-outcome, walk-full, full-rows, answers-0, answers-7, answers-8, steps-most, first-rows}
 use Rattle.promises.specs.Bound.{product, steps-bound, rows-bound}
 use Rattle.promises.specs.Numbering.{variables-found}
 use Rattle.promises.specs.Room.{rows-words}
 use Rattle.promises.specs.ReadTarget.{target-read}
 use Rattle.promises.specs.Reviewing.{countOf}
-use Rattle.promises.specs.Refusals.{Sane, WellFormed, match-ran}
+use Rattle.promises.specs.Faults.{Sane, WellFormed, match-ran}
 
 -- The states of the search in the order in which they are taken up; and the good ways, in dictionary order.
 unfoldable pub states : Rule → Value → List Taken
@@ -143,7 +144,9 @@ module _ (ms ps ts : List ℤ) (budget : ℕ) (room : List ℤ) (r : Rule) (v : 
   module _ (most : ℕ) (small : largest v ≤ most) where
     pub steps-bounded : it .steps ≤ countOf most r
     unfolding carriedOut states countOf
-    steps-bounded = omega (arith, ap (λ (x : Matched). x .steps) result, steps-most budget (length room) (states r v) ran outcome, steps-bound most (r .matcher) (r .pattern) v small)
+    steps-bounded =
+        let q = ap (λ (x : Matched). x .steps) result in
+        omega (arith, steps-most budget (length room) (states r v) ran outcome, steps-bound most (r .matcher) (r .pattern) v small)
 
     pub rows-bounded : it .rows ≤ product (weights most (r .pattern) (r .matcher))
     unfolding ways
@@ -163,7 +166,8 @@ module _ (ms ps ts : List ℤ) (budget : ℕ) (room : List ℤ) (r : Rule) (v : 
     )
 
 -- The variables that the test counts.
-pub tags-counted : (ms ps : List ℤ) (r : Rule) → WellFormed ms ps r → (variables (r .pattern) 0 0 ≡ ok (variableTags (r .pattern))) × (variableTags (r .pattern) ≤ 16)
+pub tags-counted : (ms ps : List ℤ) (r : Rule) → WellFormed ms ps r
+    → (variables (r .pattern) 0 0 ≡ ok (variableTags (r .pattern))) × (variableTags (r .pattern) ≤ 16)
 tags-counted ms ps r w =
     let f = variables-found (r .pattern) 0 0 (w .numbered .0) (w .numbered .1) in
     let k : w .numbered .0 ≡ variableTags (r .pattern) = omega (arith, f .0) in

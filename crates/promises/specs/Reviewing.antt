@@ -10,7 +10,7 @@ use lib.IntN.{ℤ, pos, negsuc, pos-ne-negsuc}
 use Rattle.rules.specs.Review.{formula}
 use Rattle.rules.specs.Services.{Judged, accepted, refused, Rule, ruleOf, Reviewed, declined, counted, capped, reviewRule, review}
 use Rattle.promises.specs.Tests.{leb-true, leb-false, ltb-true, ltb-false}
-use Rattle.promises.specs.Refusals.{RuleFault, rule-range, WellFormed, rule-accepted, rule-refused}
+use Rattle.promises.specs.Faults.{RuleFault, rule-range, WellFormed, rule-accepted, rule-refused}
 
 -- Review's formula for a rule.
 unfoldable pub countOf : ℕ → Rule → ℕ
@@ -93,10 +93,12 @@ answer-10 ms ps most = ((λ a. go a (review-judged ms ps most)), back)
     go a (counts r c w e h k q) = let l = ap (λ (x : Reviewed). x .answer) q in absurd (omega arith)
 
     back : TooBig ms ps most → (review ms ps most) .answer ≡ 10
-    back t = ap (λ m. (review ms ps m) .answer) (t .is) ∙ ap (λ (x : Reviewed). x .answer) (review-too-big ms ps (t .limit) (t .rule) (t .wellFormed) (t .inside) (t .passes))
+    back t = ap (λ m. (review ms ps m) .answer) (t .is)
+        ∙ ap (λ (x : Reviewed). x .answer) (review-too-big ms ps (t .limit) (t .rule) (t .wellFormed) (t .inside) (t .passes))
 
 -- The count of a review that answers 0 is the formula.
-pub count-is : (ms ps : List ℤ) (c : ℕ) (r : Rule) → WellFormed ms ps r → (review ms ps (pos c)) .answer ≡ 0 → (review ms ps (pos c)) .count ≡ countOf c r
+pub count-is : (ms ps : List ℤ) (c : ℕ) (r : Rule) → WellFormed ms ps r → (review ms ps (pos c)) .answer ≡ 0
+    → (review ms ps (pos c)) .count ≡ countOf c r
 unfolding declined
 count-is ms ps c r w a = go (review-judged ms ps (pos c))
   where

@@ -29,18 +29,22 @@ row-append (v ∷ e) d = ap {B = List ℤ} (λ r. words v ++ r) (row-append e d)
 
 row-bind : (e : Bindings) (v : Value) → length (row (e ++ (v ∷ []))) ≡ length (row e) + size v
 unfolding row
-row-bind e v = ap length (row-append e (v ∷ [])) ∙ length-append (row e) (words v ++ []) ∙ ap (λ (l : List ℤ). length (row e) + length l) (append-nil (words v)) ∙ ap (λ n. length (row e) + n) (length-words v)
+row-bind e v = ap length (row-append e (v ∷ [])) ∙ length-append (row e) (words v ++ [])
+    ∙ ap (λ n. length (row e) + n) (ap length (append-nil (words v)) ∙ length-words v)
 
 consBy-parts : (m : Matcher) (v : Value) (here : Way) (a b : Value) → ConsBy m v here a b → Parts (record { first = a; second = b }) v
 consBy-parts m v here a b h =
-    let c = cons-complete m v here a b h in subst (λ (g : Halves). Parts g v) (c .is) (cons-parts m v (c .c .halves) (in-numbered (consHalves m v) (c .c) (c .member)))
+    let c = cons-complete m v here a b h in
+    subst (λ (g : Halves). Parts g v) (c .is) (cons-parts m v (c .c .halves) (in-numbered (consHalves m v) (c .c) (c .member)))
 
 joinBy-parts : (v : Value) (here : Way) (a b : Value) → JoinBy v here a b → Parts (record { first = a; second = b }) v
 joinBy-parts v here a b h =
-    let c = join-complete v here a b h in subst (λ (g : Halves). Parts g v) (c .is) (join-parts v (c .c .halves) (in-numbered (joinHalves v) (c .c) (c .member)))
+    let c = join-complete v here a b h in
+    subst (λ (g : Halves). Parts g v) (c .is) (join-parts v (c .c .halves) (in-numbered (joinHalves v) (c .c) (c .member)))
 
 -- One binding for each variable.
-pub follows-binds : (p : Pattern) (m : Matcher) (v : Value) (e : Bindings) (w : Way) (d : Bindings) → Follows p m v e w d → length d ≡ length e + variableTags p
+pub follows-binds : (p : Pattern) (m : Matcher) (v : Value) (e : Bindings) (w : Way) (d : Bindings) → Follows p m v e w d
+    → length d ≡ length e + variableTags p
 unfolding Follows variableTags
 follows-binds wildcard m v e w d h = ap length (h .1) ∙ omega arith
 follows-binds nil m v e w d h = ap length (h .2) ∙ omega arith

@@ -138,7 +138,8 @@ module _ (ms ps ts : List ℤ) (budget : ℕ) (room : List ℤ) where
   match-ran r v s =
       ap (matchRule budget room ts) (rule-accepted ms ps r .1 (s .rule)) ∙ ap (matchTarget budget room r) (target-accepted (r .matcher) ts v .1 (s .target))
 
-  judge-target : (r : Rule) → WellFormed ms ps r → (y : Judged Value) → TargetIs (r .matcher) ts y → Judgement ms ps ts budget room (match ms ps ts budget room)
+  judge-target : (r : Rule) → WellFormed ms ps r → (y : Judged Value) → TargetIs (r .matcher) ts y
+      → Judgement ms ps ts budget room (match ms ps ts budget room)
   unfolding TargetIs
   judge-target r w (accepted v) f = let s : Sane ms ps ts r v = record { rule = w; target = f } in ran r v s (match-ran r v s)
   judge-target r w (refused a i) f = turned a i (ofTarget r w f) (match-turned a i (ofTarget r w f))
@@ -175,11 +176,13 @@ out-answer n free us r (spent h f q) a b = let k = ap (λ (x : Run). x .answer) 
 out-answer n free us r (full f q) a b = let k = ap (λ (x : Run). x .answer) q in omega arith
 
 run-answer : (n free : ℕ) (ss : List State) → 1 ≤ (run n ss free) .answer → (run n ss free) .answer ≤ 6 → ⊥
-run-answer n free ss = subst (λ (r : Run). 1 ≤ r .answer → r .answer ≤ 6 → ⊥) (sym (run-walks n ss free)) (out-answer n free (trace ss) _ (walk-outcome n (trace ss) free))
+run-answer n free ss = subst (λ (r : Run). 1 ≤ r .answer → r .answer ≤ 6 → ⊥) (sym (run-walks n ss free))
+    (out-answer n free (trace ss) _ (walk-outcome n (trace ss) free))
 
 module _ (ms ps ts : List ℤ) (budget : ℕ) (room : List ℤ) where
   -- An answer from 1 to 6 is given exactly when that is the first fault, and with its place.
-  pub refused-exactly : (a i : ℕ) → Fault ms ps ts a i ↔ (1 ≤ a) × (a ≤ 6) × ((match ms ps ts budget room) .answer ≡ a) × ((match ms ps ts budget room) .place ≡ i)
+  pub refused-exactly : (a i : ℕ)
+      → Fault ms ps ts a i ↔ (1 ≤ a) × (a ≤ 6) × ((match ms ps ts budget room) .answer ≡ a) × ((match ms ps ts budget room) .place ≡ i)
   unfolding turnedAway carriedOut
   refused-exactly a i = (
     λ f. let q = match-turned ms ps ts budget room a i f in
