@@ -1,3 +1,6 @@
 pub mod Forest
 pub mod Elements
 pub mod Tables
+pub mod Held
+pub mod Room
+pub mod Row
