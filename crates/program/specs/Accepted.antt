@@ -16,7 +16,7 @@ use Rattle.rules.specs.Services.{accepted, Rule, ruleOf}
 use Rattle.promises.specs.Written.{matcherWords, patternWords, length-pattern-words}
 use Rattle.promises.specs.ReadMatcher.{matcher-read}
 use Rattle.promises.specs.ReadPattern.{pattern-read}
-use Rattle.promises.specs.Refusals.{WellFormed, rule-accepted}
+use Rattle.promises.specs.Faults.{WellFormed, rule-accepted}
 use Rattle.program.specs.Points.{Instr, Item, Point, point, finish, beyond, known, Follows, after-end}
 use Rattle.program.specs.Program.{pointAt, program, program-follows}
 use Rattle.program.specs.Length.{instrs, instrsAll, toCome, in-range, all-some}
@@ -65,7 +65,7 @@ none-beyond (finish ks) e = absurd (omega arith)
 none-beyond beyond e = refl
 
 -- At the last instruction only the row is left.
-one-finish : (P : Point) → toCome P ≡ 1 → (ks : List Matcher) × (P ≡ finish ks)
+pub one-finish : (P : Point) → toCome P ≡ 1 → (ks : List Matcher) × (P ≡ finish ks)
 unfolding toCome
 one-finish (point ks p m b ts) e = let h = all-some ts in let l = some-instrs p m in absurd (omega arith)
 one-finish (finish ks) e = (ks, refl)

@@ -1,0 +1,83 @@
+/* Lozhbinor: badge rules over a player's units, matched and reviewed.
+ *
+ * Every slice is a pointer and a length. Words are signed 32-bit numbers; the
+ * lengths of matcher, pattern, target and room count words, that of `numbers`
+ * counts bytes. The slices are only read, except `room` and `numbers`, which
+ * must not overlap each other or any other slice. A slice of length 0 may have
+ * any pointer that is not null.
+ *
+ * The answer's numbers are written to `numbers`, eight bytes each, low byte
+ * first; its further bytes are left alone. The call gives back the answer. No
+ * input is wrong: every words, budget and room give one of the answers below.
+ * Nothing is allocated, nothing is kept between calls, and two threads may call
+ * at the same time on slices of their own.
+ */
+#ifndef LOZHBINOR_H
+#define LOZHBINOR_H
+
+#include <stddef.h>
+#include <stdint.h>
+
+#ifdef __cplusplus
+extern "C" {
+#endif
+
+/* The answers. */
+enum {
+    LOZHBINOR_DONE = 0,     /* every row found is in the room; 0 rows: none exists */
+    LOZHBINOR_MATCHER = 1,  /* the words are not one whole matcher */
+    LOZHBINOR_PATTERN = 2,  /* over 256 words, or not one whole pattern */
+    LOZHBINOR_VARIABLE = 3, /* a variable is out of order */
+    LOZHBINOR_MISFIT = 4,   /* the pattern does not fit the matcher */
+    LOZHBINOR_TARGET = 5,   /* over 1,024 words, or not one whole target in the limits */
+    LOZHBINOR_UNFIT = 6,    /* the target does not fit the matcher */
+    LOZHBINOR_BUDGET = 7,   /* the budget is used up and states remain */
+    LOZHBINOR_FULL = 8,     /* a row did not fit into the room */
+    LOZHBINOR_CAP = 9,      /* review: the cap is outside 0 to 64 */
+    LOZHBINOR_TOO_BIG = 10, /* review: the count passes 4,294,967,295 */
+    LOZHBINOR_SHORT = 24    /* `numbers` is too short; nothing was written */
+};
+
+/* The numbers of match, in this order: answer, place, rows, steps, words. */
+enum {
+    LOZHBINOR_MATCH_NUMBERS = 5,
+    LOZHBINOR_MATCH_BYTES = 40
+};
+
+/* The numbers of review, in this order: answer, place, count. */
+enum {
+    LOZHBINOR_REVIEW_NUMBERS = 3,
+    LOZHBINOR_REVIEW_BYTES = 24
+};
+
+/* Matches the units in `target` against a rule. In answers 0, 7 and 8 the rows
+ * stand whole from the start of the room; each word after them, and in every
+ * other answer the whole room, is what it was. */
+uint32_t lozhbinor_match(const int32_t *matcher, size_t matcher_words,
+                         const int32_t *pattern, size_t pattern_words,
+                         const int32_t *target, size_t target_words,
+                         uint32_t budget,
+                         int32_t *room, size_t room_words,
+                         uint8_t *numbers, size_t numbers_bytes);
+
+/* The worst count of steps of a rule where no collection has more than `cap`
+ * elements: a match with that budget is never stopped by it. */
+uint32_t lozhbinor_review(const int32_t *matcher, size_t matcher_words,
+                          const int32_t *pattern, size_t pattern_words,
+                          int32_t cap,
+                          uint8_t *numbers, size_t numbers_bytes);
+
+/* The number with this index, of those that a call has written. */
+static inline uint64_t lozhbinor_number(const uint8_t *numbers, size_t index)
+{
+    uint64_t number = 0;
+    for (size_t i = 8; i-- > 0;)
+        number = number << 8 | numbers[8 * index + i];
+    return number;
+}
+
+#ifdef __cplusplus
+}
+#endif
+
+#endif
