@@ -3,6 +3,7 @@ use Prim.Native.Nat.{ℕ, zero, suc, _/_, _%_}
 use mathlib.Core.List.{List, [], _∷_, _++_}
 use mathlib.Core.Bool.{cond}
 use lib.ListN.{length, drop}
+use lib.Seq.{sets}
 use lib.Dec.{ltb}
 use lib.IntN.{ℤ}
 use Rattle.rules.specs.Services.{Matched, match, Reviewed, review}
@@ -17,6 +18,10 @@ unfoldable pub bytesOf : List ℕ → List ℕ
 unfolding digits
 bytesOf [] = []
 bytesOf (x ∷ xs) = digits 8 x ++ bytesOf xs
+
+-- Bytes written into a slice from an index on, the others as they were.
+unfoldable pub put : List ℕ → ℕ → List ℕ → List ℕ
+put l i bytes = sets l i bytes
 
 -- Bytes over the start of a slice, its further bytes untouched.
 unfoldable pub over : List ℕ → List ℕ → List ℕ

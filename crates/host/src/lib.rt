@@ -2,13 +2,13 @@
 ghost use mathlib.Core.Path.{_≡_};
 ghost use Prim.Native.Nat.{_+_, _≤_};
 ghost use lib.ListN.{length};
-ghost use lib.Seq.{sets};
-ghost use Rattle.host.specs.Border.{digits};
+ghost use mathlib.Core.List.{_∷_, []};
+ghost use Rattle.host.specs.Border.{digits, put, bytesOf, over};
 
 // A number's eight bytes, low byte first, from an index on.
-pub fn put_number(out: &mut [u8], at: usize, x: u64)
+fn put_number(out: &mut [u8], at: usize, x: u64)
     requires { ⌜ at + 8 ≤ length (now out) ⌝ }
-    ensures { λ _. ⌜ now (out .exit) ≡ sets (now (out .entry)) at (digits 8 x) ⌝ }
+    ensures { λ _. ⌜ now (out .exit) ≡ put (now (out .entry)) at (digits 8 x) ⌝ }
 {
     let mut left = x;
     let mut k: usize = 0;
@@ -17,4 +17,26 @@ pub fn put_number(out: &mut [u8], at: usize, x: u64)
         left = left / 256;
         k += 1;
     }
+}
+
+// The numbers of review's answer.
+fn put_three(out: &mut [u8], a: u64, b: u64, c: u64)
+    requires { ⌜ 24 ≤ length (now out) ⌝ }
+    ensures { λ _. ⌜ now (out .exit) ≡ over (bytesOf (a ∷ b ∷ c ∷ [])) (now (out .entry)) ⌝ }
+{
+    put_number(out, 0, a);
+    put_number(out, 8, b);
+    put_number(out, 16, c);
+}
+
+// The numbers of match's answer.
+fn put_five(out: &mut [u8], a: u64, b: u64, c: u64, d: u64, e: u64)
+    requires { ⌜ 40 ≤ length (now out) ⌝ }
+    ensures { λ _. ⌜ now (out .exit) ≡ over (bytesOf (a ∷ b ∷ c ∷ d ∷ e ∷ [])) (now (out .entry)) ⌝ }
+{
+    put_number(out, 0, a);
+    put_number(out, 8, b);
+    put_number(out, 16, c);
+    put_number(out, 24, d);
+    put_number(out, 32, e);
 }

@@ -3,14 +3,13 @@ use Prim.Native.Nat.{_+_, _-_, _≤_}
 use native.Mathlib.Omega.{arith}
 use mathlib.Core.Path.{_≡_}
 use lib.ListN.{length}
-use lib.Seq.{sets}
-use Rattle.host.specs.Border.{digits}
+use Rattle.host.specs.Border.{digits, put}
 use Rattle.host.proofs.Laws.{rules}
 use Rattle.host.proofs.put_number.Statement.{statement}
 use Rattle.host.proofs.put_number.Tie as tie
 
 abbrev Inv-loop : tie.InvT-loop
-Inv-loop out₀ at x left₀ k₀ out left k = (sets out₀ at (digits 8 x) ≡ sets out (at + k) (digits (8 - k) left)) × (k ≤ 8) × (length out ≡ length out₀)
+Inv-loop out₀ at x left₀ k₀ out left k = (put out₀ at (digits 8 x) ≡ put out (at + k) (digits (8 - k) left)) × (k ≤ 8) × (length out ≡ length out₀)
 
 abbrev μ-loop : tie.MeasureT-loop
 μ-loop out₀ at x left₀ k₀ out left k = 8 - k
