@@ -9,7 +9,7 @@ use lib.Seq.{getD-set-same, getD-set-other}
 use lib.IntN.{ℤ, pos}
 use Rattle.rules.specs.Services.{accepted, Rule, ruleOf}
 use Rattle.promises.specs.ReadPattern.{pattern-read}
-use Rattle.promises.specs.Refusals.{WellFormed, rule-accepted}
+use Rattle.promises.specs.Faults.{WellFormed, rule-accepted}
 use Rattle.program.specs.Program.{program}
 use Rattle.program.specs.Length.{instrs}
 use Rattle.program.specs.Lines.{Line, line, endLine, linesOf, variablesIn, Columns, columns, written, laid}
