@@ -1,4 +1,5 @@
--- The program of a pattern that fits: what is to do at each place, place after place, and that each instruction makes of it what is to do at the next.
+-- The program of a pattern under a matcher, place after place. If the pattern fits, each instruction makes of what is to do at its place what is to do
+-- at the next.
 use Prim.Native.Nat.{ℕ, zero, suc, _+_}
 use mathlib.Core.Path.{_≡_, refl, sym, ap, _∙_}
 use mathlib.Core.Bool.{Bool, true, false, _&&_, _||_, decide}
