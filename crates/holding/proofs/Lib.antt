@@ -4,3 +4,5 @@ pub mod Tables
 pub mod Held
 pub mod Room
 pub mod Row
+pub mod First
+pub mod Equal
