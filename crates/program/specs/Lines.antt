@@ -55,14 +55,14 @@ argOf n ws = cond (eqb n 0) 0 (tagAt ws 0 % 16)
 unfoldable pub conOf : (n : ℕ) → List ℤ → ℤ
 conOf n ws = cond (eqb n 0) (pos 0) (getD ws (n - 1) (pos 0))
 
--- The lines of a tag without parts, before the words ws: a wildcard or a variable is put under something first, if it is not there.
+-- Under a matcher with a tag k other than something's, a wildcard or a variable is first put under something.
+unfoldable pub stripLines : (k op i : ℕ) → List Line
+stripLines k o i = cond (eqb k 0) [] (cond (ltb o 4) (line 1 0 0 i (pos 0) ∷ []) [])
+
+-- The line of a tag without parts, before the words ws.
 unfoldable pub leafLine : (op i from : ℕ) → List ℤ → Line
 unfolding operandsOf argOf conOf
 leafLine o i f ws = line o f (argOf (operandsOf o) ws) i (conOf (operandsOf o) ws)
-
-unfoldable pub leafLines : (k op i from : ℕ) → List ℤ → List Line
-unfolding leafLine
-leafLines k o i f ws = cond (eqb k 0) (leafLine o i f ws ∷ []) (cond (ltb o 4) (line 1 0 0 i (pos 0) ∷ leafLine o i f ws ∷ []) (leafLine o i f ws ∷ []))
 
 -- "Cons puts its first part under M", whose words follow the tag of list M or multiset M; join puts it under list M.
 unfoldable pub firstUnder : (op i : ℕ) → ℕ
@@ -85,10 +85,10 @@ resumed (waits i c ∷ ts) again = again i ts
 
 -- The lines of a tag at the place pc, and of what follows it, of which `again skip i ts pc` has the lines.
 unfoldable pub taken : (k op i : ℕ) → List Waiting → (pc : ℕ) → List ℤ → (again : ℕ → ℕ → List Waiting → ℕ → List Line) → List Line
-unfolding leafLines firstUnder slotOf resumed operandsOf
+unfolding stripLines leafLine firstUnder slotOf resumed operandsOf
 taken k o i ts pc ws again =
     cond (ltb 7 o) (line o 0 0 i (pos 0) ∷ again 0 (firstUnder o i) (waits i pc ∷ ts) (suc pc))
-    (leafLines k o i (slotOf ts) ws ++ resumed ts (λ j us. again (operandsOf o) j us (pc + length (leafLines k o i (slotOf ts) ws))))
+    (stripLines k o i ++ (leafLine o i (slotOf ts) ws ∷ resumed ts (λ j us. again (operandsOf o) j us (suc (pc + length (stripLines k o i))))))
 
 -- After `skip` operands comes a pattern under the matcher at i, then the second parts that wait.
 unfoldable pub linesFrom : (ms : List ℤ) (skip i : ℕ) → List Waiting → (pc : ℕ) → List ℤ → List Line
