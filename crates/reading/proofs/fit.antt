@@ -2,3 +2,5 @@
 pub mod Stack
 pub mod Tags
 pub mod Steps
+pub mod Chain
+pub mod Walked
