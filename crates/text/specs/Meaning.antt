@@ -6,6 +6,7 @@ use mathlib.Core.Option.{Option, none, some}
 use mathlib.Core.List.{List, [], _∷_}
 use lib.Dec.{eqb}
 use lib.ListN.{length, take, drop}
+use lib.Seq.{sets}
 use lib.IntN.{ℤ, pos, negℤ}
 use Rattle.text.specs.Question.{Limits, Lines, Question, wordsOf}
 use Rattle.text.specs.declared.number.Digits.{Digits}
@@ -87,3 +88,14 @@ ofAsked Asked.Other m p t = none
 unfoldable pub Few : Asked → Type 0
 Few (Asked.Of nm np nt budget room) = (nm ≤ 2000) × (np ≤ 2000) × (nt ≤ 2000) × (room ≤ 4096)
 Few Asked.Other = Unit {0}
+
+-- ---- Printing.
+
+-- A list with other bytes from an index on.
+unfoldable pub put : List ℕ → ℕ → List ℕ → List ℕ
+put l at bs = sets l at bs
+
+-- A text was written from an index to an end, and nothing else.
+pub record Wrote (old new : List ℕ) (at end : ℕ) (text : List ℕ) : Type 0 where
+  pub ends : end ≡ at + length text
+  pub bytes : new ≡ put old at text
