@@ -48,3 +48,23 @@ module _ (l m : List ℕ) (i j : ℕ) (text : List ℕ) (w : Wrote l m i j text)
   drop-wrote =
       rw all (drop-at (take i l ++ text) (drop (i + length text) l) j front)
       ∙ ap (λ (x : ℕ). drop x l) (sym (w .ends))
+
+-- What is left to write of a text.
+unfoldable pub Left : (l : List ℕ) (at : ℕ) (text m : List ℕ) (i : ℕ) (rest : List ℕ) → Type 0
+Left l at text m i rest = (put m i rest ≡ put l at text) × (i + length rest ≡ at + length text)
+
+pub left-all : (l : List ℕ) (at : ℕ) (text : List ℕ) → Left l at text l at text
+unfolding Left
+left-all l at text = (refl, refl)
+
+module _ (l m n : List ℕ) (at i j : ℕ) (text bs : List ℕ) (w : Wrote m n i j bs) where
+  pub left-some : (cs : List ℕ) → Left l at text m i (bs ++ cs) → Left l at text n j cs
+  unfolding Left
+  left-some cs h = (
+    rw (w .bytes, w .ends) (put-more m i bs cs) ∙ h .0,
+    let a = length-append bs cs in let b = w .ends in let c = h .1 in omega arith,
+  )
+
+  pub left-none : Left l at text m i bs → Wrote l n at j text
+  unfolding Left
+  left-none h = record { ends = w .ends ∙ h .1; bytes = w .bytes ∙ h .0 }

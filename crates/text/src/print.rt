@@ -1,10 +1,9 @@
 // Numbers and lines, written as decimal text into a lent slice of bytes.
 use words::bits;
 ghost use mathlib.Core.Path.{_≡_};
-ghost use mathlib.Core.List.{_∷_};
 ghost use Prim.Native.Nat.{_+_, _*_, _<_, _≤_};
 ghost use lib.ListN.{length};
-ghost use Rattle.text.specs.Decimal.{space, decimal, numeral, lineOf};
+ghost use Rattle.text.specs.Decimal.{decimal, numeral, furtherOf, lineOf};
 ghost use Rattle.text.specs.Meaning.{Wrote};
 
 // The byte of a digit.
@@ -38,4 +37,30 @@ pub(crate) fn put_numeral(out: &mut [u8], at: usize, x: i32) -> usize
     }
     out[at] = 45;
     put_decimal(out, at + 1, 4294967295 - u + 1)
+}
+
+// Further numbers of a line, each behind a space, and the newline. No number has more than eleven bytes.
+fn put_further(ws: &[i32], out: &mut [u8], at: usize) -> usize
+    requires { ⌜ at + 12 * length (now ws) + 1 ≤ length (now out) ⌝ }
+    ensures { λ r. ⌜ Wrote (now (out .entry)) (now (out .exit)) at r (furtherOf (now (ws .entry))) ⌝ }
+{
+    let mut o = at;
+    let mut i: usize = 0;
+    while i < ws.len() {
+        out[o] = 32;
+        o = put_numeral(out, o + 1, ws[i]);
+        i += 1;
+    }
+    out[o] = 10;
+    o + 1
+}
+
+// A line with numbers.
+pub(crate) fn put_line(ws: &[i32], out: &mut [u8], at: usize) -> usize
+    requires { ⌜ 0 < length (now ws) ⌝ }
+    requires { ⌜ at + 12 * length (now ws) ≤ length (now out) ⌝ }
+    ensures { λ r. ⌜ Wrote (now (out .entry)) (now (out .exit)) at r (lineOf (now (ws .entry))) ⌝ }
+{
+    let o = put_numeral(out, at, ws[0]);
+    put_further(&ws[1..], out, o)
 }
