@@ -6,7 +6,7 @@ use native.Mathlib.Nat.{add-assoc, add-suc, add-zero, suc-add}
 use native.Mathlib.Numerals.{add-one}
 use native.Mathlib.Omega.{arith}
 use lib.ListN.{length, take, drop, set, length-append, length-set}
-use lib.Seq.{sets, length-sets, sets-eq, take-at, drop-at, length-take-le}
+use lib.Seq.{sets, length-sets, sets-eq, take-at, drop-at, length-take-le, drop-drop}
 use Rattle.text.specs.Meaning.{put, Wrote}
 
 pub length-put : (l : List ℕ) (i : ℕ) (bs : List ℕ) → length (put l i bs) ≡ length l
@@ -68,3 +68,22 @@ module _ (l m n : List ℕ) (at i j : ℕ) (text bs : List ℕ) (w : Wrote m n i
   pub left-none : Left l at text m i bs → Wrote l n at j text
   unfolding Left
   left-none h = record { ends = w .ends ∙ h .1; bytes = w .bytes ∙ h .0 }
+
+-- A text that grows at its end: what is written and what is still to come are what was there and the text; all behind is as it was.
+pub record Going (old : List ℕ) (at : ℕ) (text out : List ℕ) (o : ℕ) (rest : List ℕ) : Type 0 where
+  pub whole : take o out ++ rest ≡ take at old ++ text
+  pub kept : drop o out ≡ drop o old
+  pub long : length out ≡ length old
+
+pub going-all : (old : List ℕ) (at : ℕ) (text : List ℕ) → Going old at text old at text
+going-all old at text = record { whole = refl; kept = refl; long = refl }
+
+pub going-on : (old : List ℕ) (at : ℕ) (text out m line rest more : List ℕ) (o r : ℕ) → Going old at text out o rest → Wrote out m o r line
+    → o + length line ≤ length out → rest ≡ line ++ more → Going old at text m r more
+going-on old at text out m line rest more o r g w b e =
+    let s : o + (r - o) ≡ r = (let k = w .ends in omega arith) in
+    record {
+      whole = rw (take-wrote out m o r line w b, append-assoc (take o out) line more, ← e) (g .whole);
+      kept = drop-wrote out m o r line w b ∙ rw (← s, ← drop-drop (r - o) o out, g .kept, drop-drop (r - o) o old);
+      long = same-long out m o r line w ∙ g .long;
+    }

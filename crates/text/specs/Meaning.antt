@@ -1,13 +1,16 @@
 -- What the answers of the readers stand for.
-use Prim.Native.Nat.{ℕ, suc, _+_, _-_, _≤_, _<_}
+use Prim.Native.Nat.{ℕ, suc, _+_, _-_, _*_, _≤_, _<_}
 use mathlib.Core.Path.{_≡_}
 use mathlib.Core.Bool.{cond}
 use mathlib.Core.Option.{Option, none, some}
-use mathlib.Core.List.{List, [], _∷_}
+use mathlib.Core.List.{List, [], _∷_, _++_}
 use lib.Dec.{eqb}
-use lib.ListN.{length, take, drop}
+use lib.ListN.{length, take, drop, replicate}
 use lib.Seq.{sets}
 use lib.IntN.{ℤ, pos, negℤ}
+use Rattle.text.specs.Decimal.{newline}
+use Rattle.text.specs.Rows.{cutRows, lines}
+use Rattle.text.specs.declared.rows.Rest.{Rest}
 use Rattle.text.specs.Question.{Limits, Lines, Question, wordsOf}
 use Rattle.text.specs.declared.number.Digits.{Digits}
 use Rattle.text.specs.declared.number.Signed.{Signed}
@@ -99,3 +102,9 @@ put l at bs = sets l at bs
 pub record Wrote (old new : List ℕ) (at end : ℕ) (text : List ℕ) : Type 0 where
   pub ends : end ≡ at + length text
   pub bytes : new ≡ put old at text
+
+-- Rows were printed from an index on; the last of them are empty lines, which are counted and not written. Nothing else was written.
+pub record WroteRows (old new : List ℕ) (at : ℕ) (r : Rest) (values rows : ℕ) (ws : List ℤ) : Type 0 where
+  pub text : take (r .at) new ++ replicate (r .lines) newline ≡ take at old ++ lines (cutRows values rows ws)
+  pub kept : drop (r .at) new ≡ drop (r .at) old
+  pub within : r .at ≤ at + 12 * length ws

@@ -3,3 +3,4 @@ mod line;
 mod number;
 mod print;
 mod question;
+mod rows;

@@ -208,3 +208,22 @@ pub line-kept : (ws : List ℤ) (l m n : List ℕ) (at o i r : ℕ) (x : ℤ) �
 line-kept ws l m n at o i r x u w = same-long m n i r (furtherOf ws) w ∙ same-long l m at o (numeral x) u
 
 pub ruleset line-rules = (first-number-in, others-room, line-wrote, line-kept, needs)
+
+-- A line with numbers has at most twelve bytes for each.
+further-short : (ws : List ℤ) → length (furtherOf ws) ≤ 12 * length ws + 1
+unfolding furtherOf
+further-short [] = omega arith
+further-short (z ∷ zs) =
+    let a = length-append (numeral z) (furtherOf zs) in
+    let k = numeral-short z in
+    let h = further-short zs in
+    omega arith
+
+pub line-short : (ws : List ℤ) → 0 < length ws → length (lineOf ws) ≤ 12 * length ws
+unfolding lineOf
+line-short [] h = absurd (omega arith)
+line-short (z ∷ zs) h =
+    let a = length-append (numeral z) (furtherOf zs) in
+    let k = numeral-short z in
+    let f = further-short zs in
+    omega arith
