@@ -3,6 +3,7 @@ mod fit;
 pub mod matcher;
 pub mod pattern;
 pub mod table;
+pub mod target;
 pub mod variables;
 
 ghost use mathlib.Core.Path.{_≡_};
