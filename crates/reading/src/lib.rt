@@ -4,6 +4,7 @@ pub mod matcher;
 pub mod pattern;
 pub mod table;
 pub mod target;
+mod unfit;
 pub mod variables;
 
 ghost use mathlib.Core.Path.{_≡_};
