@@ -3,6 +3,8 @@ mod fit;
 pub mod matcher;
 pub mod pattern;
 pub mod table;
+pub mod target;
+mod unfit;
 pub mod variables;
 
 ghost use mathlib.Core.Path.{_≡_};
