@@ -1,10 +1,11 @@
 // Numbers and lines, written as decimal text into a lent slice of bytes.
 use words::bits;
 ghost use mathlib.Core.Path.{_≡_};
+ghost use mathlib.Core.List.{_∷_};
 ghost use Prim.Native.Nat.{_+_, _*_, _<_, _≤_};
 ghost use lib.ListN.{length};
-ghost use Rattle.text.specs.Decimal.{decimal, numeral, furtherOf, lineOf};
-ghost use Rattle.text.specs.Meaning.{Wrote};
+ghost use Rattle.text.specs.Decimal.{space, decimal, numeral, furtherOf, lineOf};
+ghost use Rattle.text.specs.Meaning.{Wrote, fiveLine};
 
 // The byte of a digit.
 fn digit(d: u32) -> u8
@@ -17,6 +18,7 @@ fn digit(d: u32) -> u8
 pub(crate) fn put_decimal(out: &mut [u8], at: usize, n: u32) -> usize
     requires { ⌜ at + length (decimal n) ≤ length (now out) ⌝ }
     ensures { λ r. ⌜ Wrote (now (out .entry)) (now (out .exit)) at r (decimal n) ⌝ }
+    ensures { λ r. ⌜ r ≤ at + 10 ⌝ }
 {
     if n < 10 {
         out[at] = digit(n);
@@ -63,4 +65,29 @@ pub(crate) fn put_line(ws: &[i32], out: &mut [u8], at: usize) -> usize
 {
     let o = put_numeral(out, at, ws[0]);
     put_further(&ws[1..], out, o)
+}
+
+// A number with at most ten digits, behind a space.
+fn put_next(out: &mut [u8], at: usize, n: u32) -> usize
+    requires { ⌜ at + 11 ≤ length (now out) ⌝ }
+    ensures { λ r. ⌜ Wrote (now (out .entry)) (now (out .exit)) at r (space ∷ decimal n) ⌝ }
+    ensures { λ r. ⌜ r ≤ at + 11 ⌝ }
+{
+    out[at] = 32;
+    put_decimal(out, at + 1, n)
+}
+
+// The line of the five numbers, at the start.
+pub(crate) fn put_first(out: &mut [u8], a: u32, b: u32, c: u32, d: u32, e: u32) -> usize
+    requires { ⌜ 56 ≤ length (now out) ⌝ }
+    ensures { λ r. ⌜ Wrote (now (out .entry)) (now (out .exit)) 0 r (fiveLine a b c d e) ⌝ }
+    ensures { λ r. ⌜ r ≤ 56 ⌝ }
+{
+    let f = put_decimal(out, 0, a);
+    let g = put_next(out, f, b);
+    let h = put_next(out, g, c);
+    let i = put_next(out, h, d);
+    let j = put_next(out, i, e);
+    out[j] = 10;
+    j + 1
 }

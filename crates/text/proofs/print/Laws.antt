@@ -16,8 +16,8 @@ use lib.IntN.{ℤ, pos, negsuc}
 use mir.Syntax.{w32, w64}
 use mir.Val.{Fits, SFits, toZ, ofZ, hbits}
 use mir.Facts.{toZ-ofZ}
-use Rattle.text.specs.Decimal.{lastDigits, decimal, numeral, furtherOf, lineOf}
-use Rattle.text.specs.Meaning.{put, Wrote}
+use Rattle.text.specs.Decimal.{space, lastDigits, decimal, numeral, furtherOf, lineOf}
+use Rattle.text.specs.Meaning.{put, Wrote, fiveLine}
 use Rattle.text.proofs.Written.{same-long, and-then, one-byte, Left, left-all, left-some, left-none}
 
 -- ---- Digits.
@@ -42,6 +42,20 @@ decimal-one n h = rw (lt-ltb n 10 h)
 decimal-more : (n : ℕ) → 10 ≤ n → n < 2 ^ 32 → decimal n ≡ decimal (n / 10) ++ ((48 + n % 10) ∷ [])
 unfolding decimal lastDigits
 decimal-more n h l = rw (le-ltb n 10 h, enough 8 (n / 10) (let p : n / 10 < 10 ^ 9 = omega arith in p))
+
+digits-short : (k n : ℕ) (t : Bool) → ltb n 10 ≡ t → length (lastDigits k (n / 10)) ≤ k → length (lastDigits (suc k) n) ≤ suc k
+unfolding lastDigits
+digits-short k n true e h = rw e (omega arith)
+digits-short k n false e h = rw (e, length-append (lastDigits k (n / 10)) ((48 + n % 10) ∷ [])) (omega arith)
+
+all-short : (k n : ℕ) → length (lastDigits k n) ≤ k
+unfolding lastDigits
+all-short zero n = omega arith
+all-short (suc k) n = digits-short k n (ltb n 10) refl (all-short k (n / 10))
+
+decimal-short : (n : ℕ) → length (decimal n) ≤ 10
+unfolding decimal
+decimal-short n = all-short 10 n
 
 module _ (l : List ℕ) (at n : ℕ) (b : at + length (decimal n) ≤ length l) where
   pub first-in : n < 10 → at < length l
@@ -68,13 +82,20 @@ pub wrote-more : (l m : List ℕ) (at e n d : ℕ) → 10 ≤ n → n < 2 ^ 32 �
 wrote-more l m at e n d h f w q =
     rw (decimal-more n h f, ← q) (and-then l m (set m e d) at e (e + 1) (decimal (n / 10)) (d ∷ []) w (one-byte m e d))
 
+pub short-more : (l m : List ℕ) (at e n : ℕ) → 10 ≤ n → n < 2 ^ 32 → Wrote l m at e (decimal (n / 10)) → e + 1 ≤ at + 10
+short-more l m at e n h f w =
+    let k = decimal-short n in
+    let q = ap length (decimal-more n h f) ∙ length-append (decimal (n / 10)) ((48 + n % 10) ∷ []) in
+    let p = w .ends in
+    omega arith
+
 pub kept-one : (l : List ℕ) (i b : ℕ) → length (set l i b) ≡ length l
 kept-one l i b = length-set l i b
 
 pub kept-more : (l m : List ℕ) (at e n i b : ℕ) → Wrote l m at e (decimal n) → length (set m i b) ≡ length l
 kept-more l m at e n i b w = length-set m i b ∙ same-long l m at e (decimal n) w
 
-pub ruleset decimal-rules = (first-in, others-in, last-in, end-fits, wrote-one, wrote-more, kept-one, kept-more, needs)
+pub ruleset decimal-rules = (first-in, others-in, last-in, end-fits, wrote-one, wrote-more, short-more, kept-one, kept-more, needs)
 
 -- ---- A sign and digits.
 
@@ -122,20 +143,6 @@ kept-behind l m at i b end n w = same-long (set l i b) m at end (decimal n) w �
 pub ruleset numeral-rules = (plus-in, wrote-plus, minus-in, minus-fits, rest-in, wrote-minus, kept-behind, needs)
 
 -- ---- Lines.
-
-digits-short : (k n : ℕ) (t : Bool) → ltb n 10 ≡ t → length (lastDigits k (n / 10)) ≤ k → length (lastDigits (suc k) n) ≤ suc k
-unfolding lastDigits
-digits-short k n true e h = rw e (omega arith)
-digits-short k n false e h = rw (e, length-append (lastDigits k (n / 10)) ((48 + n % 10) ∷ [])) (omega arith)
-
-all-short : (k n : ℕ) → length (lastDigits k n) ≤ k
-unfolding lastDigits
-all-short zero n = omega arith
-all-short (suc k) n = digits-short k n (ltb n 10) refl (all-short k (n / 10))
-
-decimal-short : (n : ℕ) → length (decimal n) ≤ 10
-unfolding decimal
-decimal-short n = all-short 10 n
 
 numeral-short : (x : ℤ) → length (numeral x) ≤ 11
 unfolding numeral
@@ -227,3 +234,39 @@ line-short (z ∷ zs) h =
     let k = numeral-short z in
     let f = further-short zs in
     omega arith
+
+-- ---- The line of the five numbers.
+
+module _ (l : List ℕ) (at n : ℕ) where
+  pub next-number-in : at + 11 ≤ length l → at + 1 + length (decimal n) ≤ length (set l at 32)
+  next-number-in h = let k = decimal-short n in rw (length-set l at 32) (omega arith)
+
+  module _ (m : List ℕ) (r : ℕ) (w : Wrote (set l at 32) m (at + 1) r (decimal n)) where
+    pub next-wrote : Wrote l m at r (space ∷ decimal n)
+    next-wrote = and-then l (set l at 32) m at (at + 1) r (32 ∷ []) (decimal n) (one-byte l at 32) w
+
+    pub next-short : r ≤ at + 11
+    next-short = let k = decimal-short n in let e = w .ends in omega arith
+
+pub ruleset next-rules = (next-number-in, next-wrote, next-short, kept-behind, needs)
+
+pub first-room : (l : List ℕ) (n : ℕ) → 56 ≤ length l → 0 + length (decimal n) ≤ length l
+first-room l n h = let k = decimal-short n in omega arith
+
+module _ (l m₁ m₂ m₃ m₄ m₅ : List ℕ) (f g h i j a b c d e : ℕ)
+    (u : Wrote l m₁ 0 f (decimal a))
+    (v : Wrote m₁ m₂ f g (space ∷ decimal b))
+    (w : Wrote m₂ m₃ g h (space ∷ decimal c))
+    (x : Wrote m₃ m₄ h i (space ∷ decimal d))
+    (y : Wrote m₄ m₅ i j (space ∷ decimal e)) where
+  pub five-wrote : Wrote l (set m₅ j 10) 0 (j + 1) (fiveLine a b c d e)
+  unfolding fiveLine lineOf furtherOf numeral
+  five-wrote =
+      let n = set m₅ j 10 in
+      let k = and-then m₄ m₅ n i j (j + 1) (space ∷ decimal e) (10 ∷ []) y (one-byte m₅ j 10) in
+      let o = and-then m₃ m₄ n h i (j + 1) (space ∷ decimal d) _ x k in
+      let p = and-then m₂ m₃ n g h (j + 1) (space ∷ decimal c) _ w o in
+      let q = and-then m₁ m₂ n f g (j + 1) (space ∷ decimal b) _ v p in
+      and-then l m₁ n 0 f (j + 1) (decimal a) _ u q
+
+pub ruleset five-rules = (first-room, five-wrote, needs)
