@@ -1,0 +1,107 @@
+-- The solutions of a pattern are exactly the ways that can be followed down it: section 5 and section 4 agree.
+use Prim.Native.Nat.{ℕ, zero, suc}
+use mathlib.Core.Path.{_≡_, refl, sym, ap, ap₂, _∙_, subst}
+use mathlib.Core.Bool.{Bool, true, false}
+use mathlib.Core.List.{List, [], _∷_, _++_, List·Memᴰ·head, List·Memᴰ·not-nil, List·Memᴰ·eq-of-singleton, Memᴰ·cast, Memᴰ·map, Memᴰ·of-map}
+use lib.Dec.{T}
+use Rattle.rules.specs.Forms.{Matcher, Pattern, wildcard, nil, variable, constant, value, cons, join, Value}
+use Rattle.rules.specs.Fit.{element}
+use Rattle.rules.specs.Equality.{Bindings, isConstant, isValue, isEmpty}
+use Rattle.rules.specs.Search.{Halves, consHalves, joinHalves}
+use Rattle.rules.specs.Ways.{Way, ConsBy, JoinBy, Both, Follows}
+use Rattle.promises.specs.Lists.{Mem, mem-flatMap, of-flatMap}
+use Rattle.promises.specs.Solve.{Solution, Numbered, numbered, isMultiset, mark, extend, combine, just, whenSo, solve}
+use Rattle.promises.specs.Choices.{Made, cons-sound, cons-complete, join-sound, join-complete}
+
+abbrev pub solution : Way → Bindings → Solution
+solution w d = record { way = w; bound = d }
+
+-- ---- Leaves: nothing is chosen.
+
+just-sound : (e : Bindings) (s : Solution) → Mem s (just e) → (s .way ≡ []) × (s .bound ≡ e)
+unfolding just
+just-sound e s i = let q = List·Memᴰ·eq-of-singleton i in (ap (λ (z : Solution). z .way) q, ap (λ (z : Solution). z .bound) q)
+
+when-sound : (b : Bool) (e : Bindings) (s : Solution) → Mem s (whenSo b e) → T b × (s .way ≡ []) × (s .bound ≡ e)
+unfolding whenSo
+when-sound true e s i = let q = just-sound e s i in (tt, q .0, q .1)
+when-sound false e s i = absurd (List·Memᴰ·not-nil i)
+
+just-complete : (e : Bindings) (w : Way) (d : Bindings) → w ≡ [] → d ≡ e → Mem (solution w d) (just e)
+unfolding just
+just-complete e w d p q = List·Memᴰ·head (ap₂ solution p q)
+
+when-complete : (b : Bool) (e : Bindings) (w : Way) (d : Bindings) → T b → w ≡ [] → d ≡ e → Mem (solution w d) (whenSo b e)
+unfolding whenSo
+when-complete true e w d t p q = just-complete e w d p q
+when-complete false e w d t p q = absurd t
+
+-- ---- Cons and join: a choice, then the first part, then the second. What the two share, over how they divide (By) and how the parts are followed.
+
+module _ (b : Bool) (hs : List Halves) (By : Way → Value → Value → Type 0)
+    (First Second : Value → Bindings → Way → Bindings → Type 0) (e : Bindings)
+    (f : Value → List Solution) (g : Value → Bindings → List Solution) where
+  both-sound : ((c : Numbered) → Mem c (numbered hs) → By (mark b (c .no)) (c .halves .first) (c .halves .second))
+      → ((a : Value) (s : Solution) → Mem s (f a) → First a e (s .way) (s .bound))
+      → ((a : Value) (d : Bindings) (s : Solution) → Mem s (g a d) → Second a d (s .way) (s .bound))
+      → (s : Solution) → Mem s (combine b f g hs) → Both By First Second e (s .way) (s .bound)
+  unfolding combine extend
+  both-sound made hf hg s i =
+      let x = of-flatMap _ (numbered hs) i in
+      let y = of-flatMap _ (f (x .0 .halves .first)) (x .2) in
+      let z = Memᴰ·of-map (extend (mark b (x .0 .no)) (y .0)) (g (x .0 .halves .second) (y .0 .bound)) (y .2) in
+      record {
+        here = mark b (x .0 .no);
+        one = y .0 .way;
+        two = z .0 .way;
+        a = x .0 .halves .first;
+        b = x .0 .halves .second;
+        between = y .0 .bound;
+        divided = made (x .0) (x .1);
+        first = hf (x .0 .halves .first) (y .0) (y .1);
+        second = subst (λ (t : Solution). Second (x .0 .halves .second) (y .0 .bound) (z .0 .way) (t .bound)) (z .2) (hg (x .0 .halves .second) (y .0 .bound) (z .0) (z .1));
+        way = ap (λ (t : Solution). t .way) (z .2);
+      }
+
+  both-complete : ((here : Way) (x y : Value) → By here x y → Made b hs here x y)
+      → ((a : Value) (w : Way) (d : Bindings) → First a e w d → Mem (solution w d) (f a))
+      → ((a : Value) (c : Bindings) (w : Way) (d : Bindings) → Second a c w d → Mem (solution w d) (g a c))
+      → (w : Way) (d : Bindings) → Both By First Second e w d → Mem (solution w d) (combine b f g hs)
+  unfolding combine extend
+  both-complete made hf hg w d h =
+      let c = made (h .here) (h .a) (h .b) (h .divided) in
+      Memᴰ·cast (ap (λ x. solution x d) (sym (h .way) ∙ ap (λ x. x ++ (h .one ++ h .two)) (sym (c .way))))
+      (mem-flatMap _ (c .member)
+      (mem-flatMap _ (subst (λ (z : Halves). Mem (solution (h .one) (h .between)) (f (z .first))) (sym (c .is)) (hf (h .a) (h .one) (h .between) (h .first)))
+      (Memᴰ·map (extend (mark b (c .c .no)) (solution (h .one) (h .between)))
+      (subst (λ (z : Halves). Mem (solution (h .two) d) (g (z .second) (h .between))) (sym (c .is)) (hg (h .b) (h .between) (h .two) d (h .second))))))
+
+-- ---- Sound and complete.
+
+pub sound : (p : Pattern) (m : Matcher) (v : Value) (e : Bindings) (s : Solution) → Mem s (solve p m v e) → Follows p m v e (s .way) (s .bound)
+unfolding solve Follows
+sound wildcard m v e s i = just-sound e s i
+sound nil m v e s i = when-sound (isEmpty v) e s i
+sound (variable x) m v e s i = just-sound (e ++ (v ∷ [])) s i
+sound (constant c) m v e s i = when-sound (isConstant c v) e s i
+sound (value x c) m v e s i = when-sound (isValue m e x c v) e s i
+sound (cons p q) m v e s i =
+    both-sound (isMultiset m) (consHalves m v) (ConsBy m v) (Follows p (element m)) (Follows q m) e (λ a. solve p (element m) a e) (solve q m)
+    (cons-sound m v) (λ a t j. sound p (element m) a e t j) (λ a d t j. sound q m a d t j) s i
+sound (join p q) m v e s i =
+    both-sound true (joinHalves v) (JoinBy v) (Follows p m) (Follows q m) e (λ a. solve p m a e) (solve q m)
+    (join-sound v) (λ a t j. sound p m a e t j) (λ a d t j. sound q m a d t j) s i
+
+pub complete : (p : Pattern) (m : Matcher) (v : Value) (e : Bindings) (w : Way) (d : Bindings) → Follows p m v e w d → Mem (solution w d) (solve p m v e)
+unfolding solve Follows
+complete wildcard m v e w d h = just-complete e w d (h .0) (h .1)
+complete nil m v e w d h = when-complete (isEmpty v) e w d (h .0) (h .1) (h .2)
+complete (variable x) m v e w d h = just-complete (e ++ (v ∷ [])) w d (h .0) (h .1)
+complete (constant c) m v e w d h = when-complete (isConstant c v) e w d (h .0) (h .1) (h .2)
+complete (value x c) m v e w d h = when-complete (isValue m e x c v) e w d (h .0) (h .1) (h .2)
+complete (cons p q) m v e w d h =
+    both-complete (isMultiset m) (consHalves m v) (ConsBy m v) (Follows p (element m)) (Follows q m) e (λ a. solve p (element m) a e) (solve q m)
+    (cons-complete m v) (λ a u c j. complete p (element m) a e u c j) (λ a b u c j. complete q m a b u c j) w d h
+complete (join p q) m v e w d h =
+    both-complete true (joinHalves v) (JoinBy v) (Follows p m) (Follows q m) e (λ a. solve p m a e) (solve q m)
+    (join-complete v) (λ a u c j. complete p m a e u c j) (λ a b u c j. complete q m a b u c j) w d h

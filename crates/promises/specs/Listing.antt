@@ -1,0 +1,56 @@
+-- A listing of the good ways is determined: two lists that are each the good ways in dictionary order are equal. So what section 5 says fixes the
+-- rows and their order, without the search.
+use Prim.Native.Nat.{ℕ, zero, suc, _<_}
+use native.Mathlib.Omega.{arith}
+use mathlib.Core.Path.{_≡_, refl, sym, ap, ap₂, _∙_, subst}
+use mathlib.Core.Logic.{_⊎_, inl, inr, ⊎-elim}
+use mathlib.Core.List.{List, [], _∷_, List·Memᴰ·head, List·Memᴰ·tail, List·Memᴰ·not-nil, List·Memᴰ·cases-cons}
+use Rattle.rules.specs.Forms.{Matcher, Pattern, Value}
+use Rattle.rules.specs.Equality.{Bindings}
+use Rattle.rules.specs.Ways.{Way, _≺_, Good}
+use Rattle.promises.specs.Lists.{Mem, Pairwise}
+use Rattle.promises.specs.Solve.{Solution, solve}
+use Rattle.promises.specs.GoodWays.{sound, complete}
+use Rattle.promises.specs.Order.{solve-increasing}
+
+-- Two ways do not each come before the other.
+pub ≺-asym : (u w : Way) → u ≺ w → w ≺ u → ⊥
+unfolding _≺_
+≺-asym [] [] h k = h
+≺-asym [] (b ∷ w) h k = k
+≺-asym (a ∷ u) [] h k = h
+≺-asym (a ∷ u) (b ∷ w) (inl h) (inl k) = omega arith
+≺-asym (a ∷ u) (b ∷ w) (inl h) (inr k) = let e = k .0 in omega arith
+≺-asym (a ∷ u) (b ∷ w) (inr h) (inl k) = let e = h .0 in omega arith
+≺-asym (a ∷ u) (b ∷ w) (inr h) (inr k) = ≺-asym u w (h .1) (k .1)
+
+module _ {A : Type 0} (R : A → A → Type 0) (asym : (x y : A) → R x y → R y x → ⊥) where
+  -- A list in order is determined by its members.
+  pub in-order-unique : (xs ys : List A) → Pairwise R xs → Pairwise R ys → ((z : A) → Mem z xs → Mem z ys) → ((z : A) → Mem z ys → Mem z xs) → xs ≡ ys
+  in-order-unique [] [] p q f g = refl
+  in-order-unique [] (y ∷ ys) p q f g = absurd (List·Memᴰ·not-nil (g y (List·Memᴰ·head refl)))
+  in-order-unique (x ∷ xs) [] p q f g = absurd (List·Memᴰ·not-nil (f x (List·Memᴰ·head refl)))
+  in-order-unique (x ∷ xs) (y ∷ ys) p q f g =
+      ap₂ {C = List A} (λ a l. a ∷ l) same (in-order-unique xs ys (p .1) (q .1)
+      (λ z m. ⊎-elim (λ e. absurd (asym x z (p .0 z m) (subst (λ a. R a x) (sym (e ∙ sym same)) (subst (R x) (e ∙ sym same) (p .0 z m))))) (λ n. n)
+      (List·Memᴰ·cases-cons (f z (List·Memᴰ·tail m))))
+      (λ z m. ⊎-elim (λ e. absurd (asym y z (q .0 z m) (subst (λ a. R a y) (sym (e ∙ same)) (subst (R y) (e ∙ same) (q .0 z m))))) (λ n. n)
+      (List·Memᴰ·cases-cons (g z (List·Memᴰ·tail m)))))
+    where
+      same : x ≡ y
+      same = ⊎-elim (λ e. e) (λ m. ⊎-elim (λ e. sym e) (λ n. absurd (asym x y (p .0 y n) (q .0 x m))) (List·Memᴰ·cases-cons (g y (List·Memᴰ·head refl))))
+          (List·Memᴰ·cases-cons (f x (List·Memᴰ·head refl)))
+
+-- The good ways of section 5 with their bindings: each of them, no other, the smaller way first.
+pub record Listing (m : Matcher) (p : Pattern) (v : Value) (ss : List Solution) : Type 0 where
+  pub increasing : Pairwise (λ s t. s .way ≺ t .way) ss
+  pub sound : (s : Solution) → Mem s ss → Good m p v (s .way) (s .bound)
+  pub complete : (w : Way) (e : Bindings) → Good m p v w e → Mem (record { way = w; bound = e }) ss
+
+pub solve-listing : (m : Matcher) (p : Pattern) (v : Value) → Listing m p v (solve p m v [])
+unfolding Good
+solve-listing m p v = record { increasing = solve-increasing p m v []; sound = sound p m v []; complete = complete p m v [] }
+
+pub listing-unique : (m : Matcher) (p : Pattern) (v : Value) (ss ts : List Solution) → Listing m p v ss → Listing m p v ts → ss ≡ ts
+listing-unique m p v ss ts a b = in-order-unique (λ s t. s .way ≺ t .way) (λ s t. ≺-asym (s .way) (t .way)) ss ts (a .increasing) (b .increasing)
+    (λ z i. b .complete (z .way) (z .bound) (a .sound z i)) (λ z i. a .complete (z .way) (z .bound) (b .sound z i))

@@ -1,0 +1,124 @@
+-- The solutions stand in dictionary order of their ways.
+use Prim.Native.Nat.{ℕ, zero, suc, _<_, zero-le, suc-le-suc}
+use mathlib.Core.Path.{_≡_, refl, ap, subst, subst₂}
+use mathlib.Core.Logic.{_⊎_, inl, inr}
+use mathlib.Core.Bool.{Bool, true, false}
+use mathlib.Core.List.{List, [], _∷_, _++_, map, flatMap, List·Memᴰ·not-nil, Memᴰ·of-map}
+use Rattle.rules.specs.Forms.{Matcher, something, integer, list, multiset, Pattern, wildcard, nil, variable, constant, value, cons, join}
+use Rattle.rules.specs.Forms.{Value, int, collection, empty, _▸_}
+use Rattle.rules.specs.Fit.{element}
+use Rattle.rules.specs.Equality.{Bindings, isConstant, isValue, isEmpty}
+use Rattle.rules.specs.Search.{Halves, consHalves, joinHalves}
+use Rattle.rules.specs.Ways.{Way, _≺_}
+use Rattle.promises.specs.Lists.{Mem, Pairwise, of-flatMap, pairwise-weaken, pairwise-map, pairwise-flatMap}
+use Rattle.promises.specs.Solve.{Solution, Numbered, up, numbered, isMultiset, mark, extend, combine, just, whenSo, solve}
+
+-- Two ways of one pattern differ at some choice, so neither is the other's beginning.
+
+infix 50 _≪_
+abbrev _≪_ : Way → Way → Type 0
+[] ≪ w = ⊥
+(a ∷ u) ≪ [] = ⊥
+(a ∷ u) ≪ (b ∷ w) = (a < b) ⊎ ((a ≡ b) × (u ≪ w))
+
+≪-≺ : (u w : Way) → u ≪ w → u ≺ w
+unfolding _≺_
+≪-≺ [] w h = absurd h
+≪-≺ (a ∷ u) [] h = absurd h
+≪-≺ (a ∷ u) (b ∷ w) (inl h) = inl h
+≪-≺ (a ∷ u) (b ∷ w) (inr h) = inr (h .0, ≪-≺ u w (h .1))
+
+≪-append : (u w x y : Way) → u ≪ w → (u ++ x) ≪ (w ++ y)
+≪-append [] w x y h = absurd h
+≪-append (a ∷ u) [] x y h = absurd h
+≪-append (a ∷ u) (b ∷ w) x y (inl h) = inl h
+≪-append (a ∷ u) (b ∷ w) x y (inr h) = inr (h .0, ≪-append u w x y (h .1))
+
+append-≪ : (u x y : Way) → x ≪ y → (u ++ x) ≪ (u ++ y)
+append-≪ [] x y h = h
+append-≪ (a ∷ u) x y h = inr (refl, append-≪ u x y h)
+
+abbrev Earlier : Solution → Solution → Type 0
+Earlier s t = s .way ≪ t .way
+
+numbered-up : (hs : List Halves) → Pairwise (λ c d. c .no < d .no) (numbered hs)
+unfolding numbered up
+numbered-up [] = tt
+numbered-up (h ∷ hs) = (
+  λ d m. let r = Memᴰ·of-map up (numbered hs) m in subst (λ (x : Numbered). 0 < x .no) (r .2) (suc-le-suc zero-le),
+  pairwise-map (λ c d. c .no < d .no) (λ c d. c .no < d .no) up (numbered hs) (λ x y h. suc-le-suc h) (numbered-up hs),
+)
+
+-- Where there is no choice there is at most one state.
+abbrev Fine : Bool → List Halves → Type 0
+Fine true hs = Unit {0}
+Fine false [] = Unit {0}
+Fine false (h ∷ []) = Unit {0}
+Fine false (h ∷ g ∷ hs) = ⊥
+
+cons-fine : (m : Matcher) (v : Value) → Fine (isMultiset m) (consHalves m v)
+unfolding isMultiset consHalves
+cons-fine something v = tt
+cons-fine integer v = tt
+cons-fine (list m) (int x) = tt
+cons-fine (list m) (collection empty) = tt
+cons-fine (list m) (collection (v ▸ vs)) = tt
+cons-fine (multiset m) v = tt
+
+module _ (f : Value → List Solution) (g : Value → Bindings → List Solution)
+    (hf : (a : Value) → Pairwise Earlier (f a)) (hg : (a : Value) (d : Bindings) → Pairwise Earlier (g a d)) where
+  -- The solutions after one choice.
+  abbrev under : Bool → Numbered → List Solution
+  under b c = flatMap (λ s. map (extend (mark b (c .no)) s) (g (c .halves .second) (s .bound))) (f (c .halves .first))
+
+  under-in-order : (b : Bool) (c : Numbered) → Pairwise Earlier (under b c)
+  unfolding extend
+  under-in-order b c = pairwise-flatMap Earlier Earlier _ (f (c .halves .first)) (hf (c .halves .first))
+      (λ s. pairwise-map Earlier Earlier (extend (mark b (c .no)) s) (g (c .halves .second) (s .bound))
+      (λ t r h. append-≪ (mark b (c .no)) _ _ (append-≪ (s .way) _ _ h)) (hg (c .halves .second) (s .bound)))
+      (λ s r h x y m n.
+      let i = Memᴰ·of-map (extend (mark b (c .no)) s) (g (c .halves .second) (s .bound)) m in
+      let j = Memᴰ·of-map (extend (mark b (c .no)) r) (g (c .halves .second) (r .bound)) n in
+      subst₂ Earlier (i .2) (j .2) (append-≪ (mark b (c .no)) _ _ (≪-append (s .way) (r .way) _ _ h)))
+
+  -- A solution under a numbered choice begins with that number.
+  begins : (c : Numbered) (x : Solution) → Mem x (under true c) → (w : Way) × (c .no ∷ w ≡ x .way)
+  unfolding extend mark
+  begins c x m =
+      let i = of-flatMap _ (f (c .halves .first)) m in
+      let j = Memᴰ·of-map (extend (mark true (c .no)) (i .0)) (g (c .halves .second) (i .0 .bound)) (i .2) in
+      (i .0 .way ++ j .0 .way, ap (λ (z : Solution). z .way) (j .2))
+
+  in-order : (b : Bool) (hs : List Halves) → Fine b hs → Pairwise Earlier (combine b f g hs)
+  unfolding combine
+  in-order true hs fine = pairwise-flatMap (λ c d. c .no < d .no) Earlier (under true) (numbered hs) (numbered-up hs) (under-in-order true)
+      (λ c d h x y m n. let i = begins c x m in let j = begins d y n in subst₂ _≪_ (i .1) (j .1) (inl h))
+  in-order false [] fine = tt
+  in-order false (h ∷ []) fine = pairwise-flatMap (λ c d. ⊥) Earlier (under false) (numbered (h ∷ [])) ((λ d m. List·Memᴰ·not-nil m), tt) (under-in-order false)
+      (λ c d h x y m n. absurd h)
+  in-order false (h ∷ k ∷ hs) fine = absurd fine
+
+single : (e : Bindings) → Pairwise Earlier (just e)
+unfolding just
+single e = ((λ y m. absurd (List·Memᴰ·not-nil m)), tt)
+
+single-or-none : (b : Bool) (e : Bindings) → Pairwise Earlier (whenSo b e)
+unfolding whenSo
+single-or-none true e = single e
+single-or-none false e = tt
+
+solve-in-order : (p : Pattern) (m : Matcher) (v : Value) (e : Bindings) → Pairwise Earlier (solve p m v e)
+unfolding solve
+solve-in-order wildcard m v e = single e
+solve-in-order nil m v e = single-or-none (isEmpty v) e
+solve-in-order (variable x) m v e = single (e ++ (v ∷ []))
+solve-in-order (constant c) m v e = single-or-none (isConstant c v) e
+solve-in-order (value x c) m v e = single-or-none (isValue m e x c v) e
+solve-in-order (cons p q) m v e =
+    in-order (λ a. solve p (element m) a e) (λ a d. solve q m a d) (λ a. solve-in-order p (element m) a e) (λ a d. solve-in-order q m a d) (isMultiset m) (consHalves m v) (cons-fine m v)
+solve-in-order (join p q) m v e =
+    in-order (λ a. solve p m a e) (λ a d. solve q m a d) (λ a. solve-in-order p m a e) (λ a d. solve-in-order q m a d) true (joinHalves v) tt
+
+-- Each way once, the smaller first.
+pub solve-increasing : (p : Pattern) (m : Matcher) (v : Value) (e : Bindings) → Pairwise (λ s t. s .way ≺ t .way) (solve p m v e)
+solve-increasing p m v e = pairwise-weaken Earlier (λ s t. s .way ≺ t .way) (solve p m v e) (λ s t. ≪-≺ (s .way) (t .way)) (solve-in-order p m v e)

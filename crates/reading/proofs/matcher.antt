@@ -1,0 +1,2 @@
+-- What the proof of test 1 uses.
+pub mod Laws

@@ -1,0 +1,2 @@
+-- What the proof of the tag table uses.
+pub mod Laws

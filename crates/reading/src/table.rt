@@ -1,0 +1,30 @@
+// The tag table of section 2 as one decision over tag numbers and the matcher's tag.
+ghost use mathlib.Core.Path.{_≡_};
+ghost use Rattle.reading.specs.Table.{rowOf, within};
+
+// A pattern's tag under a matcher's tag: no such tag; or how many operands and then how many parts follow it, and whether the matcher takes it.
+pub enum Row {
+    Unknown,
+    Known(u32, u32, bool),
+}
+
+fn between(low: u32, m: u32, high: u32) -> bool
+    ensures { λ r. ⌜ r ≡ within low m high ⌝ }
+{
+    if m < low { false } else { m <= high }
+}
+
+pub fn row_of(m: u32, t: u32) -> Row
+    ensures { λ r. ⌜ r ≡ rowOf m t ⌝ }
+{
+    match t {
+        0 => Row::Known(0, 0, between(0, m, 3)),
+        1 => Row::Known(1, 0, between(0, m, 3)),
+        2 => Row::Known(1, 0, between(1, m, 1)),
+        3 => Row::Known(2, 0, between(1, m, 3)),
+        4 => Row::Known(0, 0, between(2, m, 3)),
+        5 => Row::Known(0, 2, between(2, m, 3)),
+        6 => Row::Known(0, 2, between(2, m, 2)),
+        7..=4294967295 => Row::Unknown,
+    }
+}
