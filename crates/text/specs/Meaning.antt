@@ -113,7 +113,7 @@ pub record WroteRows (old new : List ℕ) (at : ℕ) (r : Rest) (values rows : �
   pub text : take (r .at) new ++ replicate (r .lines) newline ≡ take at old ++ lines (cutRows values rows ws)
   pub kept : drop (r .at) new ≡ drop (r .at) old
   pub from : at ≤ r .at
-  pub within : r .at ≤ at + 12 * length ws
+  pub within : r .at ≤ at + 22 * length ws
 
 -- A text stands at the start, but for its last empty lines, which are counted; all behind is as it was.
 pub record Text (old new : List ℕ) (r : Rest) (text : List ℕ) : Type 0 where

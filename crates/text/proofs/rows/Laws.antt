@@ -138,8 +138,8 @@ module _ (ws : List ℤ) (from e : ℕ) (l : from ≤ length ws) (b : e ≤ leng
   pub some-words : (e ≡ 0 → ⊥) → 0 < length (take (from + e - from) (drop from ws))
   some-words z = let r = row-long in omega (arith, z)
 
-  pub row-room : (o at : ℕ) (out old : List ℕ) → o + 12 * (length ws - from) ≤ at + 12 * length ws → at + 12 * length ws ≤ length old → length out ≡ length old
-      → o + 12 * length (take (from + e - from) (drop from ws)) ≤ length out
+  pub row-room : (o at : ℕ) (out old : List ℕ) → o + 22 * (length ws - from) ≤ at + 22 * length ws → at + 22 * length ws ≤ length old → length out ≡ length old
+      → o + 22 * length (take (from + e - from) (drop from ws)) ≤ length out
   row-room o at out old h k q = let r = row-long in let i = row-in in omega arith
 
 pub part-few : (ws : List ℤ) (from : ℕ) → from ≤ length ws → length ws ≤ 4096 → length (take (length ws - from) (drop from ws)) ≤ 4096
@@ -158,7 +158,7 @@ module _ (values rows : ℕ) (ws : List ℤ) (old : List ℕ) (at : ℕ) (out : 
   unfolding Rows
   rows-long = g .long
 
-  module _ (s : from ≤ length ws) (b : o + 12 * (length ws - from) ≤ at + 12 * length ws) (f : at ≤ o) where
+  module _ (s : from ≤ length ws) (b : o + 22 * (length ws - from) ≤ at + 22 * length ws) (f : at ≤ o) where
     pub rows-done : left ≤ 0 → WroteRows old out at (record { at = o; lines = left }) values rows ws
     unfolding Rows cutRows lines
     rows-done h =
@@ -175,16 +175,16 @@ module _ (values rows : ℕ) (ws : List ℤ) (old : List ℕ) (at : ℕ) (out : 
     module _ (e r : ℕ) (m : List ℕ) (q : e ≡ extent values (take (length ws - from) (drop from ws)))
         (k : e ≤ length (take (length ws - from) (drop from ws))) (z : e ≡ 0 → ⊥)
         (w : Wrote out m o r (lineOf (take (from + e - from) (drop from ws)))) where
-      short : length (lineOf (take (from + e - from) (drop from ws))) ≤ 12 * e
+      short : length (lineOf (take (from + e - from) (drop from ws))) ≤ 22 * e
       short = let a = line-short (take (from + e - from) (drop from ws)) (some-words ws from e s k z) in let d = row-long ws from e s k in omega arith
 
-      pub rows-room : r + 12 * (length ws - (from + e)) ≤ at + 12 * length ws
+      pub rows-room : r + 22 * (length ws - (from + e)) ≤ at + 22 * length ws
       rows-room = let a = short in let d = row-in ws from e s k in let c = w .ends in omega arith
 
       pub rows-from : at ≤ r
       rows-from = let c = w .ends in omega arith
 
-      pub rows-turn : 0 < left → at + 12 * length ws ≤ length old → Rows values rows ws old at m r (from + e) (left - 1)
+      pub rows-turn : 0 < left → at + 22 * length ws ≤ length old → Rows values rows ws old at m r (from + e) (left - 1)
       unfolding Rows
       rows-turn h t =
           let a = short in
