@@ -1,80 +1,25 @@
 -- Review's count bounds the steps, and the product of the factors bounds the rows, where no collection has more elements than the cap.
-use Prim.Native.Nat.{ℕ, zero, suc, _+_, _*_, _≤_, _<_, max}
+use Prim.Native.Nat.{ℕ, suc, _+_, _*_, _≤_}
 use native.Mathlib.Omega.{arith}
-use native.Mathlib.Nat.{le-refl, le-trans, mul-le-mul-right, mul-le-mul, mul-le-mul-left, mul-one, mul-assoc}
-use mathlib.Core.Path.{_≡_, refl, sym, ap, _∙_, subst}
-use mathlib.Core.Logic.{⊎-elim}
+use native.Mathlib.Nat.{le-trans, mul-le-mul-right, mul-one, mul-assoc}
+use mathlib.Core.Path.{_≡_, refl, sym, ap, _∙_}
 use mathlib.Core.Bool.{Bool, true, false, cond}
-use mathlib.Core.List.{List, [], _∷_, _++_, map, flatMap, append-nil, append-assoc, List·Memᴰ·head, List·Memᴰ·tail, List·Memᴰ·not-nil, List·Memᴰ·cases-cons, List·Memᴰ·eq-of-singleton, Memᴰ·of-map}
-use lib.ListN.{length, length-append, length-map}
-use lib.IntN.{ℤ, pos, negsuc}
+use mathlib.Core.List.{List, [], _∷_, _++_, flatMap, append-nil, append-assoc}
+use lib.ListN.{length, length-map}
 use Rattle.rules.specs.Forms.{Matcher, something, integer, list, multiset, Pattern, wildcard, nil, variable, constant, value, cons, join}
 use Rattle.rules.specs.Forms.{Value, int, collection, Values, empty, _▸_, count}
 use Rattle.rules.specs.Fit.{element}
-use Rattle.rules.specs.Equality.{Bindings, isConstant, isValue, isEmpty, Pick, picks, behind}
-use Rattle.rules.specs.Search.{Cut, cuts, longer, Halves, consHalves, joinHalves, isSomething, start, run}
+use Rattle.rules.specs.Equality.{Bindings, isConstant, isValue, isEmpty, picks, behind}
+use Rattle.rules.specs.Search.{cuts, longer, Halves, consHalves, joinHalves, isSomething, start}
 use Rattle.rules.specs.Review.{Weight, weight, leafSteps, consFactor, weights, total, formula}
-use Rattle.promises.specs.Written.{largest, largestOf}
+use Rattle.promises.specs.Written.{largest}
+use Rattle.promises.specs.Parts.{cons-parts, join-parts, part-largest}
 use Rattle.promises.specs.Lists.{Mem, length-flatMap-le}
-use Rattle.promises.specs.Solve.{Solution, Numbered, up, numbered, isMultiset, combine, just, whenSo, solve}
+use Rattle.promises.specs.Solve.{Solution, up, numbered, isMultiset, combine, just, whenSo, solve}
 use Rattle.promises.specs.Choices.{in-numbered}
-use Rattle.promises.specs.Trace.{Taken, passed, found, onlyIf, visit, visitAll, visitState, trace}
+use Rattle.promises.specs.Trace.{Taken, passed, found, onlyIf, visit, trace}
 
--- ---- The parts of a value are no larger, and there are no more of them than the factor says.
-
-record Smaller (h : Halves) (v : Value) : Type 0 where
-  one : largest (h .first) ≤ largest v
-  two : largest (h .second) ≤ largest v
-
-record SmallerPick (p : Pick) (vs : Values) : Type 0 where
-  one : largest (p .one) ≤ largestOf vs
-  two : largestOf (p .others) ≤ largestOf vs
-  fewer : count (p .others) ≤ count vs
-
-smaller-pick : (vs : Values) (p : Pick) → Mem p (picks vs) → SmallerPick p vs
-unfolding picks behind largest count
-smaller-pick empty p m = absurd (List·Memᴰ·not-nil m)
-smaller-pick (v ▸ vs) p m = ⊎-elim
-    (λ e. subst (λ (p : Pick). SmallerPick p (v ▸ vs)) (sym e) (record { one = omega arith; two = omega arith; fewer = omega arith }))
-    (λ n. let r = Memᴰ·of-map (behind v) (picks vs) n in let i = smaller-pick vs (r .0) (r .1) in
-    subst (λ (p : Pick). SmallerPick p (v ▸ vs)) (r .2) (record { one = omega (arith, i .one); two = omega (arith, i .two); fewer = omega (arith, i .fewer) }))
-    (List·Memᴰ·cases-cons m)
-
-record SmallerCut (c : Cut) (vs : Values) : Type 0 where
-  one : largestOf (c .front) ≤ largestOf vs
-  two : largestOf (c .back) ≤ largestOf vs
-  fewer : count (c .front) ≤ count vs
-  others : count (c .back) ≤ count vs
-
-smaller-cut : (vs : Values) (c : Cut) → Mem c (cuts vs) → SmallerCut c vs
-unfolding cuts longer largest count
-smaller-cut empty c m = subst (λ (c : Cut). SmallerCut c empty) (sym (List·Memᴰ·eq-of-singleton m)) (record { one = omega arith; two = omega arith; fewer = omega arith; others = omega arith })
-smaller-cut (v ▸ vs) c m = ⊎-elim
-    (λ e. subst (λ (c : Cut). SmallerCut c (v ▸ vs)) (sym e) (record { one = omega arith; two = omega arith; fewer = omega arith; others = omega arith }))
-    (λ n. let r = Memᴰ·of-map (longer v) (cuts vs) n in let i = smaller-cut vs (r .0) (r .1) in
-    subst (λ (c : Cut). SmallerCut c (v ▸ vs)) (r .2)
-    (record { one = omega (arith, i .one); two = omega (arith, i .two); fewer = omega (arith, i .fewer); others = omega (arith, i .others) }))
-    (List·Memᴰ·cases-cons m)
-
-cons-smaller : (m : Matcher) (v : Value) (h : Halves) → Mem h (consHalves m v) → Smaller h v
-unfolding consHalves largest count
-cons-smaller something v h i = absurd (List·Memᴰ·not-nil i)
-cons-smaller integer v h i = absurd (List·Memᴰ·not-nil i)
-cons-smaller (list m) (int x) h i = absurd (List·Memᴰ·not-nil i)
-cons-smaller (list m) (collection empty) h i = absurd (List·Memᴰ·not-nil i)
-cons-smaller (list m) (collection (v ▸ vs)) h i =
-    subst (λ (h : Halves). Smaller h (collection (v ▸ vs))) (sym (List·Memᴰ·eq-of-singleton i)) (record { one = omega arith; two = omega arith })
-cons-smaller (multiset m) (int x) h i = absurd (List·Memᴰ·not-nil i)
-cons-smaller (multiset m) (collection vs) h i =
-    let r = Memᴰ·of-map _ (picks vs) i in let s = smaller-pick vs (r .0) (r .1) in
-    subst (λ (h : Halves). Smaller h (collection vs)) (r .2) (record { one = omega (arith, s .one); two = omega (arith, s .two, s .fewer) })
-
-join-smaller : (v : Value) (h : Halves) → Mem h (joinHalves v) → Smaller h v
-unfolding joinHalves largest count
-join-smaller (int x) h i = absurd (List·Memᴰ·not-nil i)
-join-smaller (collection vs) h i =
-    let r = Memᴰ·of-map _ (cuts vs) i in let s = smaller-cut vs (r .0) (r .1) in
-    subst (λ (h : Halves). Smaller h (collection vs)) (r .2) (record { one = omega (arith, s .one, s .fewer); two = omega (arith, s .two, s .others) })
+-- ---- A cons or a join has no more choices than its factor says.
 
 length-picks : (vs : Values) → length (picks vs) ≡ count vs
 unfolding picks count
@@ -136,11 +81,13 @@ visit-cost most (variable x) m v e k n s h = leaf-cost (isSomething m) (k (e ++ 
 visit-cost most (constant c) m v e k n s h = test-cost (isConstant c v) (k e) n (h e)
 visit-cost most (value x c) m v e k n s h = test-cost (isValue m e x c v) (k e) n (h e)
 visit-cost most (cons p q) m v e k n s h = both-cost _ (consHalves m v) (consFactor most m) _ (cons-count most m v s)
-    (λ g i. let j = cons-smaller m v g i in
-    visit-cost most p (element m) (g .first) e _ _ (le-trans (j .one) s) (λ d. visit-cost most q m (g .second) d k n (le-trans (j .two) s) h))
+    (λ g i. let j = cons-parts m v g i in
+    visit-cost most p (element m) (g .first) e _ _ (le-trans (part-largest (j .first)) s)
+    (λ d. visit-cost most q m (g .second) d k n (le-trans (part-largest (j .second)) s) h))
 visit-cost most (join p q) m v e k n s h = both-cost _ (joinHalves v) (suc most) _ (join-count most v s)
-    (λ g i. let j = join-smaller v g i in
-    visit-cost most p m (g .first) e _ _ (le-trans (j .one) s) (λ d. visit-cost most q m (g .second) d k n (le-trans (j .two) s) h))
+    (λ g i. let j = join-parts v g i in
+    visit-cost most p m (g .first) e _ _ (le-trans (part-largest (j .first)) s)
+    (λ d. visit-cost most q m (g .second) d k n (le-trans (part-largest (j .second)) s) h))
 
 -- ---- Review's formula is that cost.
 
@@ -160,8 +107,10 @@ horner-nested most nil m ts = omega arith
 horner-nested most (variable x) m ts = omega arith
 horner-nested most (constant c) m ts = omega arith
 horner-nested most (value x c) m ts = omega arith
-horner-nested most (cons p q) m ts = rw (append-assoc (weights most p (element m)) (weights most q m) ts, horner-nested most q m ts, horner-nested most p (element m) (weights most q m ++ ts))
-horner-nested most (join p q) m ts = rw (append-assoc (weights most p m) (weights most q m) ts, horner-nested most q m ts, horner-nested most p m (weights most q m ++ ts))
+horner-nested most (cons p q) m ts =
+    rw (append-assoc (weights most p (element m)) (weights most q m) ts, horner-nested most q m ts, horner-nested most p (element m) (weights most q m ++ ts))
+horner-nested most (join p q) m ts =
+    rw (append-assoc (weights most p m) (weights most q m) ts, horner-nested most q m ts, horner-nested most p m (weights most q m ++ ts))
 
 pub horner-formula : (most : ℕ) (p : Pattern) (m : Matcher) → horner most p m 1 ≡ formula most p m
 unfolding formula nested
@@ -170,7 +119,8 @@ horner-formula most p m = horner-nested most p m [] ∙ ap nested (append-nil (w
 -- THE BOUND: the whole search has at most as many states as review says.
 pub steps-bound : (most : ℕ) (m : Matcher) (p : Pattern) (v : Value) → largest v ≤ most → length (trace (start m p v ∷ [])) ≤ formula most p m
 unfolding trace start
-steps-bound most m p v s = rw (← horner-formula most p m, append-nil (visit p m v [] (λ d. found d ∷ []))) (visit-cost most p m v [] (λ d. found d ∷ []) 1 s (λ d. omega arith))
+steps-bound most m p v s = rw (← horner-formula most p m, append-nil (visit p m v [] (λ d. found d ∷ [])))
+    (visit-cost most p m v [] (λ d. found d ∷ []) 1 s (λ d. omega arith))
 
 -- ---- The rows: the product of all factors bounds them.
 
@@ -211,9 +161,9 @@ rows-bound most (constant c) m v e s = when-count (isConstant c v) e
 rows-bound most (value x c) m v e s = when-count (isValue m e x c v) e
 rows-bound most (cons p q) m v e s = rw (product-append (weights most p (element m)) (weights most q m))
     (combine-count (isMultiset m) (λ a. solve p (element m) a e) (λ a d. solve q m a d) (consHalves m v) _ _ _ (cons-count most m v s)
-    (λ h i. rows-bound most p (element m) (h .first) e (le-trans (cons-smaller m v h i .one) s))
-    (λ h i d. rows-bound most q m (h .second) d (le-trans (cons-smaller m v h i .two) s)))
+    (λ h i. rows-bound most p (element m) (h .first) e (le-trans (part-largest (cons-parts m v h i .first)) s))
+    (λ h i d. rows-bound most q m (h .second) d (le-trans (part-largest (cons-parts m v h i .second)) s)))
 rows-bound most (join p q) m v e s = rw (product-append (weights most p m) (weights most q m))
     (combine-count true (λ a. solve p m a e) (λ a d. solve q m a d) (joinHalves v) _ _ _ (join-count most v s)
-    (λ h i. rows-bound most p m (h .first) e (le-trans (join-smaller v h i .one) s))
-    (λ h i d. rows-bound most q m (h .second) d (le-trans (join-smaller v h i .two) s)))
+    (λ h i. rows-bound most p m (h .first) e (le-trans (part-largest (join-parts v h i .first)) s))
+    (λ h i d. rows-bound most q m (h .second) d (le-trans (part-largest (join-parts v h i .second)) s)))

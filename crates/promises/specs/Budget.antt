@@ -1,102 +1,203 @@
--- What a run with a budget and a room gives: the rows of the first states taken up, until the budget, the room or the states end.
+-- What a run with a budget and a room gives: it takes up the states in their order until none remains, the budget is used up or a row does not fit.
 use Prim.Native.Nat.{ℕ, zero, suc, _+_, _-_, _≤_, _<_, zero-le, suc-le-suc}
-use native.Mathlib.Decide.{decLe}
 use native.Mathlib.Omega.{arith}
-use native.Mathlib.Nat.{le-of-suc-le-suc, not-suc-le-zero}
+use native.Mathlib.Nat.{not-suc-le-zero, le-of-suc-le-suc}
 use mathlib.Core.Path.{_≡_, refl, sym, ap, _∙_, subst}
+use mathlib.Core.Logic.{_↔_}
 use mathlib.Core.Bool.{Bool, true, false}
-use mathlib.Core.List.{List, [], _∷_, _++_, map, flatMap, append-nil, append-assoc}
-use lib.ListN.{length, length-append, take, drop}
+use mathlib.Core.List.{List, [], _∷_, _++_, flatMap, append-nil}
+use lib.ListN.{length, length-append, take, drop, take-append-drop}
+use lib.Seq.{take-all, take-append-seam, take-append-add}
 use lib.Dec.{T, leb, leb→le, le→leb}
-use lib.IntN.{ℤ, pos, negsuc}
+use lib.IntN.{ℤ}
 use Rattle.rules.specs.Equality.{Bindings}
-use Rattle.rules.specs.Search.{row, Run, stopped, step, rowStep, run}
-use Rattle.promises.specs.Trace.{Taken, passed, found, walk}
+use Rattle.rules.specs.Search.{row, Run, stopped, step, rowStep}
 use Rattle.promises.specs.Tests.{leb-true, leb-false}
-use Rattle.promises.specs.Solve.{founds}
+use Rattle.promises.specs.Lists.{flatMap-append}
+use Rattle.promises.specs.Trace.{Taken, passed, found, walk}
+use Rattle.promises.specs.Solve.{founds, founds-append}
 
 -- The words of the rows that some states give.
 unfoldable pub rowsOf : List Taken → List ℤ
 unfolding founds flatMap row
 rowsOf ts = flatMap row (founds ts)
 
--- 7 where states remain, 0 where none does.
-unfoldable pub remaining : List Taken → ℕ
-remaining [] = 0
-remaining (t ∷ ts) = 7
-
+-- The answer, the steps, and the rows of the states us.
 unfoldable pub report : ℕ → ℕ → List Taken → Run
 unfolding founds rowsOf
-report a n ts = record { answer = a; rows = length (founds ts); steps = n; written = rowsOf ts }
+report a n us = record { answer = a; rows = length (founds us); steps = n; written = rowsOf us }
 
--- Where the rows of the first n states fit, they are all written.
-pub walk-fits : (n : ℕ) (ts : List Taken) (free : ℕ) → length (rowsOf (take n ts)) ≤ free
-    → walk n ts free ≡ report (remaining (drop n ts)) (length (take n ts)) (take n ts)
-unfolding walk report remaining
-walk-fits zero [] free h = refl
-walk-fits zero (t ∷ ts) free h = refl
-walk-fits (suc n) [] free h = refl
-walk-fits (suc n) (passed ∷ ts) free h = ap step (walk-fits n ts free h)
-walk-fits (suc n) (found e ∷ ts) free h =
-    let l = length-append (row e) (rowsOf (take n ts)) in
-    ap (λ b. elim b as (λ _. Run) [ true ↦ rowStep (row e) (walk n ts (free - length (row e))) | false ↦ stopped 8 1 ])
-    (leb-true (length (row e)) free (omega (arith, l)))
-    ∙ ap (rowStep (row e)) (walk-fits n ts (free - length (row e)) (omega (arith, l)))
+-- Among the first n states there is one whose row does not fit in the `free` words that the room has; those before it are `before`.
+pub record Full (n free : ℕ) (ts : List Taken) : Type 0 where
+  pub before : List Taken
+  pub bound : Bindings
+  pub after : List Taken
+  pub is : ts ≡ before ++ (found bound ∷ after)
+  pub reached : length before < n
+  pub fit : length (rowsOf before) ≤ free
+  pub over : free < length (rowsOf before) + length (row bound)
 
--- Where the row of some state is the first that does not fit, and the budget reaches that state, the rows before it are written and the answer is 8.
-pub walk-full : (n : ℕ) (us : List Taken) (e : Bindings) (ts : List Taken) (free : ℕ) → length us < n → length (rowsOf us) ≤ free
-    → free < length (rowsOf us) + length (row e) → walk n (us ++ (found e ∷ ts)) free ≡ report 8 (suc (length us)) us
-unfolding walk report
-walk-full zero us e ts free h f g = absurd (not-suc-le-zero h)
-walk-full (suc n) [] e ts free h f g =
-    ap (λ b. elim b as (λ _. Run) [ true ↦ rowStep (row e) (walk n ts (free - length (row e))) | false ↦ stopped 8 1 ])
+-- A run by the budget n over the states ts, in the order in which they are taken up, ends in one of three ways.
+pub data Outcome (n free : ℕ) (ts : List Taken) (r : Run) : Type 0 where
+  -- All states are taken up, and all rows fit.
+  done : length ts ≤ n → length (rowsOf ts) ≤ free → r ≡ report 0 (length ts) ts → Outcome n free ts r
+  -- The first n states are taken up, their rows fit, and states remain.
+  spent : n < length ts → length (rowsOf (take n ts)) ≤ free → r ≡ report 7 n (take n ts) → Outcome n free ts r
+  -- States are taken up until one whose row does not fit; that one is counted as a step.
+  full : (f : Full n free ts) → r ≡ report 8 (suc (length (f .before))) (f .before) → Outcome n free ts r
+
+-- ---- Every run is one of the three.
+
+out-passed : (n free : ℕ) (ts : List Taken) (r : Run) → Outcome n free ts r → Outcome (suc n) free (passed ∷ ts) (step r)
+unfolding report rowsOf founds step
+out-passed n free ts r (done h f q) = done (suc-le-suc h) f (ap step q)
+out-passed n free ts r (spent h f q) = spent (suc-le-suc h) f (ap step q)
+out-passed n free ts r (full f q) = full
+    (record {
+      before = passed ∷ f .before;
+      bound = f .bound;
+      after = f .after;
+      is = ap {B = List Taken} (λ l. passed ∷ l) (f .is);
+      reached = suc-le-suc (f .reached);
+      fit = f .fit;
+      over = f .over;
+    })
+    (ap step q)
+
+out-found : (n free : ℕ) (d : Bindings) (ts : List Taken) (r : Run) → length (row d) ≤ free → Outcome n (free - length (row d)) ts r
+    → Outcome (suc n) free (found d ∷ ts) (rowStep (row d) r)
+unfolding report rowsOf founds rowStep
+out-found n free d ts r g (done h f q) = done (suc-le-suc h) (omega (arith, length-append (row d) (rowsOf ts))) (ap (rowStep (row d)) q)
+out-found n free d ts r g (spent h f q) = spent (suc-le-suc h) (omega (arith, length-append (row d) (rowsOf (take n ts)))) (ap (rowStep (row d)) q)
+out-found n free d ts r g (full f q) =
+    let l = length-append (row d) (rowsOf (f .before)) in
+    full
+    (record {
+      before = found d ∷ f .before;
+      bound = f .bound;
+      after = f .after;
+      is = ap {B = List Taken} (λ x. found d ∷ x) (f .is);
+      reached = suc-le-suc (f .reached);
+      fit = omega (arith, l, f .fit);
+      over = omega (arith, l, f .over);
+    })
+    (ap (rowStep (row d)) q)
+
+pub walk-outcome : (n : ℕ) (ts : List Taken) (free : ℕ) → Outcome n free ts (walk n ts free)
+unfolding walk report rowsOf founds
+walk-outcome zero [] free = done zero-le zero-le refl
+walk-outcome zero (t ∷ ts) free = spent (suc-le-suc zero-le) zero-le refl
+walk-outcome (suc n) [] free = done zero-le zero-le refl
+walk-outcome (suc n) (passed ∷ ts) free = out-passed n free ts (walk n ts free) (walk-outcome n ts free)
+walk-outcome (suc n) (found d ∷ ts) free =
+    go (leb (length (row d)) free) (leb→le (length (row d)) free) (le→leb (length (row d)) free) (walk-outcome n ts (free - length (row d)))
+  where
+    go : (b : Bool) → (T b → length (row d) ≤ free) → (length (row d) ≤ free → T b) → Outcome n (free - length (row d)) ts (walk n ts (free - length (row d)))
+        → Outcome (suc n) free (found d ∷ ts) (elim b as (λ _. Run) [ true ↦ rowStep (row d) (walk n ts (free - length (row d))) | false ↦ stopped 8 1 ])
+    go true f g h = out-found n free d ts (walk n ts (free - length (row d))) (f tt) h
+    go false f g h = full
+        (record { before = []; bound = d; after = ts; is = refl; reached = suc-le-suc zero-le; fit = zero-le; over = omega (arith, g) })
+        refl
+
+-- Where a row does not fit, that is how it ends.
+pub walk-full : (n free : ℕ) (us : List Taken) (e : Bindings) (vs : List Taken) → length us < n → length (rowsOf us) ≤ free
+    → free < length (rowsOf us) + length (row e) → walk n (us ++ (found e ∷ vs)) free ≡ report 8 (suc (length us)) us
+unfolding walk report rowsOf founds
+walk-full zero free us e vs h f g = absurd (not-suc-le-zero h)
+walk-full (suc n) free [] e vs h f g =
+    ap (λ b. elim b as (λ _. Run) [ true ↦ rowStep (row e) (walk n vs (free - length (row e))) | false ↦ stopped 8 1 ])
     (leb-false (length (row e)) free (omega arith))
-walk-full (suc n) (passed ∷ us) e ts free h f g = ap step (walk-full n us e ts free (le-of-suc-le-suc h) f g)
-walk-full (suc n) (found d ∷ us) e ts free h f g =
+walk-full (suc n) free (passed ∷ us) e vs h f g = ap step (walk-full n free us e vs (le-of-suc-le-suc h) f g)
+walk-full (suc n) free (found d ∷ us) e vs h f g =
     let l = length-append (row d) (rowsOf us) in
-    ap (λ b. elim b as (λ _. Run) [ true ↦ rowStep (row d) (walk n (us ++ (found e ∷ ts)) (free - length (row d))) | false ↦ stopped 8 1 ])
+    ap (λ b. elim b as (λ _. Run) [ true ↦ rowStep (row d) (walk n (us ++ (found e ∷ vs)) (free - length (row d))) | false ↦ stopped 8 1 ])
     (leb-true (length (row d)) free (omega (arith, l)))
-    ∙ ap (rowStep (row d)) (walk-full n us e ts (free - length (row d)) (le-of-suc-le-suc h) (omega (arith, l)) (omega (arith, l)))
+    ∙ ap (rowStep (row d)) (walk-full n (free - length (row d)) us e vs (le-of-suc-le-suc h) (omega (arith, l)) (omega (arith, l)))
 
--- One of the two holds: for every run, either its rows fit, or there is such a state.
-pub data Course (n : ℕ) (free : ℕ) (ts : List Taken) : Type 0 where
-  fit : length (rowsOf (take n ts)) ≤ free → Course n free ts
-  full : (us : List Taken) (e : Bindings) (vs : List Taken) → ts ≡ us ++ (found e ∷ vs) → length us < n
-      → length (rowsOf us) ≤ free → free < length (rowsOf us) + length (row e) → Course n free ts
+-- ---- Which of them, by the budget and the room alone.
 
-course-passed : (n free : ℕ) (ts : List Taken) → Course n free ts → Course (suc n) free (passed ∷ ts)
+pub rows-append : (us vs : List Taken) → rowsOf (us ++ vs) ≡ rowsOf us ++ rowsOf vs
+unfolding rowsOf
+rows-append us vs = ap (flatMap row) (founds-append us vs) ∙ flatMap-append row (founds us) (founds vs)
+
+rows-length : (us : List Taken) (e : Bindings) (vs : List Taken)
+    → length (rowsOf (us ++ (found e ∷ vs))) ≡ length (rowsOf us) + (length (row e) + length (rowsOf vs))
 unfolding rowsOf founds
-course-passed n free ts (fit h) = fit h
-course-passed n free ts (full us e vs q i j k) = full (passed ∷ us) e vs (ap {B = List Taken} (λ r. passed ∷ r) q) (omega arith) j k
+rows-length us e vs = ap length (rows-append us (found e ∷ vs)) ∙ length-append (rowsOf us) (row e ++ rowsOf vs)
+    ∙ ap (λ i. length (rowsOf us) + i) (length-append (row e) (rowsOf vs))
 
-course-found : (n free : ℕ) (d : Bindings) (ts : List Taken) → length (row d) ≤ free → Course n (free - length (row d)) ts → Course (suc n) free (found d ∷ ts)
-unfolding rowsOf founds
-course-found n free d ts g (fit h) = fit (omega (arith, length-append (row d) (rowsOf (take n ts))))
-course-found n free d ts g (full us e vs q i j k) =
-    let l = length-append (row d) (rowsOf us) in
-    full (found d ∷ us) e vs (ap {B = List Taken} (λ r. found d ∷ r) q) (omega arith) (omega (arith, l)) (omega (arith, l))
+-- The state whose row does not fit is one of the first n.
+among : (us : List Taken) (e : Bindings) (vs : List Taken) (n : ℕ) → length us < n
+    → take n (us ++ (found e ∷ vs)) ≡ us ++ (found e ∷ take (n - suc (length us)) vs)
+among us e vs n h =
+    let k : n ≡ length us + suc (n - suc (length us)) = omega arith in
+    ap (λ i. take i (us ++ (found e ∷ vs))) k ∙ take-append-add us (found e ∷ vs) (suc (n - suc (length us)))
 
-pub course : (n : ℕ) (ts : List Taken) (free : ℕ) → Course n free ts
-unfolding rowsOf founds
-course zero ts free = fit zero-le
-course (suc n) [] free = fit zero-le
-course (suc n) (passed ∷ ts) free = course-passed n free ts (course n ts free)
-course (suc n) (found d ∷ ts) free = by-room (course n ts (free - length (row d))) (decLe (length (row d)) free)
-  where
-    by-room : Course n (free - length (row d)) ts → Dec (length (row d) ≤ free) → Course (suc n) free (found d ∷ ts)
-    by-room c (yes h) = course-found n free d ts h c
-    by-room c (no h) = full [] d ts refl (omega arith) zero-le (omega arith)
+-- The rows of the first states are the first of the rows.
+begins : (a k : ℕ) (us vs ts : List Taken) (r : Run) → ts ≡ us ++ vs → r ≡ report a k us
+    → (r .rows ≤ length (founds ts)) × (r .written ≡ flatMap row (take (r .rows) (founds ts)))
+unfolding report rowsOf
+begins a k us vs ts r t q =
+    let f : founds ts ≡ founds us ++ founds vs = ap founds t ∙ founds-append us vs in
+    subst (λ (x : Run). (x .rows ≤ length (founds ts)) × (x .written ≡ flatMap row (take (x .rows) (founds ts)))) (sym q) (
+      omega (arith, ap length f ∙ length-append (founds us) (founds vs)),
+      ap (flatMap row) (sym (ap (take (length (founds us))) f ∙ take-append-seam (founds us) (founds vs))),
+    )
 
--- No run takes more steps than there are states.
-pub walk-steps : (n : ℕ) (ts : List Taken) (free : ℕ) → (walk n ts free) .steps ≤ length ts
-unfolding walk
-walk-steps zero [] free = zero-le
-walk-steps zero (t ∷ ts) free = zero-le
-walk-steps (suc n) [] free = zero-le
-walk-steps (suc n) (passed ∷ ts) free = suc-le-suc (walk-steps n ts free)
-walk-steps (suc n) (found e ∷ ts) free = go (leb (length (row e)) free) (walk-steps n ts (free - length (row e)))
-  where
-    go : (b : Bool) → (walk n ts (free - length (row e))) .steps ≤ length ts
-        → (elim b as (λ _. Run) [ true ↦ rowStep (row e) (walk n ts (free - length (row e))) | false ↦ stopped 8 1 ]) .steps ≤ suc (length ts)
-    go true h = suc-le-suc h
-    go false h = suc-le-suc zero-le
+-- A row that does not fit is one of the rows, and all rows do not fit.
+pub full-rows : (n free : ℕ) (ts : List Taken) → Full n free ts → (0 < length (founds ts)) × (free < length (rowsOf ts))
+unfolding founds
+full-rows n free ts f =
+    let l = ap (λ z. length (rowsOf z)) (f .is) ∙ rows-length (f .before) (f .bound) (f .after) in
+    let k = ap (λ z. length (founds z)) (f .is) ∙ ap length (founds-append (f .before) (found (f .bound) ∷ f .after))
+    ∙ length-append (founds (f .before)) (f .bound ∷ founds (f .after)) in
+    (omega (arith, k), omega (arith, l, f .over))
+
+-- Where a row does not fit, the rows of the first n states do not.
+full-over : (n free : ℕ) (ts : List Taken) → Full n free ts → free < length (rowsOf (take n ts))
+full-over n free ts f =
+    let l = ap (λ z. length (rowsOf (take n z))) (f .is) ∙ ap (λ z. length (rowsOf z)) (among (f .before) (f .bound) (f .after) n (f .reached))
+    ∙ rows-length (f .before) (f .bound) (take (n - suc (length (f .before))) (f .after)) in
+    omega (arith, l, f .over)
+
+module _ (n free : ℕ) (ts : List Taken) (r : Run) where
+  -- 0: no state remains, and 8 does not hold.
+  pub answers-0 : Outcome n free ts r → r .answer ≡ 0 ↔ (length ts ≤ n) × (Full n free ts → ⊥)
+  unfolding report
+  answers-0 (done h f q) = (
+    λ _. (h, λ k. let l = ap (λ z. length (rowsOf z)) (take-all n ts h) in let o = full-over n free ts k in omega arith),
+    λ _. ap (λ (x : Run). x .answer) q,
+  )
+  answers-0 (spent h f q) = ((λ a. let b = ap (λ (x : Run). x .answer) q in absurd (omega arith)), λ k. let l = k .0 in absurd (omega arith))
+  answers-0 (full f q) = ((λ a. let b = ap (λ (x : Run). x .answer) q in absurd (omega arith)), λ k. absurd (k .1 f))
+
+  -- 7: states remain, and 8 does not hold.
+  pub answers-7 : Outcome n free ts r → r .answer ≡ 7 ↔ (n < length ts) × (Full n free ts → ⊥)
+  unfolding report
+  answers-7 (done h f q) = ((λ a. let b = ap (λ (x : Run). x .answer) q in absurd (omega arith)), λ k. let l = k .0 in absurd (omega arith))
+  answers-7 (spent h f q) = ((λ _. (h, λ k. let o = full-over n free ts k in omega arith)), λ _. ap (λ (x : Run). x .answer) q)
+  answers-7 (full f q) = ((λ a. let b = ap (λ (x : Run). x .answer) q in absurd (omega arith)), λ k. absurd (k .1 f))
+
+  -- 8: the row of the state just taken up does not fit.
+  pub answers-8 : Outcome n free ts r → r .answer ≡ 8 ↔ Full n free ts
+  unfolding report
+  answers-8 (done h f q) = (
+    λ a. let b = ap (λ (x : Run). x .answer) q in absurd (omega arith),
+    λ k. let l = ap (λ z. length (rowsOf z)) (take-all n ts h) in let o = full-over n free ts k in absurd (omega arith),
+  )
+  answers-8 (spent h f q) = ((λ a. let b = ap (λ (x : Run). x .answer) q in absurd (omega arith)), λ k. let o = full-over n free ts k in absurd (omega arith))
+  answers-8 (full f q) = ((λ _. f), λ _. ap (λ (x : Run). x .answer) q)
+
+  -- No run takes more steps than there are states.
+  pub steps-most : Outcome n free ts r → r .steps ≤ length ts
+  unfolding report
+  steps-most (done h f q) = let a = ap (λ (x : Run). x .steps) q in omega arith
+  steps-most (spent h f q) = let a = ap (λ (x : Run). x .steps) q in omega arith
+  steps-most (full f q) =
+      let a = ap (λ (x : Run). x .steps) q in let l = ap length (f .is) ∙ length-append (f .before) (found (f .bound) ∷ f .after) in omega arith
+
+  -- The rows found are the first of all rows, in order, and what is written are their words.
+  pub first-rows : Outcome n free ts r → (r .rows ≤ length (founds ts)) × (r .written ≡ flatMap row (take (r .rows) (founds ts)))
+  first-rows (done h f q) = begins 0 (length ts) ts [] ts r (sym (append-nil ts)) q
+  first-rows (spent h f q) = begins 7 n (take n ts) (drop n ts) ts r (sym (take-append-drop n ts)) q
+  first-rows (full f q) = begins 8 (suc (length (f .before))) (f .before) (found (f .bound) ∷ f .after) ts r (f .is) q

@@ -1,14 +1,13 @@
 -- The states of the search tree in the order in which a run takes them up, by recursion on the pattern; and that a run with a budget is a
 -- walk along this list that ends when the budget does.
-use Prim.Native.Nat.{ℕ, zero, suc, _+_, _-_}
+use Prim.Native.Nat.{ℕ, zero, suc, _-_}
 use mathlib.Core.Path.{_≡_, refl, sym, ap, _∙_}
 use mathlib.Core.Bool.{Bool, true, false}
-use mathlib.Core.List.{List, [], _∷_, _++_, map, flatMap, append-nil, append-assoc}
-use lib.ListN.{length}
+use mathlib.Core.List.{List, [], _∷_, _++_, map, flatMap, append-nil}
+use lib.ListN.{length, take}
 use lib.Dec.{leb}
-use lib.IntN.{ℤ, pos, negsuc}
-use Rattle.rules.specs.Forms.{Matcher, something, integer, list, multiset, Pattern, wildcard, nil, variable, constant, value, cons, join}
-use Rattle.rules.specs.Forms.{Value, int, collection}
+use Rattle.rules.specs.Forms.{Matcher, something, Pattern, wildcard, nil, variable, constant, value, cons, join}
+use Rattle.rules.specs.Forms.{Value}
 use Rattle.rules.specs.Fit.{element}
 use Rattle.rules.specs.Equality.{Bindings, isConstant, isValue, isEmpty}
 use Rattle.rules.specs.Search.{Halves, consHalves, joinHalves, Atom, atom, State, state, isSomething, dropIf, after}
@@ -104,3 +103,29 @@ run-walks (suc n) (state [] e ∷ ss) free =
     ap (λ z. elim (leb (length (row e)) free) as (λ _. Run) [ true ↦ rowStep (row e) z | false ↦ stopped 8 1 ]) (run-walks n ss (free - length (row e)))
 run-walks (suc n) (state (atom p m v ∷ older) e ∷ ss) free =
     rw (tree p m v older e, run-walks n (after p m v older e ++ ss) free, flatMap-append visitState (after p m v older e) ss)
+
+-- ---- The same list by section 4's own words: the first of the waiting states is taken up, and what follows it comes before any older one.
+
+unfoldable pub following : State → List State
+unfolding after
+following (state [] e) = []
+following (state (atom p m v ∷ older) e) = after p m v older e
+
+-- The first n states that are taken up.
+unfoldable pub order : (n : ℕ) → (waiting : List State) → List State
+unfolding following
+order zero ss = []
+order (suc n) [] = []
+order (suc n) (s ∷ ss) = s ∷ order n (following s ++ ss)
+
+unfoldable pub seen : State → Taken
+seen (state [] e) = found e
+seen (state (a ∷ older) e) = passed
+
+pub trace-order : (n : ℕ) (ss : List State) → take n (trace ss) ≡ map seen (order n ss)
+unfolding trace order seen
+trace-order zero ss = refl
+trace-order (suc n) [] = refl
+trace-order (suc n) (state [] e ∷ ss) = ap {B = List Taken} (λ r. found e ∷ r) (trace-order n ss)
+trace-order (suc n) (state (atom p m v ∷ older) e ∷ ss) =
+    rw (tree p m v older e, ← flatMap-append visitState (after p m v older e) ss, ← trace-order n (after p m v older e ++ ss))

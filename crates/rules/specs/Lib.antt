@@ -7,5 +7,10 @@ pub mod Fit
 pub mod Equality
 pub mod Search
 pub mod Ways
+pub mod Following
+pub mod Twin
 pub mod Review
 pub mod Services
+pub mod Tables
+pub mod Worked
+pub mod Refusals

@@ -1,0 +1,110 @@
+-- The machine: what it holds, and one step. (`code` is the program, an instruction for each place.)
+use Prim.Native.Nat.{ℕ, zero, suc, _+_, _-_, _≤_, _<_}
+use native.Mathlib.Omega.{arith}
+use mathlib.Core.Path.{_≡_, refl, sym, ap, _∙_}
+use mathlib.Core.Bool.{Bool, true, false}
+use mathlib.Core.Option.{Option, none, some}
+use mathlib.Core.List.{List, [], _∷_, _++_}
+use lib.ListN.{length}
+use lib.Dec.{leb, eqb}
+use lib.IntN.{ℤ}
+use Rattle.rules.specs.Forms.{Matcher, Value}
+use Rattle.rules.specs.Search.{Run}
+use Rattle.program.specs.Points.{Kind, Test, asConstant, asValue, asNil, Instr, strip, drop, bind, test, split, end}
+use Rattle.engine.specs.Held.{Picked, Data}
+
+-- A table with the entry i changed.
+unfoldable pub put : {A : Type 0} → (ℕ → A) → ℕ → A → ℕ → A
+put f i x j = elim (eqb i j) [ true ↦ x | false ↦ f j ]
+
+-- What the slot of an instruction holds: the value divided there, the choices left, the open frame before it (0: none, j + 1: at j), and the
+-- value that waits for the second part.
+pub record Slot (D : Data) : Type 0 where
+  pub held : D .Held
+  pub rem : D .Rem
+  pub prev : ℕ
+  pub second : D .Held
+
+pub record Conf (D : Data) : Type 0 where
+  pub pc : ℕ
+  pub cur : D .Held
+  pub top : ℕ
+  pub slots : ℕ → Slot D
+  pub binds : ℕ → D .Held
+
+-- After an instruction: a state goes on, or the next choice of the last open frame is taken.
+pub data Turn (D : Data) : Type 0 where
+  on back : Conf D → Turn D
+
+module _ (D : Data) where
+  unfoldable pub check : Test → (ℕ → D .Held) → D .Held → Bool
+  check (asConstant c) b h = D .isNumber c h
+  check (asValue m x c) b h = D .isSame m c (b x) h
+  check (asNil m) b h = D .isEmptyHeld h
+
+  -- The next instruction, on a value.
+  unfoldable pub next : Conf D → D .Held → (ℕ → D .Held) → Conf D
+  next c h b = record { pc = suc (c .pc); cur = h; top = c .top; slots = c .slots; binds = b }
+
+  unfoldable pub pushed : Conf D → D .Rem → Conf D
+  unfolding put
+  pushed c r = record {
+    pc = c .pc;
+    cur = c .cur;
+    top = suc (c .pc);
+    binds = c .binds;
+    slots = put (c .slots) (c .pc) (record { held = c .cur; rem = r; prev = c .top; second = D .stale (c .cur) ((c .slots (c .pc)) .second) });
+  }
+
+  unfoldable pub opening : Conf D → Option (D .Rem) → Conf D
+  unfolding pushed
+  opening c none = c
+  opening c (some r) = pushed c r
+
+  unfoldable pub exec : Instr → Conf D → Turn D
+  unfolding next put check opening
+  exec strip c = on (next c (c .cur) (c .binds))
+  exec (drop n) c = on (next c ((c .slots n) .second) (c .binds))
+  exec (bind i n) c = on (next c ((c .slots n) .second) (put (c .binds) i (c .cur)))
+  exec (test t n) c = elim (check t (c .binds) (c .cur)) [ true ↦ on (next c ((c .slots n) .second) (c .binds)) | false ↦ back c ]
+  exec (split k) c = back (opening c (D .opens k (c .cur)))
+  exec (end n) c = back c
+
+  -- The slot and the last open frame after a choice at j.
+  unfoldable pub slotAfter : Slot D → Option (D .Rem) → D .Held → Slot D
+  slotAfter s none h = record { held = s .held; rem = s .rem; prev = s .prev; second = h }
+  slotAfter s (some r) h = record { held = s .held; rem = r; prev = s .prev; second = h }
+
+  unfoldable pub topAfter : ℕ → Slot D → Option (D .Rem) → ℕ
+  topAfter j s none = s .prev
+  topAfter j s (some r) = suc j
+
+  unfoldable pub chosen : Conf D → ℕ → Picked (D .Held) (D .Rem) → Conf D
+  unfolding put slotAfter topAfter
+  chosen c j t = record {
+    pc = suc j;
+    cur = t .one;
+    top = topAfter j (c .slots j) (t .more);
+    binds = c .binds;
+    slots = put (c .slots) j (slotAfter (c .slots j) (t .more) (t .two));
+  }
+
+  unfoldable pub choose : Instr → ℕ → Conf D → Option (Conf D)
+  unfolding chosen
+  choose strip j c = none
+  choose (drop n) j c = none
+  choose (bind i n) j c = none
+  choose (test t n) j c = none
+  choose (split k) j c = some (chosen c j (D .pick k ((c .slots j) .held) ((c .slots j) .rem)))
+  choose (end n) j c = none
+
+  module _ (code : ℕ → Instr) where
+    unfoldable pub nextChoice : ℕ → Conf D → Option (Conf D)
+    unfolding choose
+    nextChoice zero c = none
+    nextChoice (suc j) c = choose (code j) j c
+
+    unfoldable pub settle : Turn D → Option (Conf D)
+    unfolding nextChoice
+    settle (on c) = some c
+    settle (back c) = nextChoice (c .top) c

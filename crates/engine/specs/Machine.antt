@@ -1,0 +1,122 @@
+-- The run as a machine that is stepped: what a program holds between two steps, one step, and that n steps give what `run n` gives. Since steps
+-- compose, a run that is advanced in portions gives what one run with their sum gives (change request 8).
+use Prim.Native.Nat.{ℕ, zero, suc, _+_, _-_}
+use native.Mathlib.Nat.{zero-add, suc-add, add-suc, add-zero, add-assoc}
+use native.Mathlib.Omega.{arith}
+use mathlib.Core.Path.{_≡_, refl, sym, ap, _∙_}
+use mathlib.Core.Bool.{Bool, true, false}
+use mathlib.Core.List.{List, [], _∷_, _++_, append-nil, append-assoc}
+use lib.ListN.{length}
+use lib.Dec.{leb}
+use lib.IntN.{ℤ}
+use Rattle.rules.specs.Equality.{Bindings}
+use Rattle.rules.specs.Search.{Atom, atom, State, state, after, row, Run, stopped, step, rowStep, run, start}
+
+-- The waiting states, the free words, the rows, steps and words so far; `full` is set by a row that does not fit.
+pub record Machine : Type 0 where
+  pub waiting : List State
+  pub left : ℕ
+  pub rows : ℕ
+  pub steps : ℕ
+  pub written : List ℤ
+  pub full : Bool
+
+-- A state with atoms left, one whose row fits, one whose row does not.
+unfoldable pub passing : Machine → List State → Machine
+passing k ss = record { waiting = ss; left = k .left; rows = k .rows; steps = suc (k .steps); written = k .written; full = false }
+
+unfoldable pub writing : Machine → List ℤ → List State → Machine
+writing k ws ss = record { waiting = ss; left = k .left - length ws; rows = suc (k .rows); steps = suc (k .steps); written = k .written ++ ws; full = false }
+
+unfoldable pub filling : Machine → List State → Machine
+filling k ss = record { waiting = ss; left = k .left; rows = k .rows; steps = suc (k .steps); written = k .written; full = true }
+
+-- One step. A machine that has ended stays as it is.
+unfoldable pub stepOn : Machine → List State → Machine
+unfolding passing writing filling after row
+stepOn k [] = k
+stepOn k (state [] e ∷ ss) = elim (leb (length (row e)) (k .left)) [ true ↦ writing k (row e) ss | false ↦ filling k ss ]
+stepOn k (state (atom p m v ∷ older) e ∷ ss) = passing k (after p m v older e ++ ss)
+
+unfoldable pub once : Machine → Machine
+unfolding stepOn
+once k = elim (k .full) [ true ↦ k | false ↦ stepOn k (k .waiting) ]
+
+unfoldable pub times : ℕ → Machine → Machine
+unfolding once
+times zero k = k
+times (suc n) k = times n (once k)
+
+-- The answer: 8 once full, 0 with no state left, else 7.
+unfoldable pub answerBy : Bool → List State → ℕ
+answerBy true ss = 8
+answerBy false [] = 0
+answerBy false (s ∷ ss) = 7
+
+unfoldable pub told : Machine → Run
+unfolding answerBy
+told k = record { answer = answerBy (k .full) (k .waiting); rows = k .rows; steps = k .steps; written = k .written }
+
+unfoldable pub opened : State → ℕ → Machine
+opened s room = record { waiting = s ∷ []; left = room; rows = 0; steps = 0; written = []; full = false }
+
+-- Portions add up.
+pub times-add : (a b : ℕ) (k : Machine) → times (a + b) k ≡ times b (times a k)
+unfolding times
+times-add zero b k = rw (zero-add b)
+times-add (suc a) b k = rw (suc-add a b) (times-add a b (once k))
+
+-- A machine that has ended stays as it is.
+still : (n : ℕ) (k : Machine) → once k ≡ k → times n k ≡ k
+unfolding times
+still zero k h = refl
+still (suc n) k h = ap (times n) h ∙ still n k h
+
+-- What a run adds to what a machine has done.
+on : ℕ → ℕ → List ℤ → Run → Run
+on rows steps written r = record { answer = r .answer; rows = rows + r .rows; steps = steps + r .steps; written = written ++ r .written }
+
+machine : List State → ℕ → ℕ → ℕ → List ℤ → Bool → Machine
+machine ss left rows steps written full = record { waiting = ss; left = left; rows = rows; steps = steps; written = written; full = full }
+
+same-run : (a : ℕ) {x x′ y y′ : ℕ} {w w′ : List ℤ} → x ≡ x′ → y ≡ y′ → w ≡ w′
+    → _≡_ {A = Run} (record { answer = a; rows = x; steps = y; written = w }) (record { answer = a; rows = x′; steps = y′; written = w′ })
+same-run a p q r i = record { answer = a; rows = p i; steps = q i; written = r i }
+
+on-step : (rows steps : ℕ) (written : List ℤ) (r : Run) → on rows (suc steps) written r ≡ on rows steps written (step r)
+unfolding on step
+on-step rows steps written r = same-run (r .answer) refl (omega arith) refl
+
+on-row : (rows steps : ℕ) (written ws : List ℤ) (r : Run) → on (suc rows) (suc steps) (written ++ ws) r ≡ on rows steps written (rowStep ws r)
+unfolding on rowStep
+on-row rows steps written ws r = same-run (r .answer) (omega arith) (omega arith) (append-assoc written ws (r .written))
+
+-- n steps give what the run gives.
+goes-on : (n : ℕ) (ss : List State) (left rows steps : ℕ) (written : List ℤ)
+    → told (times n (machine ss left rows steps written false)) ≡ on rows steps written (run n ss left)
+unfolding told times run machine on
+goes-on zero [] left rows steps written = same-run 0 (sym (add-zero rows)) (sym (add-zero steps)) (sym (append-nil written))
+goes-on zero (s ∷ ss) left rows steps written = same-run 7 (sym (add-zero rows)) (sym (add-zero steps)) (sym (append-nil written))
+goes-on (suc n) [] left rows steps written =
+    ap told (still n (machine [] left rows steps written false) refl) ∙ same-run 0 (sym (add-zero rows)) (sym (add-zero steps)) (sym (append-nil written))
+goes-on (suc n) (state [] e ∷ ss) left rows steps written =
+    go (leb (length (row e)) left) (goes-on n ss (left - length (row e)) (suc rows) (suc steps) (written ++ row e))
+  where
+    k : Machine
+    k = machine (state [] e ∷ ss) left rows steps written false
+
+    go : (b : Bool) → told (times n (writing k (row e) ss)) ≡ on (suc rows) (suc steps) (written ++ row e) (run n ss (left - length (row e)))
+        → told (times n (elim b as (λ _. Machine) [ true ↦ writing k (row e) ss | false ↦ filling k ss ]))
+        ≡ on rows steps written (elim b as (λ _. Run) [ true ↦ rowStep (row e) (run n ss (left - length (row e))) | false ↦ stopped 8 1 ])
+    go true h = h ∙ on-row rows steps written (row e) (run n ss (left - length (row e)))
+    go false h = ap told (still n (filling k ss) refl) ∙ same-run 8 (sym (add-zero rows)) (omega arith) (sym (append-nil written))
+goes-on (suc n) (state (atom p m v ∷ older) e ∷ ss) left rows steps written =
+    goes-on n (after p m v older e ++ ss) left rows (suc steps) written ∙ on-step rows steps written (run n (after p m v older e ++ ss) left)
+
+-- The whole run, by steps; and in portions.
+pub run-steps : (n : ℕ) (s : State) (room : ℕ) → told (times n (opened s room)) ≡ run n (s ∷ []) room
+unfolding machine on opened
+run-steps n s room = goes-on n (s ∷ []) room 0 0 [] ∙ same-run ((run n (s ∷ []) room) .answer) (zero-add _) (zero-add _) refl
+
+pub portions : (a b : ℕ) (s : State) (room : ℕ) → told (times b (times a (opened s room))) ≡ run (a + b) (s ∷ []) room
+portions a b s room = ap told (sym (times-add a b (opened s room))) ∙ run-steps (a + b) s room

@@ -1,0 +1,139 @@
+-- One step of the machine is one step of the search: what a configuration stands for afterwards.
+use Prim.Native.Nat.{ℕ, zero, suc, _+_, _-_, _≤_, _<_}
+use native.Mathlib.Nat.{add-zero, zero-add, suc-add, add-suc}
+use native.Mathlib.Omega.{arith}
+use mathlib.Core.Path.{_≡_, refl, sym, ap, _∙_}
+use mathlib.Core.Bool.{Bool, true, false}
+use mathlib.Core.Option.{Option, none, some}
+use mathlib.Core.List.{List, [], _∷_, _++_, map}
+use lib.ListN.{length, getElem?, length-append}
+use lib.IntN.{ℤ, pos}
+use Rattle.rules.specs.Forms.{Matcher, something, Pattern, wildcard, variable, Value}
+use Rattle.rules.specs.Reading.{entry}
+use Rattle.rules.specs.Equality.{Bindings, equal, isValue, raised}
+use Rattle.rules.specs.Search.{Halves, Atom, atom, State, state, isSomething, dropIf, after}
+use Rattle.program.specs.Points.{Kind, over, firstBy, whole, halves, branch, after-whole, Test, asConstant, asValue, asNil, tested, testBy, passes, Sound, after-test}
+use Rattle.program.specs.Points.{Instr, strip, drop, bind, test, split, end, Item, item, Point, point, finish, enter, from, known}
+use Rattle.program.specs.Points.{follow, Follows, Loose, after-loose, strips, drops, binds, tests, splits, ends}
+use Rattle.engine.specs.Held.{Data, Picked, Opened}
+use Rattle.engine.specs.Engine.{put, Slot, Conf, Turn, on, back, check, next, pushed, opening, exec, slotAfter, topAfter, chosen, choose, nextChoice, settle}
+use Rattle.engine.specs.Rep.{Waits, waits-none, waits, Bound, bound-none, bound, At, at, done, Chain, shut, open-at, Rep, over-all, live, put-same, put-below, waits-agree, bound-agree, chain-agree}
+
+isValue-at : (m : Matcher) (e : Bindings) (x : ℕ) (c : ℤ) (v w : Value) → getElem? e x ≡ some w → isValue m e (pos x) c v ≡ equal m (raised c w) v
+unfolding isValue entry
+isValue-at m e x c v w h = ap (λ z. elim z as (λ _. Bool) [ none ↦ false | some w ↦ equal m (raised c w) v ]) h
+
+module _ (D : Data) where
+  pub bound-snoc : {f : ℕ → D .Held} {i : ℕ} {ms : List Matcher} {e : Bindings} {m : Matcher} {v : Value}
+      → Bound D f i ms e → D .Is m (f (i + length ms)) v → Bound D f i (ms ++ (m ∷ [])) (e ++ (v ∷ []))
+  bound-snoc {i = i} bound-none h = bound (rw (add-zero i) at h) bound-none
+  bound-snoc {i = i} (bound {ms = ms} g b) h = bound g (bound-snoc b (rw (add-suc i (length ms), ← suc-add i (length ms)) at h))
+
+  bound-at : {f : ℕ → D .Held} {i : ℕ} {ms : List Matcher} {e : Bindings} {m : Matcher} → Bound D f i ms e
+      → (x : ℕ) → getElem? ms x ≡ some m → (w : Value) × (getElem? e x ≡ some w) × D .Is m (f (i + x)) w
+  bound-at bound-none x h = let z : _≡_ {A = ℕ} 0 1 = cc in absurd (omega arith)
+  bound-at {i = i} {m = m} (bound {m = k} {v = v} g b) zero h = let z : k ≡ m = cc in (v, refl, rw (add-zero i, ← z) g)
+  bound-at {i = i} (bound g b) (suc x) h = let r = bound-at b x h in (r .0, r .1, rw (suc-add i x, ← add-suc i x) at (r .2))
+
+  pub check-ok : (t : Test) {b : ℕ → D .Held} {h : D .Held} {v : Value} {ms : List Matcher} {e : Bindings}
+      → Sound t ms → D .Is (testBy t) h v → Bound D b 0 ms e → check D t b h ≡ passes t e v
+  unfolding Sound testBy check passes isValue entry
+  check-ok (asConstant c) {h = h} {v = v} s i b = D .isNumber-ok c h v i
+  check-ok (asValue m x c) {b = f} {h = h} {v = v} {e = e} s i b =
+      let r = bound-at b x (s .0) in
+      D .isSame-ok m c (f x) h (r .0) v (s .1) (rw (zero-add x) at (r .2)) i ∙ sym (isValue-at m e x c v (r .0) (r .1))
+  check-ok (asNil m) {h = h} {v = v} s i b = D .isEmptyHeld-ok m h v s i
+
+  module _ (code : ℕ → Instr) (points : ℕ → Point) where
+    live-at : {c : Conf D} {s : State} {ss : List State} (P : Point) → points (c .pc) ≡ P → c .top ≤ c .pc → At D (c .slots) (c .binds) (c .pc) (c .cur) P s
+        → Chain D code points (c .slots) (c .binds) (c .top) (length (known P)) ss → Rep D code points (some c) (s ∷ ss)
+    live-at {c} {s} {ss} P e l a ch = live {c = c} {s = s} {ss = ss} l (rw e a) (rw e ch)
+
+    -- A choice of the frame at j is taken.
+    chosen-rep : (c : Conf D) (j : ℕ) {ms : List Matcher} {ts : List Item} {older : List Atom} {e : Bindings} {ss : List State} (rest : List Halves)
+        (k : Kind) (p q : Pattern) (one two : D .Held) (mo : Option (D .Rem)) (f : Halves)
+        → code j ≡ split k → points (suc j) ≡ point ms p (firstBy k) (firstBy k) (item q (over k) j ∷ ts)
+        → (c .slots j) .prev ≤ j → Waits D (c .slots) j ts older → Bound D (c .binds) 0 ms e
+        → Chain D code points (c .slots) (c .binds) ((c .slots j) .prev) (length ms) ss
+        → D .Is (firstBy k) one (f .first) → D .Is (over k) two (f .second) → Opened (D .Left k ((c .slots j) .held)) mo rest
+        → Rep D code points (some (chosen D c j (record { one = one; two = two; more = mo }))) (branch k p q older e f ∷ (map (branch k p q older e) rest ++ ss))
+    unfolding chosen slotAfter topAfter branch Opened known
+    chosen-rep c j {ms} {ts} rest k p q one two none f cd pt l ws bs ch i₁ i₂ o =
+        rw o (live-at (point ms p (firstBy k) (firstBy k) (item q (over k) j ∷ ts)) pt (omega arith)
+        (at i₁ (waits {c = j} (omega arith) (rw put-same i₂) (waits-agree D (omega arith) same ws)) bs)
+        (chain-agree D code points (omega arith) (λ i h. same i (omega arith)) (λ i h. refl) ch))
+      where
+        same : (i : ℕ) → i < j → c .slots i ≡ put (c .slots) j (slotAfter D (c .slots j) none two) i
+        same i h = sym (put-below (c .slots) j _ i h)
+    chosen-rep c j {ms} {ts} {older} {e} {ss} rest k p q one two (some r) f cd pt l ws bs ch i₁ i₂ o =
+        live-at (point ms p (firstBy k) (firstBy k) (item q (over k) j ∷ ts)) pt (omega arith)
+        (at i₁ (waits {c = j} (omega arith) (rw put-same i₂) (waits-agree D (omega arith) same ws)) bs)
+        (open-at {ts = ts} {older = older} {e = e} {hs = rest} {ss = ss} k p q cd pt (rw put-same l) (omega arith) (rw put-same o) (waits-agree D (omega arith) same ws) bs
+        (rw put-same (chain-agree D code points (omega arith) (λ i h. same i (omega arith)) (λ i h. refl) ch)))
+      where
+        same : (i : ℕ) → i < j → c .slots i ≡ put (c .slots) j (slotAfter D (c .slots j) (some r) two) i
+        same i h = sym (put-below (c .slots) j _ i h)
+
+    -- The next choice of the last open frame.
+    choice-rep : (c : Conf D) {top n : ℕ} {ss : List State} → Chain D code points (c .slots) (c .binds) top n ss → Rep D code points (nextChoice D code top c) ss
+    unfolding nextChoice choose
+    choice-rep c shut = over-all
+    choice-rep c (open-at {j = j} {hs = hs} k p q cd pt l w left ws bs ch) =
+        let t = D .pick k ((c .slots j) .held) ((c .slots j) .rem) in
+        let r = D .pick-ok k ((c .slots j) .held) ((c .slots j) .rem) hs left in
+        rw (cd, r .2) (chosen-rep c j (r .1) k p q (t .one) (t .two) (t .more) (r .0) cd pt l ws bs ch (r .3) (r .4) (r .5))
+
+    -- An atom is dropped: the next one's value is taken from its slot.
+    entered : (c : Conf D) (b : ℕ → D .Held) (ms : List Matcher) {ts : List Item} {older : List Atom} {e : Bindings} {ss : List State}
+        → points (suc (c .pc)) ≡ enter ms ts → c .top ≤ c .pc → Waits D (c .slots) (c .pc) ts older → Bound D b 0 ms e
+        → Chain D code points (c .slots) b (c .top) (length ms) ss
+        → Rep D code points (some (next D c ((c .slots (from ts)) .second) b)) (state older e ∷ ss)
+    unfolding enter from next known
+    entered c b ms pt l waits-none bs ch = live-at (finish ms) pt (omega arith) (done bs) ch
+    entered c b ms pt l (waits {p = p} {m = m} {ts = ts} h i ws) bs ch =
+        live-at (point ms p m m ts) pt (omega arith) (at i (waits-agree D (omega arith) (λ i h. refl) ws) bs) ch
+
+    -- A test drops the atom or ends the state.
+    tested-rep : (c : Conf D) (b : Bool) (ms : List Matcher) {ts : List Item} {older : List Atom} {e : Bindings} {ss : List State}
+        → points (suc (c .pc)) ≡ enter ms ts → c .top ≤ c .pc → Waits D (c .slots) (c .pc) ts older → Bound D (c .binds) 0 ms e
+        → Chain D code points (c .slots) (c .binds) (c .top) (length ms) ss
+        → Rep D code points (settle D code (elim b as (λ _. Turn D) [ true ↦ on (next D c ((c .slots (from ts)) .second) (c .binds)) | false ↦ back c ]))
+        (dropIf b older e ++ ss)
+    unfolding settle dropIf
+    tested-rep c true ms pt l ws bs ch = entered c (c .binds) ms pt l ws bs ch
+    tested-rep c false ms pt l ws bs ch = choice-rep c ch
+
+    -- A division opens a frame, if there is a choice.
+    opened-rep : (c : Conf D) (k : Kind) (p q : Pattern) (mo : Option (D .Rem)) (hs : List Halves) {ms : List Matcher} {ts : List Item} {older : List Atom}
+        {e : Bindings} {ss : List State}
+        → code (c .pc) ≡ split k → points (suc (c .pc)) ≡ point ms p (firstBy k) (firstBy k) (item q (over k) (c .pc) ∷ ts)
+        → c .top ≤ c .pc → Opened (D .Left k (c .cur)) mo hs → Waits D (c .slots) (c .pc) ts older → Bound D (c .binds) 0 ms e
+        → Chain D code points (c .slots) (c .binds) (c .top) (length ms) ss
+        → Rep D code points (settle D code (back (opening D c mo))) (map (branch k p q older e) hs ++ ss)
+    unfolding settle opening pushed Opened
+    opened-rep c k p q none hs cd pt l o ws bs ch = rw o (choice-rep c ch)
+    opened-rep c k p q (some r) hs {ms} {ts} {older} {e} {ss} cd pt l o ws bs ch = choice-rep (pushed D c r)
+        (open-at {n = length ms} {ts = ts} {older = older} {e = e} {hs = hs} {ss = ss} k p q cd pt (rw put-same l) (omega arith) (rw put-same o)
+        (waits-agree D (omega arith) same ws) bs (rw put-same (chain-agree D code points (omega arith) (λ i h. same i (omega arith)) (λ i h. refl) ch)))
+      where
+        same : (i : ℕ) → i < c .pc → c .slots i ≡ (pushed D c r) .slots i
+        same i h = sym (put-below (c .slots) (c .pc) _ i h)
+
+    -- The step, by the instruction.
+    pub step-rep : (c : Conf D) (i : Instr) {P Q : Point} {s : State} {ss : List State} → code (c .pc) ≡ i → Follows (c .pc) i P Q → points (suc (c .pc)) ≡ Q
+        → c .top ≤ c .pc → At D (c .slots) (c .binds) (c .pc) (c .cur) P s → Chain D code points (c .slots) (c .binds) (c .top) (length (known P)) ss
+        → Rep D code points (settle D code (exec D i c)) (follow s ++ ss)
+    unfolding settle exec follow after known isSomething next
+    step-rep c i cd (strips {ms = ms} {p = p} {m = m} {ts = ts} h n) pt l (at {v = v} {older = older} {e = e} x ws bs) ch =
+        rw (after-loose h m v older e n) (live-at (point ms p something m ts) pt (omega arith) (at x (waits-agree D (omega arith) (λ i h. refl) ws) bs) ch)
+    step-rep c i cd (drops {ms = ms}) pt l (at x ws bs) ch = entered c (c .binds) ms pt l ws bs ch
+    step-rep c i cd (binds {ms = ms} {m = m}) pt l (at x ws bs) ch =
+        let same : (i : ℕ) → i < length ms → c .binds i ≡ put (c .binds) (length ms) (c .cur) i = λ i h. sym (put-below (c .binds) (length ms) (c .cur) i h) in
+        entered c (put (c .binds) (length ms) (c .cur)) (ms ++ (m ∷ [])) pt l ws
+        (bound-snoc (bound-agree D (omega arith) same bs) (rw (zero-add (length ms), put-same) x))
+        (chain-agree D code points (omega (arith, length-append ms (m ∷ []))) (λ i h. refl) same ch)
+    step-rep c i cd (tests {ms = ms} t sound) pt l (at {v = v} {older = older} {e = e} x ws bs) ch =
+        rw (after-test t v older e, ← check-ok t sound x bs) (tested-rep c (check D t (c .binds) (c .cur)) ms pt l ws bs ch)
+    step-rep c i cd (splits k p q) pt l (at {v = v} {older = older} {e = e} x ws bs) ch =
+        rw (after-whole k p q v older e) (opened-rep c k p q (D .opens k (c .cur)) (halves k v) cd pt l (D .opens-ok k (c .cur) v x) ws bs ch)
+    step-rep c i cd ends pt l (done bs) ch = choice-rep c ch

@@ -1,0 +1,173 @@
+-- The words of a target from a tag on: values one after the other, the first of which stands there. Assumes nothing.
+use mathlib.Core.Path.{_≡_, refl, sym, _∙_, ap, ap₂}
+use mathlib.Core.List.{List, [], _∷_, _++_, append-assoc, append-nil}
+use Prim.Native.Nat.{ℕ, zero, suc, _+_, _-_, _*_, _/_, _%_, _<_, _≤_}
+use native.Mathlib.Omega.{arith}
+use lib.ListN.{length, drop, length-append, length-drop}
+use lib.Seq.{drop-drop, drop-append-seam}
+use lib.IntN.{ℤ}
+use Rattle.rules.specs.Forms.{Value, int, collection, Values, empty, _▸_, count, words, wordsAll, size, sizeAll}
+use Rattle.promises.specs.Written.{largest, largestOf, length-words, length-words-all}
+use Rattle.holding.specs.Places.{firsts, lasts, forest, headOf, valueAt, Target, Tag, Standing, hops}
+
+-- Values one after the other.
+unfoldable pub follow : Values → Values → Values
+follow empty us = us
+follow (v ▸ vs) us = v ▸ follow vs us
+
+firsts-follow : (vs us : Values) → firsts (count vs) (follow vs us) ≡ vs
+unfolding firsts follow count
+firsts-follow empty us = refl
+firsts-follow (v ▸ vs) us = ap (λ (z : Values). v ▸ z) (firsts-follow vs us)
+
+lasts-follow : (vs us : Values) → lasts (count vs) (follow vs us) ≡ us
+unfolding lasts follow count
+lasts-follow empty us = refl
+lasts-follow (v ▸ vs) us = lasts-follow vs us
+
+follow-nil : (us : Values) → follow us empty ≡ us
+unfolding follow
+follow-nil empty = refl
+follow-nil (v ▸ vs) = ap (λ (z : Values). v ▸ z) (follow-nil vs)
+
+pub words-follow : (vs us : Values) → wordsAll (follow vs us) ≡ wordsAll vs ++ wordsAll us
+unfolding follow wordsAll
+words-follow empty us = refl
+words-follow (v ▸ vs) us = rw (words-follow vs us, append-assoc)
+
+mutual
+  unfolding forest words wordsAll follow
+
+  pub forest-words : (v : Value) (l : List ℤ) → forest (words v ++ l) ≡ v ▸ forest l
+  forest-words (int x) l = refl
+  forest-words (collection vs) l = rw (forest-all vs l, firsts-follow vs (forest l), lasts-follow vs (forest l))
+
+  pub forest-all : (vs : Values) (l : List ℤ) → forest (wordsAll vs ++ l) ≡ follow vs (forest l)
+  forest-all empty l = refl
+  forest-all (v ▸ vs) l = rw (append-assoc, forest-words v (wordsAll vs ++ l), forest-all vs l)
+
+mutual
+  unfolding size sizeAll
+
+  pub even-size : (v : Value) → size v % 2 ≡ 0
+  even-size (int x) = refl
+  even-size (collection vs) = let r = even-all vs in omega arith
+
+  pub even-all : (vs : Values) → sizeAll vs % 2 ≡ 0
+  even-all empty = refl
+  even-all (v ▸ vs) = let r = even-size v in let q = even-all vs in omega arith
+
+pub two-words : (v : Value) → 2 ≤ size v
+unfolding size
+two-words (int x) = omega arith
+two-words (collection vs) = omega arith
+
+-- ---- From each even index on there stand values.
+
+largest-follow : (b : ℕ) (vs us : Values) → largestOf vs ≤ b → largestOf us ≤ b → largestOf (follow vs us) ≤ b
+unfolding follow largestOf
+largest-follow b empty us h l = l
+largest-follow b (v ▸ vs) us h l = let r = largest-follow b vs us (omega arith) l in omega arith
+
+-- The words from there on are values', and no collection of these is larger.
+pub tail-flat : (b at : ℕ) → at % 2 ≡ 0 → (fs : Values) → largestOf fs ≤ b → (us : Values) × (drop at (wordsAll fs) ≡ wordsAll us) × (largestOf us ≤ b)
+unfolding words wordsAll largest largestOf
+tail-flat b zero e fs h = (fs, refl, h)
+tail-flat b (suc zero) e fs h = absurd (omega arith)
+tail-flat b (suc (suc at)) e empty h = (empty, refl, h)
+tail-flat b (suc (suc at)) e (int x ▸ fs) h = tail-flat b at (omega arith) fs (omega arith)
+tail-flat b (suc (suc at)) e (collection vs ▸ fs) h =
+    let r = tail-flat b at (omega arith) (follow vs fs) (largest-follow b vs fs (omega arith) (omega arith)) in
+    (r .0, ap (drop at) (sym (words-follow vs fs)) ∙ r .1, r .2)
+
+pub forest-flat : (us : Values) → forest (wordsAll us) ≡ us
+unfolding forest
+forest-flat us = ap forest (sym (append-nil (wordsAll us))) ∙ forest-all us [] ∙ follow-nil us
+
+pub flat-at : (s : List ℤ) (at : ℕ) → Target s → at % 2 ≡ 0 → drop at s ≡ wordsAll (forest (drop at s))
+flat-at s at g e =
+    let r = tail-flat (largestOf (forest s)) at e (forest s) (omega arith) in
+    let d : drop at s ≡ wordsAll (r .0) = ap (drop at) (g .whole) ∙ r .1 in
+    d ∙ ap wordsAll (sym (forest-flat (r .0)) ∙ ap forest (sym d))
+
+pub even-length : (s : List ℤ) → Target s → length s % 2 ≡ 0
+even-length s g = let e = ap length (g .whole) in omega (arith, e, length-words-all (forest s), even-all (forest s))
+
+-- What stands at a tag.
+pub record Here (s : List ℤ) (at : ℕ) : Type 0 where
+  pub stands : drop at s ≡ words (valueAt s at) ++ drop (at + size (valueAt s at)) s
+  pub more : forest (drop at s) ≡ valueAt s at ▸ forest (drop (at + size (valueAt s at)) s)
+  pub fits : at + size (valueAt s at) ≤ length s
+  pub two : 2 ≤ size (valueAt s at)
+
+pub here : (s : List ℤ) (at : ℕ) → Target s → at % 2 ≡ 0 → 0 < count (forest (drop at s)) → Here s at
+unfolding valueAt count wordsAll
+here s at g e h = go (forest (drop at s)) refl h (flat-at s at g e)
+  where
+    go : (us : Values) → forest (drop at s) ≡ us → 0 < count us → drop at s ≡ wordsAll (forest (drop at s)) → Here s at
+    go empty q h f = absurd (omega arith)
+    go (v ▸ us) q h f =
+        let d : drop at s ≡ words v ++ wordsAll us = f ∙ ap wordsAll q in
+        let a : drop (at + size v) s ≡ wordsAll us = sym (drop-drop (size v) at s) ∙ ap₂ drop (sym (length-words v)) d ∙ drop-append-seam (words v) (wordsAll us) in
+        let z : valueAt s at ≡ v = ap headOf q in
+        let n = ap length d in
+        let k : at + size v ≤ length s = omega (arith, n, length-drop at s, length-append (words v) (wordsAll us), length-words v, two-words v) in
+        record {
+          stands = rw (z, a) d;
+          more = rw (z, a, forest-flat us) q;
+          fits = rw z k;
+          two = two-words (valueAt s at);
+        }
+
+-- A tag within the words has a value.
+some-value : (s : List ℤ) (at : ℕ) → Target s → Tag s at → 0 < count (forest (drop at s))
+unfolding count wordsAll
+some-value s at g w = go (forest (drop at s)) (flat-at s at g (w .even))
+  where
+    go : (us : Values) → drop at s ≡ wordsAll us → 0 < count us
+    go empty f = let n = ap length f in let h = w .inside in absurd (omega (arith, n, length-drop at s))
+    go (v ▸ us) f = omega arith
+
+pub is-here : (s : List ℤ) (at : ℕ) → Target s → Tag s at → Here s at
+is-here s at g w = here s at g (w .even) (some-value s at g w)
+
+-- ---- Where values end that stand one after the other.
+
+pub hop-none : (s : List ℤ) (k e : ℕ) → k ≤ 0 → e ≡ hops s k e
+unfolding hops firsts sizeAll
+hop-none s zero e h = omega arith
+hop-none s (suc k) e h = absurd (omega arith)
+
+module _ (s : List ℤ) (k e : ℕ) (g : Target s) (r : Standing s k e) (h : 0 < k) where
+  at-first : Here s e
+  at-first = here s e g (r .even) (omega (arith, r .some))
+
+  pub hop-one : hops s k e ≡ hops s (k - 1) (e + size (valueAt s e))
+  unfolding hops firsts sizeAll
+  hop-one = go k h
+    where
+      go : (n : ℕ) → 0 < n → e + sizeAll (firsts n (forest (drop e s))) ≡ e + size (valueAt s e) + sizeAll (firsts (n - 1) (forest (drop (e + size (valueAt s e)) s)))
+      go zero h = absurd (omega arith)
+      go (suc n) h = let p : suc n - 1 ≡ n = omega arith in rw (p, at-first .more) (omega arith)
+
+  pub standing-tag : Tag s e
+  standing-tag = record { even = r .even; inside = omega (arith, at-first .fits, at-first .two) }
+
+  pub standing-next : Standing s (k - 1) (e + size (valueAt s e))
+  unfolding count
+  standing-next =
+      let n = ap count (at-first .more) in
+      let q = r .some in
+      record { even = omega (arith, r .even, even-size (valueAt s e)); some = omega (arith, n) }
+
+-- One more value.
+pub hop-more : (s : List ℤ) (j e : ℕ) → Target s → Standing s (suc j) e → hops s (suc j) e ≡ hops s j e + size (valueAt s (hops s j e))
+hop-more s zero e g r =
+    hop-one s 1 e g r (omega arith) ∙ sym (hop-none s 0 (e + size (valueAt s e)) (omega arith)) ∙ ap (λ (x : ℕ). x + size (valueAt s x)) (hop-none s 0 e (omega arith))
+hop-more s (suc j) e g r =
+    let x : Standing s (suc j) e = record { even = r .even; some = omega (arith, r .some) } in
+    let p : suc (suc j) - 1 ≡ suc j = omega arith in
+    let q : suc j - 1 ≡ j = omega arith in
+    let a = rw p at (hop-one s (suc (suc j)) e g r (omega arith)) in
+    let b = rw q at (hop-one s (suc j) e g x (omega arith)) in
+    a ∙ rw b (hop-more s j (e + size (valueAt s e)) g (rw p at (standing-next s (suc (suc j)) e g r (omega arith))))

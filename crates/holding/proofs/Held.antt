@@ -1,0 +1,85 @@
+-- What is held: by the tag, whole, and the next element that is left. Assumes nothing.
+use mathlib.Core.Path.{_≡_, refl, sym, _∙_, ap}
+use mathlib.Core.List.{List}
+use Prim.Native.Nat.{ℕ, zero, suc, _+_, _-_, _*_, _/_, _%_, _^_, _<_, _≤_}
+use native.Mathlib.Omega.{arith}
+use lib.ListN.{length, getD}
+use lib.IntN.{ℤ, pos}
+use lib.Count.{trailingZeros}
+use lib.Pow.{pow-pos, pow-mono}
+use Rattle.rules.specs.Forms.{Value, int, collection, Values, empty, _▸_, count, size, sizeAll}
+use Rattle.words.specs.Words.{tagAt}
+use Rattle.marks.specs.Marks.{clear, digit}
+use Rattle.marks.specs.Marked.{nth, marked, held}
+use Rattle.marks.proofs.Places.{by-digit, low-digit, low-lt, clear-lt, clear-is, digit-below}
+use Rattle.marks.proofs.Marked.{marked-low, marked-none, marked-all}
+use Rattle.holding.specs.Places.{valueAt, elements, countAt, Target, Tag, elementAt}
+use Rattle.holding.specs.Held.{Held, heldAt, wholeAt, left}
+use Rattle.holding.proofs.Elements.{int-at, collection-at, by-tag, count-elements, element-tag, element-value}
+
+module _ (s : List ℤ) (at m : ℕ) (g : Target s) (w : Tag s at) where
+  pub held-int : tagAt s at ≡ 0 → heldAt s at m ≡ int (getD s (at + 1) (pos 0))
+  unfolding heldAt held
+  held-int e = rw (int-at s at g w e)
+
+  pub held-collection : (tagAt s at ≡ 0 → ⊥) → heldAt s at m ≡ collection (left s at m)
+  unfolding heldAt held left
+  held-collection f = ap (λ (v : Value). held v m) (collection-at s at g w f)
+
+-- The marks of a value are at most 64.
+pub held-64 : (s : List ℤ) (at m : ℕ) → Target s → Held s at m → m < 2 ^ 64
+held-64 s at m g w = let p = pow-mono (g .small at (w .tag)) in omega (arith, w .marks)
+
+pub held-clear : (s : List ℤ) (at m k x : ℕ) → Held s at m → x ≡ clear k m → Held s at x
+held-clear s at m k x w i = record { tag = w .tag; marks = rw i (clear-lt (countAt s at) k m (w .marks)) }
+
+pub held-some : (s : List ℤ) (at m : ℕ) → Target s → Held s at m → m < 2 ^ count (elements (valueAt s at))
+held-some s at m g w = rw (count-elements s at g (w .tag)) (w .marks)
+
+-- The whole value.
+module _ (s : List ℤ) (at : ℕ) (g : Target s) (w : Tag s at) where
+  pub whole-held : Held s at (wholeAt s at)
+  unfolding wholeAt
+  whole-held = record { tag = w; marks = let p = pow-pos (countAt s at) in omega arith }
+
+  all-marked : left s at (wholeAt s at) ≡ elements (valueAt s at)
+  unfolding left wholeAt
+  all-marked = rw (← count-elements s at g w) (marked-all (elements (valueAt s at)))
+
+  pub whole-value : heldAt s at (wholeAt s at) ≡ valueAt s at
+  whole-value = by-tag s at g w _
+      (λ e. held-int s at (wholeAt s at) g w e ∙ sym (int-at s at g w e))
+      (λ f. held-collection s at (wholeAt s at) g w f ∙ ap collection all-marked ∙ sym (collection-at s at g w f))
+
+pub left-none : (s : List ℤ) (at m : ℕ) → m ≤ 0 → left s at m ≡ empty
+unfolding left
+left-none s at m h = let z : m ≡ 0 = omega arith in rw (z, marked-none (elements (valueAt s at)))
+
+-- ---- The next element that is left: the lowest mark.
+
+module _ (s : List ℤ) (at m k : ℕ) (g : Target s) (w : Held s at m) (d : k ≡ trailingZeros 64 m) (h : 0 < m) where
+  low-is : digit k m ≡ 1
+  low-is = rw d (low-digit 64 m h (held-64 s at m g w))
+
+  pub next-in : k < countAt s at
+  next-in = digit-below k (countAt s at) m low-is (w .marks)
+
+  pub next-64 : k < 64
+  next-64 = omega (arith, next-in, g .small at (w .tag))
+
+  pub next-less : (x : ℕ) → x ≡ clear (trailingZeros 64 m) m → x < m
+  next-less x i =
+      let c = clear-is (trailingZeros 64 m) m (low-digit 64 m h (held-64 s at m g w)) in
+      let p = pow-pos (trailingZeros 64 m) in
+      omega (arith, i, c)
+
+  module _ (e : ℕ) (i : e ≡ elementAt s at k) where
+    pub next-tag : Tag s e
+    next-tag = rw i (element-tag s at k g (w .tag) next-in)
+
+    pub next-value : valueAt s e ≡ nth (elements (valueAt s at)) (trailingZeros 64 m)
+    next-value = rw (i, ← d) (element-value s at k g (w .tag) next-in)
+
+    pub next-left : (x : ℕ) → x ≡ clear (trailingZeros 64 m) m → left s at m ≡ valueAt s e ▸ left s at x
+    unfolding left
+    next-left x j = rw (next-value, j) (marked-low (elements (valueAt s at)) 64 m h (held-some s at m g w) (held-64 s at m g w))

@@ -1,0 +1,14 @@
+-- `holding::places::whole` meets its contract. Assumes nothing.
+use Rattle.holding.proofs.Tables.{count-rules}
+use Rattle.holding.proofs.places.whole.Statement.{statement}
+use Rattle.holding.proofs.places.whole.Tie as tie
+use Rattle.holding.proofs.places.count_at.Reads as count-at-reads
+use Rattle.marks.proofs.full.Reads as full-reads
+
+pub whole-spec : {M : Type 1} → statement M
+whole-spec =
+    tie.close
+    (tie.spec
+    (λ c κs. search count-rules)
+    (λ c κs. search count-rules)
+    (λ c. search count-rules))

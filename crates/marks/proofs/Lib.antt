@@ -1,0 +1,4 @@
+pub mod Places
+pub mod Fronts
+pub mod Asked
+pub mod Marked

@@ -1,0 +1,156 @@
+-- The compiler on words: the lines of a rule's program, from the matcher's words and the pattern's.
+use Prim.Native.Nat.{ℕ, zero, suc, _+_, _-_, _%_}
+use mathlib.Core.Path.{_≡_, refl, _∙_}
+use mathlib.Core.Bool.{Bool, true, false, cond}
+use mathlib.Core.List.{List, [], _∷_, _++_}
+use lib.ListN.{length, getD, set}
+use lib.Dec.{eqb, ltb}
+use lib.IntN.{ℤ, pos}
+use Rattle.words.specs.Words.{tagZ, tagAt}
+
+-- ---- A line is one instruction in numbers.
+
+-- `op`: 0 end, 1 the same atom under something, 2 drop, 3 bind, 4 constant, 5 value under integer, 6 value under a collection, 7 nil, 8 cons under a
+-- list, 9 cons under a multiset, 10 join. `from`: the slot of the value for the atom after one that is dropped. `arg`: the variable of 3, 5 and 6.
+-- `mat`: the index of the matcher's tag in the matcher's words. `con`: the constant of 4, the number that 5 and 6 add.
+pub record Line : Type 0 where
+  pub op : ℕ
+  pub from : ℕ
+  pub arg : ℕ
+  pub mat : ℕ
+  pub con : ℤ
+
+abbrev pub line : ℕ → ℕ → ℕ → ℕ → ℤ → Line
+line o f a i c = record { op = o; from = f; arg = a; mat = i; con = c }
+
+abbrev pub endLine : Line
+endLine = line 0 0 0 0 (pos 0)
+
+-- ---- What a pattern's tag becomes.
+
+-- By the pattern's tag, under a matcher with the tag k. 0: no line of a rule that was accepted.
+unfoldable pub opsUnder : ℕ → List ℕ
+opsUnder k =
+    2  -- wildcard
+    ∷ 3  -- variable
+    ∷ 4  -- constant
+    ∷ cond (eqb k 1) 5 6  -- value
+    ∷ 7  -- nil
+    ∷ cond (eqb k 2) 8 (cond (eqb k 3) 9 0)  -- cons
+    ∷ 10  -- join
+    ∷ []
+
+unfoldable pub opOf : (tag k : ℕ) → ℕ
+unfolding opsUnder
+opOf tag k = getD (opsUnder k) tag 0
+
+-- How many operands the words have after the tag.
+unfoldable pub operandsOf : (op : ℕ) → ℕ
+operandsOf o = cond (ltb o 3) 0 (cond (ltb o 5) 1 (cond (ltb o 7) 2 0))
+
+-- Of n operands the first may name a variable (of a rule that was accepted it is below 16), and the last may be the constant or the number to add.
+unfoldable pub argOf : (n : ℕ) → List ℤ → ℕ
+unfolding tagAt
+argOf n ws = cond (eqb n 0) 0 (tagAt ws 0 % 16)
+
+unfoldable pub conOf : (n : ℕ) → List ℤ → ℤ
+conOf n ws = cond (eqb n 0) (pos 0) (getD ws (n - 1) (pos 0))
+
+-- Under a matcher with a tag k other than something's, a wildcard or a variable is first put under something.
+unfoldable pub stripLines : (k op i : ℕ) → List Line
+stripLines k o i = cond (eqb k 0) [] (cond (ltb o 4) (line 1 0 0 i (pos 0) ∷ []) [])
+
+-- The line of a tag without parts, before the words ws.
+unfoldable pub leafLine : (op i from : ℕ) → List ℤ → Line
+unfolding operandsOf argOf conOf
+leafLine o i f ws = line o f (argOf (operandsOf o) ws) i (conOf (operandsOf o) ws)
+
+-- "Cons puts its first part under M", whose words follow the tag of list M or multiset M; join puts it under list M.
+unfoldable pub firstUnder : (op i : ℕ) → ℕ
+firstUnder o i = cond (eqb o 10) i (i + 1)
+
+-- ---- The lines from a place on.
+
+-- A second part that waits: the index of its matcher, and the slot where its value will be.
+pub data Waiting : Type 0 where
+  waits : (mat slot : ℕ) → Waiting
+
+unfoldable pub slotOf : List Waiting → ℕ
+slotOf [] = 0
+slotOf (waits i c ∷ ts) = c
+
+-- What follows a tag without parts: the second part that waits; the end, where none does.
+unfoldable pub resumed : List Waiting → (again : ℕ → List Waiting → List Line) → List Line
+resumed [] again = endLine ∷ []
+resumed (waits i c ∷ ts) again = again i ts
+
+-- The lines of a tag at the place pc, and of what follows it, of which `again skip i ts pc` has the lines.
+unfoldable pub taken : (k op i : ℕ) → List Waiting → (pc : ℕ) → List ℤ → (again : ℕ → ℕ → List Waiting → ℕ → List Line) → List Line
+unfolding stripLines leafLine firstUnder slotOf resumed operandsOf
+taken k o i ts pc ws again =
+    cond (ltb 7 o) (line o 0 0 i (pos 0) ∷ again 0 (firstUnder o i) (waits i pc ∷ ts) (suc pc))
+    (stripLines k o i ++ (leafLine o i (slotOf ts) ws ∷ resumed ts (λ j us. again (operandsOf o) j us (suc (pc + length (stripLines k o i))))))
+
+-- After `skip` operands comes a pattern under the matcher at i, then the second parts that wait.
+unfoldable pub linesFrom : (ms : List ℤ) (skip i : ℕ) → List Waiting → (pc : ℕ) → List ℤ → List Line
+unfolding taken opOf tagAt
+linesFrom ms skip i ts pc [] = endLine ∷ []
+linesFrom ms (suc skip) i ts pc (w ∷ ws) = linesFrom ms skip i ts pc ws
+linesFrom ms zero i ts pc (w ∷ ws) =
+    taken (tagAt ms i) (opOf (tagZ w) (tagAt ms i)) i ts pc ws (λ skip j us q. linesFrom ms skip j us q ws)
+
+unfoldable pub linesOf : (ms ps : List ℤ) → List Line
+unfolding linesFrom
+linesOf ms ps = linesFrom ms 0 0 [] 0 ps
+
+-- How many variables: a row has so many values.
+unfoldable pub binding : (op : ℕ) → ℕ
+binding o = cond (eqb o 3) 1 0
+
+unfoldable pub variablesIn : List Line → ℕ
+unfolding binding
+variablesIn [] = 0
+variablesIn (l ∷ ls) = binding (l .op) + variablesIn ls
+
+-- ---- The program lies in five arrays, one for each field of a line.
+
+pub record Columns : Type 0 where
+  pub op : List ℕ
+  pub from : List ℕ
+  pub arg : List ℕ
+  pub mat : List ℕ
+  pub con : List ℤ
+
+abbrev pub columns : List ℕ → List ℕ → List ℕ → List ℕ → List ℤ → Columns
+columns o f a i c = record { op = o; from = f; arg = a; mat = i; con = c }
+
+unfoldable pub written : ℕ → Line → Columns → Columns
+written pc l t = columns (set (t .op) pc (l .op)) (set (t .from) pc (l .from)) (set (t .arg) pc (l .arg)) (set (t .mat) pc (l .mat)) (set (t .con) pc (l .con))
+
+-- The lines from a place on; every other entry is what it was.
+unfoldable pub laid : ℕ → List Line → Columns → Columns
+unfolding written
+laid pc [] t = t
+laid pc (l ∷ ls) t = laid (suc pc) ls (written pc l t)
+
+-- ---- The lines by the tag of the first word, as the code takes it.
+
+lines-word : (ms : List ℤ) (i : ℕ) (ts : List Waiting) (pc : ℕ) (w : ℤ) (ws : List ℤ) → linesFrom ms 0 i ts pc (w ∷ ws)
+    ≡ taken (tagAt ms i) (opOf (tagZ w) (tagAt ms i)) i ts pc ws (λ skip j us q. linesFrom ms skip j us q ws)
+unfolding linesFrom
+lines-word ms i ts pc w ws = refl
+
+module _ (ms : List ℤ) (i : ℕ) (w : ℤ) (k o : ℕ) (g : k ≡ tagAt ms i) (x : o ≡ opOf (tagZ w) k) where
+  lines-tag : (ts : List Waiting) (pc : ℕ) (ws : List ℤ)
+      → linesFrom ms 0 i ts pc (w ∷ ws) ≡ taken k o i ts pc ws (λ skip j us q. linesFrom ms skip j us q ws)
+  lines-tag ts pc ws = lines-word ms i ts pc w ws ∙ rw (← g, ← x)
+
+  pub lines-split : ltb 7 o ≡ true → (ts : List Waiting) (pc : ℕ) (ws : List ℤ) → linesFrom ms 0 i ts pc (w ∷ ws)
+      ≡ line o 0 0 i (pos 0) ∷ linesFrom ms 0 (firstUnder o i) (waits i pc ∷ ts) (suc pc) ws
+  unfolding taken
+  lines-split l ts pc ws = lines-tag ts pc ws ∙ rw l
+
+  pub lines-leaf : ltb 7 o ≡ false → (ts : List Waiting) (pc : ℕ) (ws : List ℤ) → linesFrom ms 0 i ts pc (w ∷ ws)
+      ≡ stripLines k o i ++ (leafLine o i (slotOf ts) ws ∷ resumed ts (λ j us. linesFrom ms (operandsOf o) j us (suc (pc + length (stripLines k o i))) ws))
+  unfolding taken
+  lines-leaf l ts pc ws = lines-tag ts pc ws ∙ rw l

@@ -1,0 +1,174 @@
+-- What match gives for a sane input, at every budget and with every room.
+use Prim.Native.Nat.{ℕ, zero, suc, _*_, _≤_, _<_}
+use native.Mathlib.Omega.{arith}
+use native.Mathlib.Nat.{le-trans, mul-assoc}
+use mathlib.Core.Path.{_≡_, refl, sym, ap, _∙_, subst}
+use mathlib.Core.Logic.{_↔_}
+use mathlib.Core.List.{List, [], _∷_, _++_, map, flatMap, List·Memᴰ·not-nil, List·Memᴰ·head}
+use lib.ListN.{length, length-map, take, drop}
+use lib.IntN.{ℤ}
+use Rattle.rules.specs.Forms.{Value, words, size}
+use Rattle.rules.specs.Reading.{ok}
+use Rattle.rules.specs.Variables.{variables}
+use Rattle.rules.specs.Equality.{Bindings}
+use Rattle.rules.specs.Search.{row, Run, run, start}
+use Rattle.rules.specs.Ways.{Way, Good}
+use Rattle.rules.specs.Review.{weights}
+use Rattle.rules.specs.Services.{Rule, Matched, carriedOut, match}
+use Rattle.promises.specs.Written.{variableTags, largest, length-words}
+use Rattle.promises.specs.Lists.{Mem, flatMap-map}
+use Rattle.promises.specs.Trace.{Taken, trace, walk, run-walks}
+use Rattle.promises.specs.Solve.{Solution, solve, founds, founds-start}
+use Rattle.promises.specs.Listing.{solve-listing}
+use Rattle.promises.specs.Budget.{report, Full, Outcome, done, spent, full}
+use Rattle.promises.specs.Budget.{walk-outcome, walk-full, full-rows, answers-0, answers-7, answers-8, steps-most, first-rows}
+use Rattle.promises.specs.Bound.{product, steps-bound, rows-bound}
+use Rattle.promises.specs.Numbering.{variables-found}
+use Rattle.promises.specs.Room.{rows-words}
+use Rattle.promises.specs.ReadTarget.{target-read}
+use Rattle.promises.specs.Reviewing.{countOf}
+use Rattle.promises.specs.Faults.{Sane, WellFormed, match-ran}
+
+-- The states of the search in the order in which they are taken up; and the good ways, in dictionary order.
+unfoldable pub states : Rule → Value → List Taken
+unfolding trace start
+states r v = trace (start (r .matcher) (r .pattern) v ∷ [])
+
+unfoldable pub ways : Rule → Value → List Solution
+unfolding solve
+ways r v = solve (r .pattern) (r .matcher) v []
+
+-- The words of the rows of ways.
+unfoldable pub rowsOfWays : List Solution → List ℤ
+unfolding flatMap row
+rowsOfWays ss = flatMap (λ s. row (s .bound)) ss
+
+take-map : {A B : Type 0} (f : A → B) (n : ℕ) (xs : List A) → take n (map f xs) ≡ map f (take n xs)
+take-map f zero xs = refl
+take-map f (suc n) [] = refl
+take-map {A} {B} f (suc n) (x ∷ xs) = ap {B = List B} (λ l. f x ∷ l) (take-map f n xs)
+
+-- No state's row is found exactly when there is no good way.
+founds-ways : (r : Rule) (v : Value) → length (founds (states r v)) ≡ length (ways r v)
+unfolding states ways
+founds-ways r v = ap length (founds-start (r .matcher) (r .pattern) v) ∙ length-map (ways r v) (λ (s : Solution). s .bound)
+
+no-ways : (r : Rule) (v : Value) → length (ways r v) ≡ 0 ↔ ((w : Way) (e : Bindings) → Good (r .matcher) (r .pattern) v w e → ⊥)
+unfolding ways
+no-ways r v = (
+  λ z w e g. go (ways r v) z (solve-listing (r .matcher) (r .pattern) v .complete w e g),
+  λ n. back (ways r v) (λ s i. n (s .way) (s .bound) (solve-listing (r .matcher) (r .pattern) v .sound s i)),
+)
+  where
+    go : (ss : List Solution) {s : Solution} → length ss ≡ 0 → Mem s ss → ⊥
+    go [] z i = List·Memᴰ·not-nil i
+    go (s ∷ ss) z i = omega arith
+
+    back : (ss : List Solution) → ((s : Solution) → Mem s ss → ⊥) → length ss ≡ 0
+    back [] h = refl
+    back (s ∷ ss) h = absurd (h s (List·Memᴰ·head refl))
+
+module _ (ms ps ts : List ℤ) (budget : ℕ) (room : List ℤ) (r : Rule) (v : Value) (sane : Sane ms ps ts r v) where
+  abbrev it : Matched
+  it = match ms ps ts budget room
+
+  abbrev ran : Run
+  ran = run budget (start (r .matcher) (r .pattern) v ∷ []) (length room)
+
+  pub outcome : Outcome budget (length room) (states r v) ran
+  unfolding states
+  outcome = subst (λ (x : Run). Outcome budget (length room) (trace (start (r .matcher) (r .pattern) v ∷ [])) x)
+      (sym (run-walks budget (start (r .matcher) (r .pattern) v ∷ []) (length room))) (walk-outcome budget (states r v) (length room))
+
+  pub result : it ≡ carriedOut ran room
+  result = match-ran ms ps ts budget room r v sane
+
+  -- The answers.
+  by-answer : (n : ℕ) (C : Type 0) → ran .answer ≡ n ↔ C → it .answer ≡ n ↔ C
+  unfolding carriedOut
+  by-answer n C e = let q = ap (λ (x : Matched). x .answer) result in ((λ h. e .0 (sym q ∙ h)), λ c. q ∙ e .1 c)
+
+  pub answer-0 : it .answer ≡ 0 ↔ (length (states r v) ≤ budget) × (Full budget (length room) (states r v) → ⊥)
+  answer-0 = by-answer 0 _ (answers-0 budget (length room) (states r v) ran outcome)
+
+  pub answer-7 : it .answer ≡ 7 ↔ (budget < length (states r v)) × (Full budget (length room) (states r v) → ⊥)
+  answer-7 = by-answer 7 _ (answers-7 budget (length room) (states r v) ran outcome)
+
+  pub answer-8 : it .answer ≡ 8 ↔ Full budget (length room) (states r v)
+  answer-8 = by-answer 8 _ (answers-8 budget (length room) (states r v) ran outcome)
+
+  -- The state whose row does not fit is counted as a step, and the rows before it stand whole.
+  pub full-stands : (f : Full budget (length room) (states r v)) → it ≡ carriedOut (report 8 (suc (length (f .before))) (f .before)) room
+  unfolding states
+  full-stands f = result ∙ ap (λ x. carriedOut x room) (run-walks budget (start (r .matcher) (r .pattern) v ∷ []) (length room)
+      ∙ ap (λ l. walk budget l (length room)) (f .is) ∙ walk-full budget (length room) (f .before) (f .bound) (f .after) (f .reached) (f .fit) (f .over))
+
+  -- ---- The rows.
+
+  -- The rows found are those of the first good ways; they stand whole from the start of the room, and every word after them is untouched.
+  pub first-ways : (it .rows ≤ length (ways r v)) × (it .words ≡ length (rowsOfWays (take (it .rows) (ways r v))))
+      × (it .room ≡ rowsOfWays (take (it .rows) (ways r v)) ++ drop (it .words) room)
+  unfolding carriedOut states ways rowsOfWays
+  first-ways =
+      let f = first-rows budget (length room) (states r v) ran outcome in
+      let k : founds (states r v) ≡ map (λ (s : Solution). s .bound) (ways r v) = founds-start (r .matcher) (r .pattern) v in
+      let w : ran .written ≡ rowsOfWays (take (ran .rows) (ways r v)) =
+      f .1 ∙ ap (λ l. flatMap row (take (ran .rows) l)) k ∙ ap (flatMap row) (take-map (λ (s : Solution). s .bound) (ran .rows) (ways r v))
+      ∙ flatMap-map row (λ (s : Solution). s .bound) (take (ran .rows) (ways r v)) in
+      subst (λ (x : Matched). (x .rows ≤ length (ways r v)) × (x .words ≡ length (rowsOfWays (take (x .rows) (ways r v))))
+      × (x .room ≡ rowsOfWays (take (x .rows) (ways r v)) ++ drop (x .words) room)) (sym result)
+      (omega (arith, f .0, ap length k ∙ length-map (ways r v) (λ (s : Solution). s .bound)), ap length w, ap (λ l. l ++ drop (length (ran .written)) room) w)
+
+  done-rows : Outcome budget (length room) (states r v) ran → ran .answer ≡ 0 → ran .rows ≡ length (ways r v)
+  unfolding report
+  done-rows (done h f q) a = ap (λ (x : Run). x .rows) q ∙ founds-ways r v
+  done-rows (spent h f q) a = let b = ap (λ (x : Run). x .answer) q in absurd (omega arith)
+  done-rows (full f q) a = let b = ap (λ (x : Run). x .answer) q in absurd (omega arith)
+
+  -- Every row is found where the answer is 0.
+  pub all-ways : it .answer ≡ 0 → it .rows ≡ length (ways r v)
+  unfolding carriedOut
+  all-ways a = ap (λ (x : Matched). x .rows) result ∙ done-rows outcome (sym (ap (λ (x : Matched). x .answer) result) ∙ a)
+
+  -- "No row".
+  pub no-row : (it .answer ≡ 0) × (it .rows ≡ 0) ↔ (length (states r v) ≤ budget) × ((w : Way) (e : Bindings) → Good (r .matcher) (r .pattern) v w e → ⊥)
+  no-row = (
+    λ h. (answer-0 .0 (h .0) .0, no-ways r v .0 (sym (all-ways (h .0)) ∙ h .1)),
+    λ h. let z = no-ways r v .1 (h .1) in
+        let a = answer-0 .1 (h .0, λ f. let k = full-rows budget (length room) (states r v) f .0 in let l = founds-ways r v in omega arith) in
+        (a, all-ways a ∙ z),
+  )
+
+  -- ---- Review's numbers.
+
+  module _ (most : ℕ) (small : largest v ≤ most) where
+    pub steps-bounded : it .steps ≤ countOf most r
+    unfolding carriedOut states countOf
+    steps-bounded =
+        let q = ap (λ (x : Matched). x .steps) result in
+        omega (arith, steps-most budget (length room) (states r v) ran outcome, steps-bound most (r .matcher) (r .pattern) v small)
+
+    pub rows-bounded : it .rows ≤ product (weights most (r .pattern) (r .matcher))
+    unfolding ways
+    rows-bounded = le-trans (first-ways .0) (rows-bound most (r .pattern) (r .matcher) v [] small)
+
+    pub room-enough : countOf most r ≤ budget
+        → product (weights most (r .pattern) (r .matcher)) * variableTags (r .pattern) * length ts ≤ length room → it .answer ≡ 0
+    unfolding states countOf
+    room-enough b h = answer-0 .1 (
+      le-trans (steps-bound most (r .matcher) (r .pattern) v small) b,
+      λ f. let k = full-rows budget (length room) (states r v) f .1 in
+          let w = rows-words most (r .matcher) (r .pattern) v small in
+          let l : length ts ≡ size v = ap length (target-read ts v .0 (sane .target .target) .0) ∙ length-words v in
+          let e = ap (λ n. product (weights most (r .pattern) (r .matcher)) * variableTags (r .pattern) * n) l
+          ∙ mul-assoc (product (weights most (r .pattern) (r .matcher))) (variableTags (r .pattern)) (size v) in
+          omega arith,
+    )
+
+-- The variables that the test counts.
+pub tags-counted : (ms ps : List ℤ) (r : Rule) → WellFormed ms ps r
+    → (variables (r .pattern) 0 0 ≡ ok (variableTags (r .pattern))) × (variableTags (r .pattern) ≤ 16)
+tags-counted ms ps r w =
+    let f = variables-found (r .pattern) 0 0 (w .numbered .0) (w .numbered .1) in
+    let k : w .numbered .0 ≡ variableTags (r .pattern) = omega (arith, f .0) in
+    (w .numbered .1 ∙ ap ok k, subst (λ n. n ≤ 16) k (f .1 (omega arith)))

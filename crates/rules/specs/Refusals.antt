@@ -1,0 +1,144 @@
+-- Document 01, sections 2, 3 and 8: refusals and limits, each with its answer and place, in one table under one claim.
+use Prim.Native.Nat.{ℕ, zero, suc}
+use mathlib.Core.Path.{_≡_, refl}
+use mathlib.Core.List.{List, [], _∷_, _++_, map}
+use lib.ListN.{replicate}
+use lib.IntN.{ℤ, pos}
+use Rattle.rules.specs.Tables.{Case, matching, reviewing, _⇒_writing_, computed, stated, nums, minus, ints, braces}
+
+-- A call that is refused with an answer at a place: no row, no step, no word, and the room as it was.
+abbrev refuses : (matcher pattern target : List ℤ) (answer place : ℕ) → Case
+refuses m p t a i = matching m p t 100000 3 ⇒ (a ∷ i ∷ 0 ∷ 0 ∷ 0 ∷ []) writing []
+
+-- A call that is not refused: so many rows of no words, in so many steps.
+abbrev passes : (matcher pattern target : List ℤ) (rows steps : ℕ) → Case
+passes m p t n k = matching m p t 100000 3 ⇒ (0 ∷ 0 ∷ n ∷ k ∷ 0 ∷ []) writing []
+
+abbrev declines : (matcher pattern : List ℤ) (most : ℤ) (answer place : ℕ) → Case
+declines m p most a i = reviewing m p most ⇒ (a ∷ i ∷ 0 ∷ []) writing []
+
+-- n times cons over a wildcard, with a wildcard rest: 2 n + 1 words.
+abbrev chain : ℕ → List ℤ
+chain zero = pos 0 ∷ []
+chain (suc n) = pos 5 ∷ pos 0 ∷ chain n
+
+-- n nested collections, the innermost empty.
+abbrev deep : ℕ → List ℤ
+deep zero = []
+deep (suc zero) = nums (1 ∷ 0 ∷ [])
+deep (suc (suc n)) = nums (1 ∷ 1 ∷ []) ++ deep (suc n)
+
+-- n nested collections, and in the innermost an integer.
+abbrev deepInt : ℕ → List ℤ
+deepInt zero = nums (0 ∷ 5 ∷ [])
+deepInt (suc n) = nums (1 ∷ 1 ∷ []) ++ deepInt n
+
+-- A chain of conses that binds n variables, the first of them with number k.
+abbrev binding : ℕ → ℕ → List ℤ
+binding k zero = pos 4 ∷ []
+binding k (suc n) = pos 5 ∷ pos 1 ∷ pos k ∷ binding (suc k) n
+
+abbrev something : List ℤ
+something = nums (0 ∷ [])
+
+abbrev integer : List ℤ
+integer = nums (1 ∷ [])
+
+abbrev listInteger : List ℤ
+listInteger = nums (2 ∷ 1 ∷ [])
+
+abbrev multisetInteger : List ℤ
+multisetInteger = nums (3 ∷ 1 ∷ [])
+
+abbrev wildcard : List ℤ
+wildcard = nums (0 ∷ [])
+
+abbrev none : List ℤ
+none = []
+
+unfoldable pub table : List Case
+table =
+    -- 1 matcher
+    refuses none none none 1 0  -- cut short
+    ∷ refuses (nums (2 ∷ 3 ∷ [])) none none 1 2
+    ∷ refuses (nums (4 ∷ [])) none none 1 0  -- a wrong tag
+    ∷ refuses (minus 1 ∷ []) none none 1 0
+    ∷ refuses (nums (3 ∷ 9 ∷ [])) none none 1 1
+    ∷ refuses (nums (1 ∷ 1 ∷ [])) none none 1 1  -- left over
+    ∷ refuses (nums (3 ∷ 0 ∷ 5 ∷ 5 ∷ [])) none none 1 2
+    ∷ passes (nums (2 ∷ 2 ∷ 2 ∷ 2 ∷ 1 ∷ [])) wildcard (braces []) 1 3  -- four tags 2 or 3
+    ∷ refuses (nums (2 ∷ 2 ∷ 2 ∷ 2 ∷ 2 ∷ 1 ∷ [])) wildcard (braces []) 1 4  -- a fifth
+    ∷ refuses (nums (2 ∷ 3 ∷ 2 ∷ 3 ∷ 3 ∷ [])) wildcard (braces []) 1 4  -- a fifth that also ends the slice
+    ∷ refuses (replicate 2000 (pos 1)) none none 1 1
+    -- 2 pattern
+    ∷ refuses integer none none 2 0  -- cut short
+    ∷ refuses integer (nums (1 ∷ [])) none 2 1
+    ∷ refuses integer (nums (3 ∷ 0 ∷ [])) none 2 2
+    ∷ refuses integer (nums (5 ∷ 0 ∷ [])) none 2 2
+    ∷ refuses integer (nums (7 ∷ [])) none 2 0  -- a wrong tag
+    ∷ refuses integer (pos 5 ∷ pos 0 ∷ minus 1 ∷ []) none 2 2
+    ∷ refuses integer (nums (0 ∷ 0 ∷ [])) none 2 1  -- left over
+    ∷ passes multisetInteger (chain 127) (braces []) 0 1  -- 255 words
+    ∷ passes multisetInteger (nums (5 ∷ 1 ∷ 0 ∷ []) ++ chain 126) (braces []) 0 1  -- 256 words
+    ∷ refuses integer (replicate 256 (pos 5)) none 2 256  -- 256 words, cut short
+    ∷ refuses integer (replicate 257 (pos 99)) none 2 256  -- 257 words, before any other look
+    ∷ refuses multisetInteger (chain 128) none 2 256
+    -- 3 variable
+    ∷ refuses multisetInteger (nums (5 ∷ 0 ∷ 5 ∷ 1 ∷ 1 ∷ 4 ∷ [])) none 3 3  -- the first is not 0
+    ∷ refuses multisetInteger (nums (5 ∷ 1 ∷ 0 ∷ 1 ∷ 0 ∷ [])) none 3 3  -- one stands twice
+    ∷ refuses multisetInteger (pos 1 ∷ minus 1 ∷ []) none 3 0
+    ∷ refuses multisetInteger (nums (5 ∷ 3 ∷ 0 ∷ 0 ∷ 1 ∷ 0 ∷ [])) none 3 1  -- a tag 3 before its variable
+    ∷ refuses multisetInteger (pos 5 ∷ pos 3 ∷ minus 1 ∷ pos 0 ∷ pos 0 ∷ []) none 3 1
+    ∷ refuses multisetInteger (binding 0 16) none 5 0  -- sixteen variables
+    ∷ refuses multisetInteger (binding 0 17) none 3 49  -- a seventeenth
+    ∷ refuses multisetInteger (nums (5 ∷ 4 ∷ 1 ∷ 1 ∷ [])) none 3 2  -- a misfit stands to its left
+    -- 4 misfit
+    ∷ refuses something (nums (2 ∷ 7 ∷ [])) none 4 0
+    ∷ refuses something (nums (4 ∷ [])) none 4 0
+    ∷ refuses integer (nums (4 ∷ [])) none 4 0
+    ∷ refuses integer (nums (5 ∷ 0 ∷ 0 ∷ [])) none 4 0
+    ∷ refuses listInteger (nums (2 ∷ 7 ∷ [])) none 4 0
+    ∷ refuses multisetInteger (nums (6 ∷ 0 ∷ 0 ∷ [])) none 4 0  -- join under a multiset
+    ∷ refuses listInteger (nums (6 ∷ 0 ∷ 5 ∷ 4 ∷ 0 ∷ [])) none 4 3  -- nil under integer
+    ∷ refuses listInteger (nums (6 ∷ 1 ∷ 0 ∷ 3 ∷ 0 ∷ 1 ∷ [])) none 4 3  -- c is not 0 at a list
+    ∷ refuses (nums (2 ∷ 0 ∷ [])) (nums (6 ∷ 1 ∷ 0 ∷ 3 ∷ 0 ∷ 0 ∷ [])) none 4 3  -- something occurs
+    ∷ refuses listInteger (nums (5 ∷ 1 ∷ 0 ∷ 3 ∷ 0 ∷ 0 ∷ [])) none 4 3  -- the variable stands under another matcher
+    -- 5 target
+    ∷ refuses something wildcard none 5 0  -- cut short
+    ∷ refuses something wildcard (nums (0 ∷ [])) 5 1
+    ∷ refuses something wildcard (nums (1 ∷ [])) 5 1
+    ∷ refuses something wildcard (nums (1 ∷ 2 ∷ 0 ∷ 7 ∷ [])) 5 4
+    ∷ refuses something wildcard (nums (2 ∷ [])) 5 0  -- a wrong tag
+    ∷ refuses something wildcard (nums (1 ∷ 1 ∷ 3 ∷ 0 ∷ [])) 5 2
+    ∷ refuses something wildcard (nums (0 ∷ 7 ∷ 7 ∷ [])) 5 2  -- left over
+    ∷ refuses something wildcard (pos 1 ∷ minus 1 ∷ []) 5 1  -- a wrong count
+    ∷ passes something wildcard (braces (replicate 64 (pos 7))) 1 2  -- 64 elements
+    ∷ refuses something wildcard (braces (replicate 65 (pos 7))) 5 1  -- 65
+    ∷ passes something wildcard (deep 8) 1 2  -- depth 8
+    ∷ passes something wildcard (deepInt 8) 1 2  -- an integer has no depth
+    ∷ refuses something wildcard (deep 9) 5 16  -- depth 9: the tag
+    ∷ refuses something wildcard (nums (1 ∷ 1 ∷ 1 ∷ 1 ∷ 1 ∷ 1 ∷ 1 ∷ 1 ∷ 1 ∷ 1 ∷ 1 ∷ 1 ∷ 1 ∷ 1 ∷ 1 ∷ 1 ∷ 1 ∷ [])) 5 16  -- too deep, and cut short behind it
+    ∷ refuses something wildcard (replicate 1024 (pos 0)) 5 2  -- 1,024 words, left over
+    ∷ refuses something wildcard (replicate 1025 (pos 9)) 5 1024  -- 1,025 words, before any other look
+    -- 6 unfit
+    ∷ refuses integer wildcard (braces []) 6 0
+    ∷ refuses multisetInteger wildcard (nums (0 ∷ 7 ∷ [])) 6 0
+    ∷ refuses listInteger wildcard (nums (1 ∷ 2 ∷ 0 ∷ 7 ∷ 1 ∷ 0 ∷ [])) 6 4
+    ∷ refuses (nums (3 ∷ 2 ∷ 1 ∷ [])) wildcard (nums (1 ∷ 2 ∷ 1 ∷ 1 ∷ 0 ∷ 5 ∷ 0 ∷ 7 ∷ [])) 6 6
+    -- the order of the tests
+    ∷ refuses (nums (9 ∷ [])) (replicate 257 (pos 0)) none 1 0
+    ∷ refuses integer (nums (1 ∷ 1 ∷ [])) (replicate 1025 (pos 0)) 3 0
+    -- review: 1 to 4, then 9, then 10
+    ∷ declines (nums (9 ∷ [])) wildcard (pos 65) 1 0
+    ∷ declines integer (nums (9 ∷ [])) (pos 65) 2 0
+    ∷ declines integer (nums (1 ∷ 1 ∷ [])) (pos 65) 3 0
+    ∷ declines integer (nums (4 ∷ [])) (pos 65) 4 0
+    ∷ declines multisetInteger (chain 5) (pos 65) 9 0
+    ∷ declines multisetInteger (chain 5) (minus 1) 9 0
+    ∷ declines multisetInteger (chain 5) (pos 64) 10 0
+    ∷ []
+
+-- THE CLAIM: each line's numbers and words are what the definitions compute.
+pub refusals-hold : map computed table ≡ map stated table
+unfolding computed stated table
+refusals-hold = refl

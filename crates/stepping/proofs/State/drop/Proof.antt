@@ -1,0 +1,22 @@
+-- `stepping::State::drop` meets its contract. Assumes nothing.
+use Rattle.stepping.specs.Steps.{moved}
+use Rattle.stepping.proofs.Laws.{drop-rules}
+use Rattle.stepping.proofs.State.drop.Statement.{statement}
+use Rattle.stepping.proofs.State.drop.Tie as tie
+use Rattle.holding.proofs.places.wide.Reads as wide-reads
+
+pub drop-spec : {M : Type 1} → statement M
+unfolding moved
+drop-spec =
+    tie.close
+    (tie.spec
+    (λ c. search drop-rules)  -- mul-wide
+    (λ c. search drop-rules)  -- element-copy-out-wide
+    (λ c κs. search drop-rules)  -- wide-requires
+    (λ c. search drop-rules)  -- add-self
+    (λ c. search drop-rules)  -- mul-wide-2
+    (λ c. search drop-rules)  -- element-copy-out-wide-2
+    (λ c κs. search drop-rules)  -- wide-requires-2
+    (λ c. search drop-rules)  -- mul-self
+    (λ c. search drop-rules)  -- element-copy-out-self
+    (λ c. search drop-rules))

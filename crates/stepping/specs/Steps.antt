@@ -1,0 +1,185 @@
+-- Document 01, section 4, on numbers and lists as the code goes about it: a step, and the next choice of the last open frame.
+use Prim.Native.Nat.{ℕ, zero, suc, _+_, _-_, _^_, _≤_, _<_}
+use mathlib.Core.Path.{_≡_}
+use mathlib.Core.Bool.{Bool, true, false}
+use mathlib.Core.List.{List}
+use lib.ListN.{length, getD, set}
+use lib.Dec.{eqb, ltb}
+use lib.Count.{trailingZeros}
+use lib.IntN.{ℤ, pos}
+use Rattle.rules.specs.Numbers.{same}
+use Rattle.marks.specs.Marks.{clear}
+use Rattle.holding.specs.Places.{Tag, countAt, elementAt}
+use Rattle.holding.specs.Held.{Held, wholeAt}
+use Rattle.stepping.specs.declared.State.{State}
+
+-- One or the other.
+unfoldable pub when : {A : Type 0} → Bool → A → A → A
+when true x y = x
+when false x y = y
+
+-- The slots, an entry for each instruction: the place of the value divided there and its marks, the choices left, the open frame before it
+-- (0: none, j + 1: at j), and the marks that wait for the second part.
+pub record Tables : Type 0 where
+  pub ats : List ℕ
+  pub wholes : List ℕ
+  pub lefts : List ℕ
+  pub lows : List ℕ
+  pub backs : List ℕ
+
+pub record Turned : Type 0 where
+  pub state : State
+  pub tables : Tables
+
+abbrev pub tables : List ℕ → List ℕ → List ℕ → List ℕ → List ℕ → Tables
+tables a w c l b = record { ats = a; wholes = w; lefts = c; lows = l; backs = b }
+
+abbrev pub turned : State → Tables → Turned
+turned x t = record { state = x; tables = t }
+
+-- ---- States.
+
+unfoldable pub counted : State → State
+counted x = record { pc = x .pc; at = x .at; marks = x .marks; top = x .top; live = x .live; rows = x .rows; steps = x .steps + 1; words = x .words }
+
+-- A state stands at pc, on a held value.
+unfoldable pub moved : State → ℕ → ℕ → ℕ → State
+moved x pc at m = record { pc = pc; at = at; marks = m; top = x .top; live = 1; rows = x .rows; steps = x .steps; words = x .words }
+
+unfoldable pub lived : State → ℕ → State
+lived x n = record { pc = x .pc; at = x .at; marks = x .marks; top = x .top; live = n; rows = x .rows; steps = x .steps; words = x .words }
+
+unfoldable pub topped : State → ℕ → State
+topped x n = record { pc = x .pc; at = x .at; marks = x .marks; top = n; live = x .live; rows = x .rows; steps = x .steps; words = x .words }
+
+-- The atom is dropped: the next one in prefix order, whose value waits in a slot.
+unfoldable pub dropped : List ℕ → List ℕ → List ℕ → State → State
+unfolding moved
+dropped from ats backs x = moved x (x .pc + 1) (getD ats (getD from (x .pc) 0) 0) (getD backs (getD from (x .pc) 0) 0)
+
+-- A frame is opened at pc, with the choices c.
+unfoldable pub pushed : State → State
+pushed x = record { pc = x .pc; at = x .at; marks = x .marks; top = x .pc + 1; live = 2; rows = x .rows; steps = x .steps; words = x .words }
+
+unfoldable pub pushedIn : ℕ → State → Tables → Tables
+pushedIn c x t =
+    tables (set (t .ats) (x .pc) (x .at)) (set (t .wholes) (x .pc) (x .marks)) (set (t .lefts) (x .pc) c) (set (t .lows) (x .pc) (x .top)) (t .backs)
+
+-- ---- A step.
+
+-- Whether the atom's test holds: 4 a constant, 5 and 6 a value (asked before, q), 7 nil.
+unfoldable pub passesOf : ℕ → Bool → List ℤ → ℕ → ℕ → ℤ → Bool
+unfolding when
+passesOf o q s at m z = when (eqb o 4) (same (getD s (at + 1) (pos 0)) z) (when (eqb o 5) q (when (eqb o 6) q (when (eqb o 7) (eqb m 0) true)))
+
+-- The choices that a frame is opened with: 8 list cons, 9 multiset cons, 10 join. A choice of a cons is a place, one of a join a front.
+unfoldable pub opensOf : ℕ → ℕ → ℕ
+unfolding when
+opensOf o m = when (eqb o 10) 0 (when (eqb o 8) (2 ^ trailingZeros 64 m) m)
+
+unfoldable pub noneOf : ℕ → ℕ → Bool
+unfolding when
+noneOf o m = when (eqb o 10) false (eqb m 0)
+
+unfoldable pub splitOf : ℕ → State → Tables → Turned
+unfolding when pushed pushedIn lived opensOf noneOf
+splitOf o x t = when (noneOf o (x .marks)) (turned (lived x 2) t) (turned (pushed x) (pushedIn (opensOf o (x .marks)) x t))
+
+unfoldable pub stepBy : ℕ → List ℕ → List ℤ → List ℤ → Bool → State → Tables → Turned
+unfolding when moved splitOf passesOf dropped lived
+stepBy o from con s q x t =
+    when (eqb o 1) (turned (moved x (x .pc + 1) (x .at) (x .marks)) t)
+    (when (ltb 7 o) (splitOf o x t)
+    (when (passesOf o q s (x .at) (x .marks) (getD con (x .pc) (pos 0))) (turned (dropped from (t .ats) (t .backs) x) t) (turned (lived x 2) t)))
+
+unfoldable pub stepOf : List ℕ → List ℕ → List ℤ → List ℤ → Bool → State → Tables → Turned
+unfolding stepBy counted
+stepOf op from con s q x t = stepBy (getD op (x .pc) 0) from con s q (counted x) t
+
+-- ---- The next choice.
+
+-- What is left to choose from at j: with nothing left the frame is no longer open.
+unfoldable pub topLeft : ℕ → ℕ → List ℕ → State → State
+unfolding when topped
+topLeft more j lows x = when (eqb more 0) (topped x (getD lows j 0)) x
+
+unfoldable pub nowLeft : ℕ → ℕ → List ℕ → List ℕ
+unfolding when
+nowLeft more j lefts = when (eqb more 0) lefts (set lefts j more)
+
+-- The next longer front; 0 where the back is empty.
+unfoldable pub longerOf : ℕ → ℕ → ℕ
+unfolding when
+longerOf c b = when (eqb b 0) 0 (c + 2 ^ trailingZeros 64 b)
+
+unfoldable pub joinBy : ℕ → ℕ → ℕ → State → Tables → Turned
+unfolding moved topLeft nowLeft longerOf
+joinBy j c b x t =
+    turned (topLeft (longerOf c b) j (t .lows) (moved x (j + 1) (getD (t .ats) j 0) c))
+    (tables (t .ats) (t .wholes) (nowLeft (longerOf c b) j (t .lefts)) (t .lows) (set (t .backs) j b))
+
+unfoldable pub joinOf : ℕ → State → Tables → Turned
+unfolding joinBy
+joinOf j x t = joinBy j (getD (t .lefts) j 0) (getD (t .wholes) j 0 - getD (t .lefts) j 0) x t
+
+unfoldable pub consBy : List ℤ → ℕ → ℕ → ℕ → State → Tables → Turned
+unfolding moved topLeft nowLeft
+consBy s j k e x t =
+    turned (topLeft (clear k (getD (t .lefts) j 0)) j (t .lows) (moved x (j + 1) e (wholeAt s e)))
+    (tables (t .ats) (t .wholes) (nowLeft (clear k (getD (t .lefts) j 0)) j (t .lefts)) (t .lows) (set (t .backs) j (clear k (getD (t .wholes) j 0))))
+
+unfoldable pub consOf : List ℤ → ℕ → State → Tables → Turned
+unfolding consBy
+consOf s j x t =
+    consBy s j (trailingZeros 64 (getD (t .lefts) j 0)) (elementAt s (getD (t .ats) j 0) (trailingZeros 64 (getD (t .lefts) j 0))) x t
+
+unfoldable pub pickOf : List ℕ → List ℤ → State → Tables → Turned
+unfolding when lived joinOf consOf
+pickOf op s x t =
+    when (eqb (x .top) 0) (turned (lived x 0) t)
+    (when (eqb (getD op (x .top - 1) 0) 10) (joinOf (x .top - 1) x t) (consOf s (x .top - 1) x t))
+
+-- The next choice is taken where no state stands.
+unfoldable pub settleOf : List ℕ → List ℤ → State → Tables → Turned
+unfolding when pickOf
+settleOf op s x t = when (eqb (x .live) 2) (pickOf op s x t) (turned x t)
+
+-- ---- What they ask.
+
+-- The instruction's slot, and the next value's, are there; the step can be counted; the value has a word after its tag, and its place fits a slot.
+pub record Steps (s : List ℤ) (from : List ℕ) (x : State) : Type 0 where
+  pub place : x .pc < 390
+  pub next : getD from (x .pc) 0 < 390
+  pub word : x .at + 1 < length s
+  pub small : x .at < 65536
+  pub frame : x .top ≤ 390
+  pub count : x .steps + 1 < 2 ^ 64
+
+-- The front of the join at j is within its marks.
+pub record Joins (wholes lefts : List ℕ) (j : ℕ) : Type 0 where
+  pub place : j < 390
+  pub within : getD lefts j 0 ≤ getD wholes j 0
+  pub word : getD wholes j 0 < 2 ^ 64
+
+-- The cons at j has a choice left, and each choice is an element that there is.
+pub record Conses (s : List ℤ) (ats lefts : List ℕ) (j : ℕ) : Type 0 where
+  pub place : j < 390
+  pub tag : Tag s (getD ats j 0)
+  pub some : 0 < getD lefts j 0
+  pub there : getD lefts j 0 < 2 ^ countAt s (getD ats j 0)
+
+-- A frame at j from which the next choice can be taken: its instruction o divides, it holds (at, m), and the choices left are c.
+pub record Frame (o : ℕ) (s : List ℤ) (j at m c : ℕ) : Type 0 where
+  pub place : j < 390
+  pub splits : 7 < o
+  pub held : Held s at m
+  pub within : o ≡ 10 → c ≤ m
+  pub some : (o ≡ 10 → ⊥) → 0 < c
+  pub there : (o ≡ 10 → ⊥) → c < 2 ^ countAt s at
+
+-- The last open frame, if there is one.
+pub record Picks (op : List ℕ) (s : List ℤ) (top : ℕ) (ats wholes lefts : List ℕ) : Type 0 where
+  pub frame : (top ≡ 0 → ⊥) → Frame (getD op (top - 1) 0) s (top - 1) (getD ats (top - 1) 0) (getD wholes (top - 1) 0) (getD lefts (top - 1) 0)
+
+pub record PicksIf (live : ℕ) (op : List ℕ) (s : List ℤ) (top : ℕ) (ats wholes lefts : List ℕ) : Type 0 where
+  pub picks : live ≡ 2 → Picks op s top ats wholes lefts
