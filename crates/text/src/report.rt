@@ -1,6 +1,5 @@
 // What the trial program prints, written into a lent slice of bytes. Empty lines at the end are counted and not written.
 use crate::print::put_first;
-use crate::print::wide;
 use crate::rows::Rest;
 use crate::rows::put_rows;
 use reading::variables::Counted;
@@ -47,7 +46,7 @@ pub(crate) fn put_report(
     out: &mut [u8],
     answer: u64,
     place: u64,
-    rows: u32,
+    rows: u64,
     steps: u64,
     words: u64,
     ws: &[i32],
@@ -57,6 +56,6 @@ pub(crate) fn put_report(
     requires { ⌜ length (now ws) ≤ 4096 ⌝ }
     ensures { λ r. ⌜ Text (now (out .entry)) (now (out .exit)) r (fiveLine answer place rows steps words ++ lines (cutRows values rows (now (ws .entry)))) ⌝ }
 {
-    let at = put_first(out, answer, place, wide(rows), steps, words);
+    let at = put_first(out, answer, place, rows, steps, words);
     put_rows(ws, values, rows, out, at)
 }

@@ -11,7 +11,7 @@ ghost use Rattle.text.specs.Meaning.{WroteRows};
 // Where the rows' text ends, and how many empty lines follow it.
 pub struct Rest {
     pub at: usize,
-    pub lines: u32,
+    pub lines: u64,
 }
 
 // How many values come in a value's own words.
@@ -49,7 +49,7 @@ fn extent_of(ws: &[i32], values: u32) -> usize
 }
 
 // Prints rows until none is left that has words: the others are empty lines.
-pub(crate) fn put_rows(ws: &[i32], values: u32, rows: u32, out: &mut [u8], at: usize) -> Rest
+pub(crate) fn put_rows(ws: &[i32], values: u32, rows: u64, out: &mut [u8], at: usize) -> Rest
     requires { ⌜ length (now ws) ≤ 4096 ⌝ }
     requires { ⌜ at + 22 * length (now ws) ≤ length (now out) ⌝ }
     ensures { λ r. ⌜ WroteRows (now (out .entry)) (now (out .exit)) at r values rows (now (ws .entry)) ⌝ }

@@ -31,7 +31,7 @@ text-alone l m i text w h =
 
 -- A first line, and rows behind it.
 module _ (l m n line : List ℕ) (i : ℕ) (r : Rest) (values rows : ℕ) (ws : List ℤ) (w : Wrote l m 0 i line) (q : WroteRows m n i r values rows ws) where
-  text-rows : i ≤ 105 → length ws ≤ 4096 → 98304 ≤ length l → length n ≡ length m → Text l n r (line ++ lines (cutRows values rows ws))
+  pub text-rows : i ≤ 105 → length ws ≤ 4096 → 98304 ≤ length l → length n ≡ length m → Text l n r (line ++ lines (cutRows values rows ws))
   text-rows h f b s =
       let k = same-long l m 0 i line w in
       let e = w .ends in
@@ -45,18 +45,12 @@ module _ (l m n line : List ℕ) (i : ℕ) (r : Rest) (values rows : ℕ) (ws : 
         within = omega arith;
       }
 
-pub text-report : (l m n : List ℕ) (i : ℕ) (r : Rest) (a b k d e values rows : ℕ) (ws : List ℤ) → Wrote l m 0 i (fiveLine a b k d e) → k ≡ rows
-    → WroteRows m n i r values rows ws → i ≤ 105 → length ws ≤ 4096 → 98304 ≤ length l → length n ≡ length m
-    → Text l n r (fiveLine a b rows d e ++ lines (cutRows values rows ws))
-text-report l m n i r a b k d e values rows ws w p q h f g s =
-    text-rows l m n (fiveLine a b rows d e) i r values rows ws (rw p at w) q h f g s
-
 pub spelled : (l : List ℕ) → 98304 ≤ length l
     → Text l (set (set (set (set (set (set (set (set (set (set (set l 0 117) 1 110) 2 114) 3 101) 4 97) 5 100) 6 97) 7 98) 8 108) 9 101) 10 10) (record { at = 11; lines = 0 }) unreadable
 unfolding put
 spelled l h = text-alone l _ 11 unreadable (record { ends = refl; bytes = refl }) (omega arith)
 
-pub ruleset report-rules = (text-report, spelled, needs)
+pub ruleset report-rules = (text-rows, spelled, needs)
 
 -- ---- How many values a row has.
 
