@@ -8,7 +8,7 @@ use lib.Dec.{eqb}
 use lib.ListN.{length, take, drop, replicate}
 use lib.Seq.{sets}
 use lib.IntN.{ℤ, pos, negℤ}
-use Rattle.text.specs.Decimal.{newline}
+use Rattle.text.specs.Decimal.{newline, lineOf}
 use Rattle.text.specs.Rows.{cutRows, lines}
 use Rattle.text.specs.declared.rows.Rest.{Rest}
 use Rattle.text.specs.Question.{Limits, Lines, Question, wordsOf}
@@ -103,8 +103,20 @@ pub record Wrote (old new : List ℕ) (at end : ℕ) (text : List ℕ) : Type 0 
   pub ends : end ≡ at + length text
   pub bytes : new ≡ put old at text
 
+-- The line of five numbers.
+unfoldable pub fiveLine : (a b c d e : ℕ) → List ℕ
+unfolding lineOf
+fiveLine a b c d e = lineOf (pos a ∷ pos b ∷ pos c ∷ pos d ∷ pos e ∷ [])
+
 -- Rows were printed from an index on; the last of them are empty lines, which are counted and not written. Nothing else was written.
 pub record WroteRows (old new : List ℕ) (at : ℕ) (r : Rest) (values rows : ℕ) (ws : List ℤ) : Type 0 where
   pub text : take (r .at) new ++ replicate (r .lines) newline ≡ take at old ++ lines (cutRows values rows ws)
   pub kept : drop (r .at) new ≡ drop (r .at) old
-  pub within : r .at ≤ at + 12 * length ws
+  pub from : at ≤ r .at
+  pub within : r .at ≤ at + 22 * length ws
+
+-- A text stands at the start, but for its last empty lines, which are counted; all behind is as it was.
+pub record Text (old new : List ℕ) (r : Rest) (text : List ℕ) : Type 0 where
+  pub whole : take (r .at) new ++ replicate (r .lines) newline ≡ text
+  pub kept : drop (r .at) new ≡ drop (r .at) old
+  pub within : r .at ≤ length new

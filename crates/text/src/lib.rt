@@ -3,4 +3,5 @@ mod line;
 mod number;
 mod print;
 mod question;
+mod report;
 mod rows;

@@ -1,5 +1,6 @@
 // The rows that match wrote one after the other, cut apart and printed.
 use crate::print::put_line;
+use crate::print::wide;
 use words::tag_of;
 ghost use mathlib.Core.Path.{_≡_};
 ghost use Prim.Native.Nat.{_+_, _*_, _<_, _≤_};
@@ -10,13 +11,7 @@ ghost use Rattle.text.specs.Meaning.{WroteRows};
 // Where the rows' text ends, and how many empty lines follow it.
 pub struct Rest {
     pub at: usize,
-    pub lines: u32,
-}
-
-fn wide(n: u32) -> u64
-    ensures { λ r. ⌜ r ≡ n ⌝ }
-{
-    n as u64
+    pub lines: u64,
 }
 
 // How many values come in a value's own words.
@@ -54,9 +49,9 @@ fn extent_of(ws: &[i32], values: u32) -> usize
 }
 
 // Prints rows until none is left that has words: the others are empty lines.
-pub(crate) fn put_rows(ws: &[i32], values: u32, rows: u32, out: &mut [u8], at: usize) -> Rest
+pub(crate) fn put_rows(ws: &[i32], values: u32, rows: u64, out: &mut [u8], at: usize) -> Rest
     requires { ⌜ length (now ws) ≤ 4096 ⌝ }
-    requires { ⌜ at + 12 * length (now ws) ≤ length (now out) ⌝ }
+    requires { ⌜ at + 22 * length (now ws) ≤ length (now out) ⌝ }
     ensures { λ r. ⌜ WroteRows (now (out .entry)) (now (out .exit)) at r values rows (now (ws .entry)) ⌝ }
 {
     let mut o = at;

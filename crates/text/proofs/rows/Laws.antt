@@ -96,7 +96,7 @@ module _ (ws : List ℤ) (k i x : ℕ) (a : x ≡ i + extent k (drop i ws)) wher
       let s : suc (i + 1) ≡ i + 2 = omega arith in
       let d : drop i ws ≡ getD ws i (pos 0) ∷ getD ws (i + 1) (pos 0) ∷ drop (i + 2) ws =
       drop-cons ws i (pos 0) (omega arith) ∙ rw (← add-one i, drop-cons ws (i + 1) (pos 0) h, s) in
-      let y : m ≡ inside (getD ws i (pos 0)) (getD ws (i + 1) (pos 0)) = q ∙ e ∙ rw (toZ-ofZ {w = w32} (sfits-of f), toZ-ofZ {w = w32} (sfits-of g)) in
+      let y : m ≡ inside (getD ws i (pos 0)) (getD ws (i + 1) (pos 0)) = q ∙ e ∙ rw (toZ-ofZ {w = w32} {z = getD ws i (pos 0)} (sfits-of f), toZ-ofZ {w = w32} {z = getD ws (i + 1) (pos 0)} (sfits-of g)) in
       a ∙ rw (d, one-more k (getD ws i (pos 0)) (getD ws (i + 1) (pos 0)) (drop (i + 2) ws) z, y) (omega arith)
 
 pub extent-start : (ws : List ℤ) (values k : ℕ) → k ≡ values → extent values ws ≡ 0 + extent k (drop 0 ws)
@@ -138,8 +138,8 @@ module _ (ws : List ℤ) (from e : ℕ) (l : from ≤ length ws) (b : e ≤ leng
   pub some-words : (e ≡ 0 → ⊥) → 0 < length (take (from + e - from) (drop from ws))
   some-words z = let r = row-long in omega (arith, z)
 
-  pub row-room : (o at : ℕ) (out old : List ℕ) → o + 12 * (length ws - from) ≤ at + 12 * length ws → at + 12 * length ws ≤ length old → length out ≡ length old
-      → o + 12 * length (take (from + e - from) (drop from ws)) ≤ length out
+  pub row-room : (o at : ℕ) (out old : List ℕ) → o + 22 * (length ws - from) ≤ at + 22 * length ws → at + 22 * length ws ≤ length old → length out ≡ length old
+      → o + 22 * length (take (from + e - from) (drop from ws)) ≤ length out
   row-room o at out old h k q = let r = row-long in let i = row-in in omega arith
 
 pub part-few : (ws : List ℤ) (from : ℕ) → from ≤ length ws → length ws ≤ 4096 → length (take (length ws - from) (drop from ws)) ≤ 4096
@@ -158,39 +158,42 @@ module _ (values rows : ℕ) (ws : List ℤ) (old : List ℕ) (at : ℕ) (out : 
   unfolding Rows
   rows-long = g .long
 
-  module _ (s : from ≤ length ws) (b : o + 12 * (length ws - from) ≤ at + 12 * length ws) where
+  module _ (s : from ≤ length ws) (b : o + 22 * (length ws - from) ≤ at + 22 * length ws) (f : at ≤ o) where
     pub rows-done : left ≤ 0 → WroteRows old out at (record { at = o; lines = left }) values rows ws
     unfolding Rows cutRows lines
     rows-done h =
         let z : left ≡ 0 = omega arith in
-        record { text = rw z (rw z at (g .whole)); kept = g .kept; within = omega arith }
+        record { text = rw z (rw z at (g .whole)); kept = g .kept; from = f; within = omega arith }
 
     pub rows-empty : (e : ℕ) → e ≡ extent values (take (length ws - from) (drop from ws)) → e ≡ 0
         → WroteRows old out at (record { at = o; lines = left }) values rows ws
     unfolding Rows
     rows-empty e q z =
         let y : extent values (drop from ws) ≡ 0 = rw (behind ws from s) at (sym q ∙ z) in
-        record { text = rw (← empty-rows values left (drop from ws) y) (g .whole); kept = g .kept; within = omega arith }
+        record { text = rw (← empty-rows values left (drop from ws) y) (g .whole); kept = g .kept; from = f; within = omega arith }
 
     module _ (e r : ℕ) (m : List ℕ) (q : e ≡ extent values (take (length ws - from) (drop from ws)))
         (k : e ≤ length (take (length ws - from) (drop from ws))) (z : e ≡ 0 → ⊥)
         (w : Wrote out m o r (lineOf (take (from + e - from) (drop from ws)))) where
-      short : length (lineOf (take (from + e - from) (drop from ws))) ≤ 12 * e
+      short : length (lineOf (take (from + e - from) (drop from ws))) ≤ 22 * e
       short = let a = line-short (take (from + e - from) (drop from ws)) (some-words ws from e s k z) in let d = row-long ws from e s k in omega arith
 
-      pub rows-room : r + 12 * (length ws - (from + e)) ≤ at + 12 * length ws
-      rows-room = let a = short in let d = row-in ws from e s k in let f = w .ends in omega arith
+      pub rows-room : r + 22 * (length ws - (from + e)) ≤ at + 22 * length ws
+      rows-room = let a = short in let d = row-in ws from e s k in let c = w .ends in omega arith
 
-      pub rows-turn : 0 < left → at + 12 * length ws ≤ length old → Rows values rows ws old at m r (from + e) (left - 1)
+      pub rows-from : at ≤ r
+      rows-from = let c = w .ends in omega arith
+
+      pub rows-turn : 0 < left → at + 22 * length ws ≤ length old → Rows values rows ws old at m r (from + e) (left - 1)
       unfolding Rows
       rows-turn h t =
           let a = short in
           let d = row-in ws from e s k in
           let l = g .long in
           let y : e ≡ extent values (drop from ws) = rw (behind ws from s) at q in
-          let f : from + e - from ≡ e = omega arith in
+          let v : from + e - from ≡ e = omega arith in
           let n = next-row values left e (drop from ws) h y in
-          let c : lines (cutRows values left (drop from ws)) ≡ lineOf (take (from + e - from) (drop from ws)) ++ lines (cutRows values (left - 1) (drop (from + e) ws)) = rw (f, ← drop-drop e from ws) n in
+          let c : lines (cutRows values left (drop from ws)) ≡ lineOf (take (from + e - from) (drop from ws)) ++ lines (cutRows values (left - 1) (drop (from + e) ws)) = rw (v, ← drop-drop e from ws) n in
           going-on old at (lines (cutRows values rows ws)) out m (lineOf (take (from + e - from) (drop from ws))) _ _ o r g w (omega arith) c
 
-pub ruleset rows-rules = (rows-all, rows-long, rows-done, rows-empty, rows-room, rows-turn, row-in, row-fits, some-words, row-room, part-few, needs)
+pub ruleset rows-rules = (rows-all, rows-long, rows-done, rows-empty, rows-room, rows-from, rows-turn, row-in, row-fits, some-words, row-room, part-few, needs)

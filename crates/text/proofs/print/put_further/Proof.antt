@@ -10,7 +10,7 @@ use Rattle.text.proofs.print.put_further.Tie as tie
 
 abbrev Inv-loop : tie.InvT-loop
 Inv-loop ws out₀ at o₀ i₀ out o i =
-    Left out₀ at (furtherOf ws) out o (furtherOf (drop i ws)) × (i ≤ length ws) × (length out ≡ length out₀) × (o + 12 * (length ws - i) + 1 ≤ length out)
+    Left out₀ at (furtherOf ws) out o (furtherOf (drop i ws)) × (i ≤ length ws) × (length out ≡ length out₀) × (o + 22 * (length ws - i) + 1 ≤ length out)
 
 abbrev μ-loop : tie.MeasureT-loop
 μ-loop ws out₀ at o₀ i₀ out o i = length ws - i

@@ -9,7 +9,7 @@ put-numeral-spec =
     (tie.spec
     (λ c κs. search numeral-rules)
     (λ c κs. search numeral-rules)
-    (λ c. search numeral-rules)
+    (λ c κs. search numeral-rules)
     (λ c. search numeral-rules)
     (λ c. search numeral-rules)
     (λ c. search numeral-rules)

@@ -7,7 +7,7 @@ use Rattle.text.proofs.rows.put_rows.Tie as tie
 
 abbrev Inv-loop : tie.InvT-loop
 Inv-loop ws values rows out₀ at o₀ from₀ left₀ out o from left =
-    Rows values rows ws out₀ at out o from left × (from ≤ length ws) × (o + 12 * (length ws - from) ≤ at + 12 * length ws)
+    Rows values rows ws out₀ at out o from left × (from ≤ length ws) × (o + 22 * (length ws - from) ≤ at + 22 * length ws) × (at ≤ o)
 
 abbrev μ-loop : tie.MeasureT-loop
 μ-loop ws values rows out₀ at o₀ from₀ left₀ out o from left = left
