@@ -149,3 +149,8 @@ compiled ms ps r a t b =
       last = l;
       few = few-variables ms ps r w;
     }
+
+-- The same, as a caller has it that lent arrays of zeros.
+pub compiled-zeros : (ms ps : List ℤ) (r : Rule) → ruleOf ms ps ≡ accepted r → (vars : ℕ) (t : Columns) → vars ≡ variablesIn (linesOf ms ps)
+    → t ≡ laid 0 (linesOf ms ps) (columns (replicate 390 0) (replicate 390 0) (replicate 390 0) (replicate 390 0) (replicate 390 (pos 0))) → Holds ms r vars t
+compiled-zeros ms ps r a vars t e g = rw (e, g) (compiled ms ps r a _ blank)
