@@ -4,3 +4,4 @@ pub mod Matchers
 pub mod Table
 pub mod Patterns
 pub mod Variables
+pub mod Fitting

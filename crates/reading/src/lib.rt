@@ -1,4 +1,5 @@
 // The tests 1 to 6 of document 01 on slices of words, one module a test.
+mod fit;
 pub mod matcher;
 pub mod pattern;
 pub mod table;

@@ -1,4 +1,6 @@
 // The trial program's text: what it reads, and what it prints.
 mod line;
 mod number;
+mod print;
 mod question;
+mod rows;
