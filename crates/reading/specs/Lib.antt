@@ -3,3 +3,4 @@ pub mod Tests
 pub mod Matchers
 pub mod Table
 pub mod Patterns
+pub mod Variables

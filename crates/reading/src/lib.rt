@@ -2,6 +2,7 @@
 pub mod matcher;
 pub mod pattern;
 pub mod table;
+pub mod variables;
 
 ghost use mathlib.Core.Path.{_≡_};
 ghost use Rattle.reading.specs.Tests.{restAt};

@@ -1,0 +1,110 @@
+-- The program in its five arrays: a line reads back as it was laid, and of a rule that is accepted each means the instruction at its place.
+use Prim.Native.Nat.{ℕ, zero, suc, _+_, _<_, _≤_}
+use native.Mathlib.Nat.{suc-add}
+use native.Mathlib.Omega.{arith}
+use mathlib.Core.Path.{_≡_, refl, sym, ap, _∙_}
+use mathlib.Core.List.{List, [], _∷_}
+use lib.ListN.{length, getD, set, length-set}
+use lib.Seq.{getD-set-same, getD-set-other}
+use lib.IntN.{ℤ, pos}
+use Rattle.rules.specs.Services.{accepted, Rule, ruleOf}
+use Rattle.promises.specs.ReadPattern.{pattern-read}
+use Rattle.promises.specs.Faults.{WellFormed, rule-accepted}
+use Rattle.program.specs.Program.{program}
+use Rattle.program.specs.Length.{instrs}
+use Rattle.program.specs.Lines.{Line, line, endLine, linesOf, variablesIn, Columns, columns, written, laid}
+use Rattle.program.specs.Meaning.{Means}
+use Rattle.program.specs.Accepted.{lines-length, line-means, few-variables, program-fits}
+use Rattle.program.specs.Bounds.{Small, line-small}
+
+-- The line at a place of the arrays.
+unfoldable pub lineIn : Columns → ℕ → Line
+lineIn t pc = line (getD (t .op) pc 0) (getD (t .from) pc 0) (getD (t .arg) pc 0) (getD (t .mat) pc 0) (getD (t .con) pc (pos 0))
+
+pub record Sized (t : Columns) : Type 0 where
+  pub op : length (t .op) ≡ 390
+  pub from : length (t .from) ≡ 390
+  pub arg : length (t .arg) ≡ 390
+  pub mat : length (t .mat) ≡ 390
+  pub con : length (t .con) ≡ 390
+
+sized-written : (pc : ℕ) (l : Line) (t : Columns) → Sized t → Sized (written pc l t)
+unfolding written
+sized-written pc l t s = record {
+  op = length-set (t .op) pc (l .op) ∙ s .op;
+  from = length-set (t .from) pc (l .from) ∙ s .from;
+  arg = length-set (t .arg) pc (l .arg) ∙ s .arg;
+  mat = length-set (t .mat) pc (l .mat) ∙ s .mat;
+  con = length-set (t .con) pc (l .con) ∙ s .con;
+}
+
+written-same : (pc : ℕ) (l : Line) (t : Columns) → Sized t → pc < 390 → lineIn (written pc l t) pc ≡ l
+unfolding written lineIn
+written-same pc l t s h =
+    rw (
+      getD-set-same (t .op) pc (l .op) 0 (omega arith),
+      getD-set-same (t .from) pc (l .from) 0 (omega arith),
+      getD-set-same (t .arg) pc (l .arg) 0 (omega arith),
+      getD-set-same (t .mat) pc (l .mat) 0 (omega arith),
+      getD-set-same (t .con) pc (l .con) (pos 0) (omega arith),
+    )
+
+written-other : (pc j : ℕ) (l : Line) (t : Columns) → (j ≡ pc → ⊥) → lineIn (written pc l t) j ≡ lineIn t j
+unfolding written lineIn
+written-other pc j l t h =
+    rw (
+      getD-set-other (t .op) pc j (l .op) 0 h,
+      getD-set-other (t .from) pc j (l .from) 0 h,
+      getD-set-other (t .arg) pc j (l .arg) 0 h,
+      getD-set-other (t .mat) pc j (l .mat) 0 h,
+      getD-set-other (t .con) pc j (l .con) (pos 0) h,
+    )
+
+-- Before and after the lines every entry is what it was.
+pub laid-before : (pc : ℕ) (ls : List Line) (t : Columns) (j : ℕ) → j < pc → lineIn (laid pc ls t) j ≡ lineIn t j
+unfolding laid
+laid-before pc [] t j h = refl
+laid-before pc (l ∷ ls) t j h = laid-before (suc pc) ls (written pc l t) j (omega arith) ∙ written-other pc j l t (λ e. omega arith)
+
+pub laid-after : (pc : ℕ) (ls : List Line) (t : Columns) (j : ℕ) → pc + length ls ≤ j → lineIn (laid pc ls t) j ≡ lineIn t j
+unfolding laid
+laid-after pc [] t j h = refl
+laid-after pc (l ∷ ls) t j h = laid-after (suc pc) ls (written pc l t) j (omega arith) ∙ written-other pc j l t (λ e. omega arith)
+
+-- Each line reads back.
+pub laid-line : (pc : ℕ) (ls : List Line) (t : Columns) (j : ℕ) → Sized t → pc + length ls ≤ 390 → j < length ls → lineIn (laid pc ls t) (pc + j) ≡ getD ls j endLine
+unfolding laid
+laid-line pc [] t j s h l = absurd (omega arith)
+laid-line pc (x ∷ ls) t zero s h l =
+    let e : pc + 0 ≡ pc = omega arith in
+    rw e (laid-before (suc pc) ls (written pc x t) pc (omega arith) ∙ written-same pc x t s (omega arith))
+laid-line pc (x ∷ ls) t (suc j) s h l =
+    let e : pc + suc j ≡ suc pc + j = omega arith in
+    rw e (laid-line (suc pc) ls (written pc x t) j (sized-written pc x t s) (omega arith) (omega arith))
+
+-- The arrays hold the rule's program, and `vars` is the number of its variables.
+pub record Holds (ms : List ℤ) (r : Rule) (vars : ℕ) (t : Columns) : Type 0 where
+  pub means : (pc : ℕ) → pc ≤ instrs (r .pattern) (r .matcher) → Means ms vars (lineIn t pc) (program (r .matcher) (r .pattern) pc)
+  pub small : (pc : ℕ) → pc ≤ instrs (r .pattern) (r .matcher) → Small pc (lineIn t pc)
+  pub last : instrs (r .pattern) (r .matcher) ≤ 384
+  pub few : vars ≤ 16
+
+-- What the compiler leaves in the arrays holds the program of a rule that is accepted.
+pub compiled : (ms ps : List ℤ) (r : Rule) → ruleOf ms ps ≡ accepted r → (t : Columns) → Sized t → Holds ms r (variablesIn (linesOf ms ps)) (laid 0 (linesOf ms ps) t)
+compiled ms ps r a t s =
+    let w = rule-accepted ms ps r .0 a in
+    let n = lines-length ms ps r w in
+    let b = program-fits ms ps r w in
+    record {
+      means = λ pc l. rw (there w pc l) (line-means ms ps r w pc l);
+      small = λ pc l. rw (there w pc l) (line-small ms ps pc);
+      last = b;
+      few = few-variables ms ps r w;
+    }
+  where
+    there : (w : WellFormed ms ps r) (pc : ℕ) → pc ≤ instrs (r .pattern) (r .matcher) → lineIn (laid 0 (linesOf ms ps) t) pc ≡ getD (linesOf ms ps) pc endLine
+    there w pc l =
+        let n = lines-length ms ps r w in
+        let b = program-fits ms ps r w in
+        let e : 0 + pc ≡ pc = omega arith in
+        rw e at (laid-line 0 (linesOf ms ps) t pc s (omega arith) (omega arith))

@@ -1,0 +1,4 @@
+// The trial program's text: what it reads, and what it prints.
+mod line;
+mod number;
+mod question;
