@@ -13,7 +13,8 @@ use Rattle.words.specs.Words.{tagZ, tagAt}
 use Rattle.words.proofs.Signed.{getD-any}
 use Rattle.marks.specs.Marked.{nth}
 use Rattle.holding.specs.Places.{firsts, node, forest, headOf, valueAt, elements, countBy, countAt, Target, Tag, Standing, hops, elementAt}
-use Rattle.holding.proofs.Forest.{Here, here, is-here, length-words, hop-none, hop-one, standing-tag, standing-next}
+use Rattle.promises.specs.Written.{length-words}
+use Rattle.holding.proofs.Forest.{Here, here, is-here, hop-none, hop-one, standing-tag, standing-next}
 
 count-firsts : (n : ℕ) (vs : Values) → count (firsts n vs) ≤ count vs
 unfolding firsts count

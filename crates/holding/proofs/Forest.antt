@@ -7,6 +7,7 @@ use lib.ListN.{length, drop, length-append, length-drop}
 use lib.Seq.{drop-drop, drop-append-seam}
 use lib.IntN.{ℤ}
 use Rattle.rules.specs.Forms.{Value, int, collection, Values, empty, _▸_, count, words, wordsAll, size, sizeAll}
+use Rattle.promises.specs.Written.{largest, largestOf, length-words, length-words-all}
 use Rattle.holding.specs.Places.{firsts, lasts, forest, headOf, valueAt, Target, Tag, Standing, hops}
 
 -- Values one after the other.
@@ -46,17 +47,6 @@ mutual
   forest-all (v ▸ vs) l = rw (append-assoc, forest-words v (wordsAll vs ++ l), forest-all vs l)
 
 mutual
-  unfolding words wordsAll size sizeAll
-
-  pub length-words : (v : Value) → length (words v) ≡ size v
-  length-words (int x) = refl
-  length-words (collection vs) = rw (length-all vs) (omega arith)
-
-  pub length-all : (vs : Values) → length (wordsAll vs) ≡ sizeAll vs
-  length-all empty = refl
-  length-all (v ▸ vs) = rw (length-append (words v) (wordsAll vs), length-words v, length-all vs)
-
-mutual
   unfolding size sizeAll
 
   pub even-size : (v : Value) → size v % 2 ≡ 0
@@ -74,15 +64,21 @@ two-words (collection vs) = omega arith
 
 -- ---- From each even index on there stand values.
 
-tail-flat : (at : ℕ) → at % 2 ≡ 0 → (fs : Values) → (us : Values) × (drop at (wordsAll fs) ≡ wordsAll us)
-unfolding words wordsAll
-tail-flat zero e fs = (fs, refl)
-tail-flat (suc zero) e fs = absurd (omega arith)
-tail-flat (suc (suc at)) e empty = (empty, refl)
-tail-flat (suc (suc at)) e (int x ▸ fs) = tail-flat at (omega arith) fs
-tail-flat (suc (suc at)) e (collection vs ▸ fs) =
-    let r = tail-flat at (omega arith) (follow vs fs) in
-    (r .0, ap (drop at) (sym (words-follow vs fs)) ∙ r .1)
+largest-follow : (b : ℕ) (vs us : Values) → largestOf vs ≤ b → largestOf us ≤ b → largestOf (follow vs us) ≤ b
+unfolding follow largestOf
+largest-follow b empty us h l = l
+largest-follow b (v ▸ vs) us h l = let r = largest-follow b vs us (omega arith) l in omega arith
+
+-- The words from there on are values', and no collection of these is larger.
+pub tail-flat : (b at : ℕ) → at % 2 ≡ 0 → (fs : Values) → largestOf fs ≤ b → (us : Values) × (drop at (wordsAll fs) ≡ wordsAll us) × (largestOf us ≤ b)
+unfolding words wordsAll largest largestOf
+tail-flat b zero e fs h = (fs, refl, h)
+tail-flat b (suc zero) e fs h = absurd (omega arith)
+tail-flat b (suc (suc at)) e empty h = (empty, refl, h)
+tail-flat b (suc (suc at)) e (int x ▸ fs) h = tail-flat b at (omega arith) fs (omega arith)
+tail-flat b (suc (suc at)) e (collection vs ▸ fs) h =
+    let r = tail-flat b at (omega arith) (follow vs fs) (largest-follow b vs fs (omega arith) (omega arith)) in
+    (r .0, ap (drop at) (sym (words-follow vs fs)) ∙ r .1, r .2)
 
 pub forest-flat : (us : Values) → forest (wordsAll us) ≡ us
 unfolding forest
@@ -90,12 +86,12 @@ forest-flat us = ap forest (sym (append-nil (wordsAll us))) ∙ forest-all us []
 
 pub flat-at : (s : List ℤ) (at : ℕ) → Target s → at % 2 ≡ 0 → drop at s ≡ wordsAll (forest (drop at s))
 flat-at s at g e =
-    let r = tail-flat at e (forest s) in
+    let r = tail-flat (largestOf (forest s)) at e (forest s) (omega arith) in
     let d : drop at s ≡ wordsAll (r .0) = ap (drop at) (g .whole) ∙ r .1 in
     d ∙ ap wordsAll (sym (forest-flat (r .0)) ∙ ap forest (sym d))
 
 pub even-length : (s : List ℤ) → Target s → length s % 2 ≡ 0
-even-length s g = let e = ap length (g .whole) in omega (arith, e, length-all (forest s), even-all (forest s))
+even-length s g = let e = ap length (g .whole) in omega (arith, e, length-words-all (forest s), even-all (forest s))
 
 -- What stands at a tag.
 pub record Here (s : List ℤ) (at : ℕ) : Type 0 where

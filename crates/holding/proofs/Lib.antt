@@ -4,3 +4,6 @@ pub mod Tables
 pub mod Held
 pub mod Room
 pub mod Row
+pub mod Accepted
+pub mod First
+pub mod Equal

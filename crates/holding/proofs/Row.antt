@@ -24,7 +24,8 @@ use Rattle.holding.specs.Tables.{Ends, Places}
 use Rattle.holding.specs.Held.{Held, heldAt, left, sizeLeft, wordsLeft, put, part}
 use Rattle.holding.specs.Row.{holds, bound, boundFrom, nothing, Bound}
 use Rattle.holding.specs.declared.rows.Binding.{Binding}
-use Rattle.holding.proofs.Forest.{is-here, length-words, length-all, two-words}
+use Rattle.promises.specs.Written.{length-words}
+use Rattle.holding.proofs.Forest.{is-here, two-words}
 use Rattle.holding.proofs.Elements.{second, by-tag, int-at, collection-at, tag-small, slice-words}
 use Rattle.holding.proofs.Held.{held-int, held-collection, held-clear, held-some, left-none, next-in, next-less, next-tag, next-left}
 use Rattle.holding.proofs.Room.{length-put, put-append, put-none}

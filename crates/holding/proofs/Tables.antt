@@ -18,7 +18,8 @@ use Rattle.words.proofs.Signed.{getD-any, inside}
 use Rattle.holding.specs.Places.{lasts, node, forest, valueAt, countBy, countAt, Target, Tag, Standing, hops, elementAt}
 use Rattle.holding.specs.Tables.{EndsFrom, Ends, Filled, PlacesTo, Places}
 use Rattle.holding.specs.Held.{wholeAt}
-use Rattle.holding.proofs.Forest.{is-here, flat-at, length-all, two-words, even-length, hop-none, hop-one, hop-more, standing-tag, standing-next}
+use Rattle.promises.specs.Written.{length-words-all}
+use Rattle.holding.proofs.Forest.{is-here, flat-at, two-words, even-length, hop-none, hop-one, hop-more, standing-tag, standing-next}
 use Rattle.holding.proofs.Elements.{second, forest-at, by-tag, tag-small, count-some, standing-at, end-at, element-tag}
 
 -- ---- A word that is not negative.
@@ -241,7 +242,7 @@ two-each (v ▸ vs) = omega (arith, two-each vs, two-words v)
 
 -- half as many values as words
 count-half : (s : List ℤ) (at : ℕ) → Target s → at % 2 ≡ 0 → count (forest (drop at s)) + count (forest (drop at s)) ≤ length s - at
-count-half s at g e = omega (arith, ap length (flat-at s at g e), length-drop at s, length-all (forest (drop at s)), two-each (forest (drop at s)))
+count-half s at g e = omega (arith, ap length (flat-at s at g e), length-drop at s, length-words-all (forest (drop at s)), two-each (forest (drop at s)))
 
 module _ (s : List ℤ) (at used n : ℕ) (g : Target s) (e : at % 2 ≡ 0) (l : at < length s) (c : n ≡ countAt s at)
     (u : used + count (forest s) ≡ at / 2 + count (forest (drop at s))) where

@@ -3,3 +3,4 @@ pub mod Places
 pub mod Tables
 pub mod Held
 pub mod Row
+pub mod Equality

@@ -6,7 +6,7 @@ use native.Mathlib.Nat.{pow-suc}
 use native.Mathlib.Omega.{arith}
 use native.Mathlib.Decide.{decLe}
 use lib.ListN.{length, length-map}
-use lib.Pow.{pow-pos, pow-mono}
+use lib.Pow.{pow-pos, pow-mono, pow-lt}
 use lib.Bits.{bitAnd, and-step, and-self, and-mask}
 use native.Mathlib.Nat.{mod-eq-of-lt}
 use lib.Count.{ones, ones-step, trailingZeros}
@@ -147,6 +147,22 @@ positions-low (suc k) m h l = by-digit _ m
     let t = trailingZeros k (m / 2) in
     rw (low-even k m e, double-digit (clear t (m / 2)) (m % 2) (digit-2 m), double-half (clear t (m / 2)) (m % 2) (digit-2 m), e, positions-low k (m / 2) (half-pos m h e) (half-lt k m l)))
     (λ e. rw (low-odd k m e, e, even-digit m, even-half m))
+
+-- One mark alone.
+low-one : (w k : ℕ) → k < w → trailingZeros w (2 ^ k) ≡ k
+low-one zero k h = absurd (omega arith)
+low-one (suc w) zero h = low-odd w 1 refl
+low-one (suc w) (suc k) h =
+    let p : 2 ^ suc k % 2 ≡ 0 = omega (arith, pow-suc 2 k) in
+    let q : 2 ^ suc k / 2 ≡ 2 ^ k = omega (arith, pow-suc 2 k) in
+    low-even w (2 ^ suc k) p ∙ rw (q, low-one w k (omega arith))
+
+pub positions-one : (w k : ℕ) → k < w → positions w (2 ^ k) ≡ k ∷ []
+positions-one w k h =
+    let l : 2 ^ k < 2 ^ w = pow-lt h in
+    let d : digit k (2 ^ k) ≡ 1 = rw (low-one w k h) at (low-digit w (2 ^ k) (pow-pos k) l) in
+    let c : clear k (2 ^ k) ≡ 0 = omega (arith, clear-is k (2 ^ k) d) in
+    positions-low w (2 ^ k) (pow-pos k) l ∙ rw (low-one w k h, c, positions-none w)
 
 pub count-positions : (k m : ℕ) → m < 2 ^ k → length (positions k m) ≡ ones m
 unfolding positions ones

@@ -8,12 +8,12 @@ use mathlib.Core.List.{List, [], _∷_, _++_, append-nil}
 use lib.ListN.{length, getD, drop, length-drop}
 use lib.Seq.{drop-drop, getD-drop}
 use lib.IntN.{ℤ}
-use Rattle.rules.specs.Forms.{Matcher, Pattern, wildcard, nil, variable, constant, value, cons, join, span}
+use Rattle.rules.specs.Forms.{Matcher, something, integer, list, multiset, Pattern, wildcard, nil, variable, constant, value, cons, join, span}
 use Rattle.rules.specs.Reading.{ok}
 use Rattle.rules.specs.Fit.{element}
 use Rattle.rules.specs.Search.{isSomething}
 use Rattle.rules.specs.Services.{accepted, Rule, ruleOf}
-use Rattle.promises.specs.Written.{matcherWords, patternWords, length-pattern-words}
+use Rattle.promises.specs.Written.{matcherWords, patternWords, levels, length-pattern-words}
 use Rattle.promises.specs.ReadMatcher.{matcher-read}
 use Rattle.promises.specs.ReadPattern.{pattern-read}
 use Rattle.promises.specs.Faults.{WellFormed, rule-accepted}
@@ -50,6 +50,26 @@ instrs-span (constant c) m = omega arith
 instrs-span (value x c) m = omega arith
 instrs-span (cons p q) m = let a = instrs-span p (element m) in let b = instrs-span q m in omega arith
 instrs-span (join p q) m = let a = instrs-span p m in let b = instrs-span q m in omega arith
+
+-- ---- The words are few enough for the compiler.
+
+matcher-length : (m : Matcher) → length (matcherWords m) ≡ suc (levels m)
+unfolding matcherWords levels
+matcher-length something = refl
+matcher-length integer = refl
+matcher-length (list m) = ap suc (matcher-length m)
+matcher-length (multiset m) = ap suc (matcher-length m)
+
+module _ (ms ps : List ℤ) (r : Rule) (a : ruleOf ms ps ≡ accepted r) where
+  pub matcher-short : length ms ≤ 5
+  matcher-short =
+      let m = matcher-read ms (r .matcher) .0 (rule-accepted ms ps r .0 a .matcher) in
+      let e = ap length (m .0) ∙ matcher-length (r .matcher) in
+      let l = m .1 in
+      omega arith
+
+  pub pattern-short : length ps ≤ 256
+  pattern-short = pattern-read ps (r .pattern) .0 (rule-accepted ms ps r .0 a .pattern) .1
 
 -- ---- Place after place.
 

@@ -13,11 +13,12 @@ use Rattle.rules.specs.Reading.{Verdict, ok, fault, _then_}
 use Rattle.rules.specs.Variables.{demand, isNext, isLeft, variables}
 use Rattle.rules.specs.Search.{isSomething}
 use Rattle.promises.specs.Tests.{and-split}
+use Rattle.promises.specs.Readers.{then-ok}
 use Rattle.promises.specs.Written.{variableTags}
 use Rattle.promises.specs.Pairing.{same-eq}
-use Rattle.promises.specs.Numbering.{variables-found, demand-ok as found}
+use Rattle.promises.specs.Numbering.{variables-found, demand-ok}
 use Rattle.program.specs.Points.{Item, item, Point, point, finish, beyond, enter}
-use Rattle.program.specs.Program.{followOf, pointAt, demand-ok, then-ok}
+use Rattle.program.specs.Program.{followOf, pointAt}
 
 -- n variables stand to the left of what waits.
 pub data Waits : ℕ → List Item → Type 0 where
@@ -83,10 +84,10 @@ numbered-at m p at k h (suc pc) = go (pointAt m p pc) (numbered-at m p at k h pc
 pub number-is : (x : ℤ) (at n k : ℕ) → variables (variable x) at n ≡ ok k → (x ≡ pos n) × (n < 16)
 unfolding variables isNext
 number-is x at n k h =
-    let r = and-split (same x (pos n)) (ltb n 16) (found (isNext x n) at (suc n) k h .0) in
+    let r = and-split (same x (pos n)) (ltb n 16) (demand-ok (isNext x n) at (suc n) k h .0) in
     (same-eq x (pos n) (r .0), ltb→lt n 16 (r .1))
 
 pub named-is : (x c : ℤ) (at n k : ℕ) → variables (value x c) at n ≡ ok k → (j : ℕ) × (x ≡ pos j) × (j < n)
 unfolding variables isLeft
-named-is (pos j) c at n k h = (j, refl, ltb→lt j n (found (isLeft (pos j) n) at n k h .0))
-named-is (negsuc j) c at n k h = absurd (found (isLeft (negsuc j) n) at n k h .0)
+named-is (pos j) c at n k h = (j, refl, ltb→lt j n (demand-ok (isLeft (pos j) n) at n k h .0))
+named-is (negsuc j) c at n k h = absurd (demand-ok (isLeft (negsuc j) n) at n k h .0)

@@ -1,4 +1,4 @@
--- The program of a pattern: instructions, what is still to do at each place of the program, and how the two hang together. Nothing here is about values.
+-- Document 01, section 4, as a program: its instructions, what is to do at each of its places, and what an instruction makes of it.
 use Prim.Native.Nat.{ℕ, zero, suc}
 use mathlib.Core.Path.{_≡_, refl, ap}
 use mathlib.Core.Bool.{Bool, true, false}

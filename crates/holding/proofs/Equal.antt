@@ -1,0 +1,339 @@
+-- Equality of held values, as the code asks. Assumes nothing.
+use mathlib.Core.Path.{_≡_, refl, sym, _∙_, ap, ap₂, subst}
+use mathlib.Core.Bool.{Bool, true, false, cond, _&&_}
+use mathlib.Core.Option.{Option, none, some}
+use mathlib.Core.List.{List, [], _∷_, _++_}
+use Prim.Native.Nat.{ℕ, zero, suc, _+_, _-_, _*_, _/_, _%_, _^_, _<_, _≤_}
+use native.Mathlib.Numerals.{add-one}
+use native.Mathlib.Omega.{arith}
+use native.Mathlib.Decide.{decLt, decLe}
+use borrow.Author.Needs.{needs}
+use borrow.Author.Tests.{eq-eqb, ne-eqb, eqb-true, eqb-false, not-true, not-false}
+use lib.Dec.{eqb}
+use lib.ListN.{length, getD, drop, drop-of-length-le}
+use lib.Seq.{drop-cons}
+use lib.IntN.{ℤ, pos, negsuc}
+use lib.Signed.{mag}
+use lib.Count.{trailingZeros}
+use mir.Syntax.{w32, w64}
+use mir.Val.{Fits, ofZ, hbits}
+use Rattle.rules.specs.Numbers.{same, plus}
+use Rattle.rules.specs.Forms.{Matcher, something, integer, list, multiset, Value, int, collection, Values, empty, _▸_, count}
+use Rattle.rules.specs.Equality.{inOrder, equal}
+use Rattle.promises.specs.Written.{matcherWords}
+use Rattle.promises.specs.Pairing.{withoutFirst, greedy, multisets-greedy}
+use Rattle.words.specs.Words.{tagZ, tagAt}
+use Rattle.words.proofs.Signed.{within}
+use Rattle.marks.specs.Marks.{positions, clear}
+use Rattle.marks.specs.Marked.{nth, marked}
+use Rattle.marks.proofs.Places.{positions-low, positions-none}
+use Rattle.holding.specs.Places.{valueAt, elements, countAt, Target, Tag, elementAt}
+use Rattle.holding.specs.Held.{Held, heldAt, wholeAt, left}
+use Rattle.holding.specs.Equality.{matcherBy, matcherOf, matcherAt, equalAt, wholesEqual, leftInOrder, leftPaired, firstIn, firstEqual, isSum}
+use Rattle.holding.proofs.Elements.{second, tag-small}
+use Rattle.holding.proofs.Held.{held-int, held-collection, held-64, held-clear, held-some, whole-held, whole-value, left-none, next-in, next-less, next-tag, next-value, next-left}
+use Rattle.holding.proofs.First.{leftOf, without-first, first-found, first-none}
+
+-- ---- The matcher by its tag.
+
+module _ (mt : List ℤ) (i k : ℕ) (e : k ≡ tagAt mt i) where
+  inside : k ≤ 3 → i < length mt
+  inside h = within mt i k e (omega arith)
+
+  matcher-in : i < length mt → matcherAt mt i ≡ matcherBy k (matcherAt mt (i + 1))
+  unfolding matcherAt matcherOf tagAt
+  matcher-in h = rw (e, add-one i, drop-cons mt i (negsuc 0) h)
+
+  pub matcher-0 : k ≡ 0 → matcherAt mt i ≡ something
+  matcher-0 z = matcher-in (inside (omega arith)) ∙ rw z
+
+  pub matcher-1 : k ≡ 1 → matcherAt mt i ≡ integer
+  matcher-1 z = matcher-in (inside (omega arith)) ∙ rw z
+
+  pub matcher-2 : k ≡ 2 → matcherAt mt i ≡ list (matcherAt mt (i + 1))
+  matcher-2 z = matcher-in (inside (omega arith)) ∙ rw z
+
+  pub matcher-3 : k ≡ 3 → matcherAt mt i ≡ multiset (matcherAt mt (i + 1))
+  matcher-3 z = matcher-in (inside (omega arith)) ∙ rw z
+
+  pub matcher-next : k ≤ 3 → length mt < 2 ^ 64 → Fits w64 (i + 1)
+  matcher-next h l = let x = inside h in record { fits = omega arith }
+
+  pub matcher-less : (d : ℕ) → k ≤ 3 → 4 * (length mt - i) ≡ d → 4 * (length mt - (i + 1)) + 3 < d
+  matcher-less d h z = let x = inside h in omega arith
+
+by-high : (k : ℕ) (m : Matcher) → 3 < k → matcherBy k m ≡ something
+by-high zero m h = absurd (omega arith)
+by-high (suc zero) m h = absurd (omega arith)
+by-high (suc (suc zero)) m h = absurd (omega arith)
+by-high (suc (suc (suc zero))) m h = absurd (omega arith)
+by-high (suc (suc (suc (suc k)))) m h = refl
+
+pub matcher-high : (mt : List ℤ) (i k : ℕ) → k ≡ tagAt mt i → 3 < k → matcherAt mt i ≡ something
+unfolding matcherAt matcherOf
+matcher-high mt i k e h = go (decLt i (length mt))
+  where
+    go : Dec (i < length mt) → matcherAt mt i ≡ something
+    go (yes y) = matcher-in mt i k e y ∙ by-high k (matcherAt mt (i + 1)) h
+    go (no n) = let l : length mt ≤ i = omega arith in rw (drop-of-length-le mt l)
+
+-- Where a matcher's words stand, it is that matcher.
+matcher-of : (m : Matcher) (l : List ℤ) → matcherOf (matcherWords m ++ l) ≡ m
+unfolding matcherOf matcherWords
+matcher-of something l = refl
+matcher-of integer l = refl
+matcher-of (list m) l = ap list (matcher-of m l)
+matcher-of (multiset m) l = ap multiset (matcher-of m l)
+
+pub matcher-at : (mt : List ℤ) (i : ℕ) (m : Matcher) (l : List ℤ) → drop i mt ≡ matcherWords m ++ l → matcherAt mt i ≡ m
+unfolding matcherAt
+matcher-at mt i m l e = ap matcherOf e ∙ matcher-of m l
+
+-- ---- By the tags.
+
+equal-int-collection : (v : Value) (us : Values) → equal integer v (collection us) ≡ false
+unfolding equal
+equal-int-collection (int x) us = refl
+equal-int-collection (collection vs) us = refl
+
+equal-list-int : (m : Matcher) (v : Value) (y : ℤ) → equal (list m) v (int y) ≡ false
+unfolding equal
+equal-list-int m (int x) y = refl
+equal-list-int m (collection vs) y = refl
+
+equal-multiset-int : (m : Matcher) (v : Value) (y : ℤ) → equal (multiset m) v (int y) ≡ false
+unfolding equal
+equal-multiset-int m (int x) y = refl
+equal-multiset-int m (collection vs) y = refl
+
+pub equal-0 : (mt s : List ℤ) (i a am b bm k : ℕ) → k ≡ tagAt mt i → k ≡ 0 → false ≡ equalAt mt i s a am b bm
+unfolding equalAt equal
+equal-0 mt s i a am b bm k e z = rw (matcher-0 mt i k e z)
+
+pub equal-high : (mt s : List ℤ) (i a am b bm k : ℕ) → k ≡ tagAt mt i → 3 < k → false ≡ equalAt mt i s a am b bm
+unfolding equalAt equal
+equal-high mt s i a am b bm k e z = rw (matcher-high mt i k e z)
+
+module _ (mt s : List ℤ) (i a am b bm k ta tb : ℕ) (g : Target s) (v : Held s a am) (w : Held s b bm) (e : k ≡ tagAt mt i) (p : ta ≡ tagAt s a) (q : tb ≡ tagAt s b) where
+  module _ (z : k ≡ 1) where
+    pub int-bad-a : (ta ≡ 0 → ⊥) → false ≡ equalAt mt i s a am b bm
+    unfolding equalAt equal
+    int-bad-a f = rw (matcher-1 mt i k e z, held-collection s a am g (v .tag) (λ x. f (p ∙ x)))
+
+    pub int-bad-b : (tb ≡ 0 → ⊥) → false ≡ equalAt mt i s a am b bm
+    unfolding equalAt
+    int-bad-b f = rw (matcher-1 mt i k e z, held-collection s b bm g (w .tag) (λ x. f (q ∙ x))) (sym (equal-int-collection _ _))
+
+    pub int-equal : (r : Bool) → ta ≡ 0 → tb ≡ 0 → r ≡ same (getD s (a + 1) (pos 0)) (getD s (b + 1) (pos 0)) → r ≡ equalAt mt i s a am b bm
+    unfolding equalAt equal
+    int-equal r x y h = h ∙ rw (matcher-1 mt i k e z, held-int s a am g (v .tag) (sym p ∙ x), held-int s b bm g (w .tag) (sym q ∙ y))
+
+  module _ (f : k ≡ 0 → ⊥) (n : k ≡ 1 → ⊥) (h : k ≤ 3) where
+    by-kind : (P : Type 0) → (k ≡ 2 → P) → (k ≡ 3 → P) → P
+    by-kind P x y = go k refl
+      where
+        go : (n : ℕ) → k ≡ n → P
+        go zero z = absurd (f z)
+        go (suc zero) z = absurd (n z)
+        go (suc (suc zero)) z = x z
+        go (suc (suc (suc zero))) z = y z
+        go (suc (suc (suc (suc n)))) z = absurd (omega arith)
+
+    pub bad-a : ta ≡ 0 → false ≡ equalAt mt i s a am b bm
+    unfolding equalAt equal
+    bad-a z = by-kind _
+        (λ x. rw (matcher-2 mt i k e x, held-int s a am g (v .tag) (sym p ∙ z)))
+        (λ x. rw (matcher-3 mt i k e x, held-int s a am g (v .tag) (sym p ∙ z)))
+
+    pub bad-b : tb ≡ 0 → false ≡ equalAt mt i s a am b bm
+    unfolding equalAt
+    bad-b z = by-kind _
+        (λ x. rw (matcher-2 mt i k e x, held-int s b bm g (w .tag) (sym q ∙ z)) (sym (equal-list-int _ _ _)))
+        (λ x. rw (matcher-3 mt i k e x, held-int s b bm g (w .tag) (sym q ∙ z)) (sym (equal-multiset-int _ _ _)))
+
+    module _ (x : ta ≡ 0 → ⊥) (y : tb ≡ 0 → ⊥) where
+      pub list-equal : (r : Bool) → k ≡ 2 → r ≡ leftInOrder mt (i + 1) s a am b bm → r ≡ equalAt mt i s a am b bm
+      unfolding equalAt equal leftInOrder
+      list-equal r z j = j ∙ rw (matcher-2 mt i k e z, held-collection s a am g (v .tag) (λ u. x (p ∙ u)), held-collection s b bm g (w .tag) (λ u. y (q ∙ u)))
+
+      pub multiset-equal : (r : Bool) → (k ≡ 2 → ⊥) → r ≡ leftPaired mt (i + 1) s a am b bm → r ≡ equalAt mt i s a am b bm
+      unfolding equalAt leftPaired
+      multiset-equal r z j = j ∙ by-kind _ (λ o. absurd (z o))
+          (λ o. rw (matcher-3 mt i k e o, held-collection s a am g (v .tag) (λ u. x (p ∙ u)), held-collection s b bm g (w .tag) (λ u. y (q ∙ u)))
+          (sym (multisets-greedy (matcherAt mt (i + 1)) (left s a am) (left s b bm))))
+
+-- What the calls ask.
+pub held-tag : (s : List ℤ) (a am : ℕ) → Held s a am → Tag s a
+held-tag s a am w = w .tag
+
+pub held-number : (s : List ℤ) (a am : ℕ) → Target s → Held s a am → tagAt s a < 2147483648
+held-number s a am g w = tag-small s a g (w .tag)
+
+pub held-second : (s : List ℤ) (a am : ℕ) → Target s → Held s a am → a + 1 < length s
+held-second s a am g w = second s a g (w .tag)
+
+pub ruleset equal-rules = (equal-0, equal-high, int-bad-a, int-bad-b, int-equal, bad-a, bad-b, list-equal, multiset-equal, matcher-next, matcher-less, held-number, held-second, needs)
+
+-- ---- Words.
+
+eqb-alike : (x y a b : ℕ) → (x ≡ y → a ≡ b) → (a ≡ b → x ≡ y) → eqb x y ≡ eqb a b
+eqb-alike x y a b f g = go (eqb x y) refl
+  where
+    go : (t : Bool) → eqb x y ≡ t → t ≡ eqb a b
+    go true e = sym (eq-eqb a b (f (eqb-true x y e)))
+    go false e = sym (ne-eqb a b (λ z. eqb-false x y e (g z)))
+
+pub same-bits : (x y : ℤ) → mag x < 2 ^ hbits w32 → mag y < 2 ^ hbits w32 → eqb (ofZ w32 x) (ofZ w32 y) ≡ same x y
+unfolding same
+same-bits (pos a) (pos b) f g = refl
+same-bits (pos a) (negsuc b) f g = ne-eqb a (2 ^ 32 - suc b) (λ z. omega arith)
+same-bits (negsuc a) (pos b) f g = ne-eqb (2 ^ 32 - suc a) b (λ z. omega arith)
+same-bits (negsuc a) (negsuc b) f g = eqb-alike (2 ^ 32 - suc a) (2 ^ 32 - suc b) a b (λ z. omega arith) (λ z. omega arith)
+
+pub sum-is : (s : List ℤ) (a b : ℕ) (r : Bool) (x′ y y′ c c′ z′ : ℤ) → y ≡ plus x′ c′ → r ≡ same y′ z′ → y′ ≡ y → x′ ≡ getD s (a + 1) (pos 0) → c′ ≡ c
+    → z′ ≡ getD s (b + 1) (pos 0) → r ≡ isSum s a c b
+unfolding isSum
+sum-is s a b r x′ y y′ c c′ z′ e f p q u t = cc
+
+pub ruleset word-rules = (same-bits, sum-is, needs)
+
+-- ---- Whole values.
+
+module _ (s : List ℤ) (a x : ℕ) (g : Target s) (w : Tag s a) (e : x ≡ wholeAt s a) where
+  pub wholes-held : Held s a x
+  wholes-held = rw e (whole-held s a g w)
+
+pub wholes-equal : (mt s : List ℤ) (i a x b y : ℕ) (r : Bool) → Target s → Tag s a → Tag s b → x ≡ wholeAt s a → y ≡ wholeAt s b
+    → r ≡ equalAt mt i s a x b y → r ≡ wholesEqual mt i s a b
+unfolding equalAt wholesEqual
+wholes-equal mt s i a x b y r g v w d e j = j ∙ rw (d, e, whole-value s a g v, whole-value s b g w)
+
+pub ruleset wholes-rules = (wholes-held, wholes-equal, needs)
+
+-- ---- In order.
+
+bad-and : (c d : Bool) → c ≡ false → c && d ≡ false
+bad-and true d e = let z : _≡_ {A = ℕ} 0 1 = cc in absurd (omega arith)
+bad-and false d e = refl
+
+good-and : (c d : Bool) → c ≡ true → c && d ≡ d
+good-and true d e = refl
+good-and false d e = let z : _≡_ {A = ℕ} 0 1 = cc in absurd (omega arith)
+
+-- One element is left, at least.
+record More (s : List ℤ) (b y : ℕ) : Type 0 where
+  v : Value
+  vs : Values
+  is : left s b y ≡ v ▸ vs
+
+one-left : (s : List ℤ) (b y : ℕ) → Target s → Held s b y → 0 < y → More s b y
+one-left s b y g w h = record { v = _; vs = _; is = next-left s b y _ g w refl h _ refl _ refl }
+
+-- What both comparisons say where nothing is left of the first.
+ends-both : (E : Values → Bool) (s : List ℤ) (b y : ℕ) → Target s → Held s b y → E empty ≡ true → ((v : Value) (vs : Values) → E (v ▸ vs) ≡ false) → E (left s b y) ≡ eqb y 0
+ends-both E s b y g w t f = go (decLe y 0)
+  where
+    go : Dec (y ≤ 0) → E (left s b y) ≡ eqb y 0
+    go (yes u) = rw (left-none s b y u) (t ∙ sym (eq-eqb y 0 (omega arith)))
+    go (no u) = let m = one-left s b y g w (omega arith) in rw (m .is) (f (m .v) (m .vs) ∙ sym (ne-eqb y 0 (λ z. omega arith)))
+
+module _ (mt s : List ℤ) (i a x b y : ℕ) (r : Bool) (g : Target s) where
+  pub order-short : r ≡ leftInOrder mt i s a x b y → Held s a x → 0 < x → y ≡ 0 → false ≡ r
+  unfolding leftInOrder inOrder
+  order-short j w h z = let m = one-left s a x g w h in sym (j ∙ rw (left-none s b y (omega arith), m .is))
+
+  pub order-out : r ≡ leftInOrder mt i s a x b y → Held s b y → x ≤ 0 → eqb y 0 ≡ r
+  unfolding leftInOrder inOrder
+  order-out j w h = sym (j ∙ rw (left-none s a x h) (ends-both (inOrder (equal (matcherAt mt i)) empty) s b y g w refl (λ v vs. refl)))
+
+  pub pair-out : r ≡ leftPaired mt i s a x b y → Held s b y → x ≤ 0 → eqb y 0 ≡ r
+  unfolding leftPaired greedy
+  pair-out j w h = sym (j ∙ rw (left-none s a x h) (ends-both (greedy (equal (matcherAt mt i)) empty) s b y g w refl (λ v vs. refl)))
+
+pub low-pos : {y : ℕ} → (y ≡ 0 → ⊥) → 0 < y
+low-pos f = omega arith
+
+pub order-tag : (s : List ℤ) (b y k f : ℕ) → Target s → Held s b y → k ≡ trailingZeros 64 y → (y ≡ 0 → ⊥) → f ≡ elementAt s b k → Tag s f
+order-tag s b y k f g w d n z = next-tag s b y k g w d (low-pos n) f z
+
+module _ (mt s : List ℤ) (i a x b y j k e f : ℕ) (r u : Bool) (o : r ≡ leftInOrder mt i s a x b y) (g : Target s) (v : Held s a x) (w : Held s b y)
+    (h : 0 < x) (n : y ≡ 0 → ⊥) (dj : j ≡ trailingZeros 64 x) (dk : k ≡ trailingZeros 64 y)
+    (p : e ≡ elementAt s a j) (z : f ≡ elementAt s b k) (c : u ≡ wholesEqual mt i s e f) where
+  order-is : leftInOrder mt i s a x b y ≡ u && leftInOrder mt i s a (clear (trailingZeros 64 x) x) b (clear (trailingZeros 64 y) y)
+  unfolding leftInOrder wholesEqual inOrder
+  order-is = rw (next-left s a x j g v dj h e p _ refl, next-left s b y k g w dk (low-pos n) f z _ refl, c)
+
+  pub order-bad : u ≡ false → false ≡ r
+  order-bad l = sym (o ∙ order-is ∙ bad-and u _ l)
+
+  pub order-turn : (x′ y′ : ℕ) → u ≡ true → x′ ≡ clear (trailingZeros 64 x) x → y′ ≡ clear (trailingZeros 64 y) y → r ≡ leftInOrder mt i s a x′ b y′
+  order-turn x′ y′ l m₁ m₂ = o ∙ order-is ∙ good-and u _ l ∙ rw (m₁, m₂)
+
+pub ruleset order-rules = (order-short, order-out, order-bad, order-turn, order-tag, low-pos, held-tag, held-clear, next-in, next-less, next-tag, not-true, not-false, needs)
+
+-- ---- The first that equals.
+
+first-cons : (f : Value → Bool) (vs : Values) (k : ℕ) (ks : List ℕ) → firstIn f vs (k ∷ ks) ≡ cond (f (nth vs k)) k (firstIn f vs ks)
+unfolding firstIn
+first-cons f vs k ks = refl
+
+pub find-out : (mt s : List ℤ) (i a b y r : ℕ) → r ≡ firstEqual mt i s a b y → y ≤ 0 → 64 ≡ r
+unfolding firstEqual firstIn
+find-out mt s i a b y r o h = let z : y ≡ 0 = omega arith in sym (o ∙ rw (z, positions-none 64))
+
+module _ (mt s : List ℤ) (i a b y k f r : ℕ) (u : Bool) (o : r ≡ firstEqual mt i s a b y) (g : Target s)
+    (w : Held s b y) (h : 0 < y) (dk : k ≡ trailingZeros 64 y) (z : f ≡ elementAt s b k) (c : u ≡ wholesEqual mt i s a f) where
+  find-is : firstEqual mt i s a b y ≡ cond u k (firstEqual mt i s a b (clear (trailingZeros 64 y) y))
+  unfolding firstEqual wholesEqual
+  find-is =
+      let E = equal (matcherAt mt i) (valueAt s a) in
+      rw (positions-low 64 y h (held-64 s b y g w), first-cons E (elements (valueAt s b)) (trailingZeros 64 y) (positions 64 (clear (trailingZeros 64 y) y)), c, dk)
+      (ap (λ (v : Value). cond (E v) (trailingZeros 64 y) (firstEqual mt i s a b (clear (trailingZeros 64 y) y))) (sym (next-value s b y k g w dk h f z)))
+
+  pub find-hit : u ≡ true → k ≡ r
+  find-hit l = sym (o ∙ find-is ∙ rw l)
+
+  pub find-turn : (y′ : ℕ) → u ≡ false → y′ ≡ clear (trailingZeros 64 y) y → r ≡ firstEqual mt i s a b y′
+  find-turn y′ l m = o ∙ find-is ∙ rw (l, m)
+
+pub ruleset find-rules = (find-out, find-hit, find-turn, held-tag, held-clear, next-in, next-less, next-tag, needs)
+
+-- ---- Paired off.
+
+module _ (mt s : List ℤ) (i e b y j : ℕ) (c : j ≡ firstEqual mt i s e b y) (g : Target s) (w : Held s b y) where
+  found-in : j ≡ firstIn (equal (matcherAt mt i) (valueAt s e)) (elements (valueAt s b)) (positions 64 y)
+  unfolding firstEqual
+  found-in = c
+
+  pub pair-lt : (j ≡ 64 → ⊥) → j < 64
+  pair-lt n = first-found (equal (matcherAt mt i) (valueAt s e)) (elements (valueAt s b)) y j found-in n .1
+
+  without-is : withoutFirst (equal (matcherAt mt i) (valueAt s e)) (left s b y)
+      ≡ leftOf (elements (valueAt s b)) y (Rattle.holding.proofs.First.firstOpt (equal (matcherAt mt i) (valueAt s e)) (elements (valueAt s b)) (positions 64 y))
+  unfolding left
+  without-is = without-first (equal (matcherAt mt i) (valueAt s e)) (elements (valueAt s b)) 64 y (held-some s b y g w) (held-64 s b y g w)
+
+  left-found : (j ≡ 64 → ⊥) → withoutFirst (equal (matcherAt mt i) (valueAt s e)) (left s b y) ≡ some (left s b (clear j y))
+  unfolding left
+  left-found n = without-is ∙ ap (leftOf (elements (valueAt s b)) y) (first-found (equal (matcherAt mt i) (valueAt s e)) (elements (valueAt s b)) y j found-in n .0)
+
+  left-missing : j ≡ 64 → withoutFirst (equal (matcherAt mt i) (valueAt s e)) (left s b y) ≡ none
+  left-missing n = without-is ∙ ap (leftOf (elements (valueAt s b)) y) (first-none (equal (matcherAt mt i) (valueAt s e)) (elements (valueAt s b)) y j found-in n)
+
+module _ (mt s : List ℤ) (i a x b y k e j : ℕ) (r : Bool) (o : r ≡ leftPaired mt i s a x b y) (g : Target s)
+    (v : Held s a x) (w : Held s b y) (h : 0 < x) (dk : k ≡ trailingZeros 64 x) (p : e ≡ elementAt s a k) (c : j ≡ firstEqual mt i s e b y) where
+  pair-is : leftPaired mt i s a x b y ≡ elim (withoutFirst (equal (matcherAt mt i) (valueAt s e)) (left s b y)) as (λ _. Bool) [
+    | none ↦ false
+    | some us ↦ greedy (equal (matcherAt mt i)) (left s a (clear (trailingZeros 64 x) x)) us
+  ]
+  unfolding leftPaired greedy
+  pair-is = rw (next-left s a x k g v dk h e p _ refl)
+
+  pub pair-none : j ≡ 64 → false ≡ r
+  pair-none n = sym (o ∙ pair-is ∙ rw (left-missing mt s i e b y j c g w n))
+
+  pub pair-turn : (x′ y′ : ℕ) → (j ≡ 64 → ⊥) → x′ ≡ clear (trailingZeros 64 x) x → y′ ≡ clear j y → r ≡ leftPaired mt i s a x′ b y′
+  unfolding leftPaired
+  pair-turn x′ y′ n m₁ m₂ = o ∙ pair-is ∙ rw (left-found mt s i e b y j c g w n, m₁, m₂)
+
+pub ruleset pair-rules = (pair-out, pair-none, pair-turn, pair-lt, held-tag, held-clear, next-in, next-less, next-tag, needs)

@@ -1,0 +1,44 @@
+-- Held values by places and marks are what the machine asks for; and the target, held whole, is where it starts. Assumes nothing.
+use Prim.Native.Nat.{ℕ}
+use mathlib.Core.Path.{_≡_}
+use mathlib.Core.List.{List}
+use lib.IntN.{ℤ}
+use Rattle.rules.specs.Forms.{Matcher, Value, words}
+use Rattle.rules.specs.Reading.{ok, readTarget}
+use Rattle.rules.specs.Fit.{fitsValue}
+use Rattle.holding.specs.Places.{Target}
+use Rattle.holding.specs.Held.{wholeAt}
+use Rattle.holding.specs.Row.{holds}
+use Rattle.holding.specs.declared.rows.Binding.{Binding}
+use Rattle.holding.proofs.Accepted.{read-target, read-held, read-is}
+use Rattle.engine.specs.Held.{Data}
+use Rattle.tying.specs.Operations.{binding, Is, Left, isNone, isNumber, isSame, opens, pick}
+use Rattle.tying.proofs.Fitting.{fits-value}
+use Rattle.tying.proofs.Tests.{none-ok, number-ok, same-ok, words-ok}
+use Rattle.tying.proofs.Choices.{opens-ok, pick-ok}
+
+abbrev pub places : (s : List ℤ) → Target s → Data
+places s g = record {
+  Held = Binding;
+  Rem = ℕ;
+  Is = Is s;
+  Left = Left s;
+  isEmptyHeld = isNone;
+  isEmptyHeld-ok = none-ok s g;
+  isNumber = isNumber s;
+  isNumber-ok = number-ok s g;
+  isSame = isSame s;
+  isSame-ok = same-ok s g;
+  opens = opens;
+  opens-ok = opens-ok s g;
+  pick = pick s;
+  pick-ok = pick-ok s g;
+  stale = λ now before. binding (now .at) (before .marks);
+  wordsOf = λ h. words (holds s h);
+  wordsOf-ok = words-ok s g;
+}
+
+module _ (s : List ℤ) (v : Value) (e : readTarget s ≡ ok v) where
+  pub target-is : (m : Matcher) → fitsValue m v 0 ≡ ok tt → Is s m (binding 0 (wholeAt s 0)) v
+  unfolding holds
+  target-is m f = record { held = read-held s v e; is = read-is s v e; fits = fits-value m v 0 f }
