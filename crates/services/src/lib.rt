@@ -1,2 +1,3 @@
 // The services of document 01.
+pub mod review;
 pub mod tally;
