@@ -2,6 +2,7 @@
 mod fit;
 pub mod matcher;
 pub mod pattern;
+pub mod refusal;
 pub mod table;
 pub mod target;
 mod unfit;
