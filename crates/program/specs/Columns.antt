@@ -1,18 +1,16 @@
 -- The program in its five arrays: a line reads back as it was laid, and of a rule that is accepted each means the instruction at its place.
 use Prim.Native.Nat.{ℕ, zero, suc, _+_, _<_, _≤_}
-use native.Mathlib.Nat.{suc-add}
 use native.Mathlib.Omega.{arith}
-use mathlib.Core.Path.{_≡_, refl, sym, ap, _∙_}
+use mathlib.Core.Path.{_≡_, refl, sym, _∙_}
 use mathlib.Core.Bool.{Bool, true, false}
 use mathlib.Core.List.{List, [], _∷_}
 use borrow.Author.Tests.{ltb-true, ltb-false}
 use lib.Dec.{ltb}
-use lib.ListN.{length, getD, set, length-set, replicate, length-replicate, List·getD-eq-default}
+use lib.ListN.{length, getD, length-set, replicate, length-replicate, List·getD-eq-default}
 use lib.Seq.{getD-set-same, getD-set-other}
 use lib.IntN.{ℤ, pos}
 use Rattle.rules.specs.Services.{accepted, Rule, ruleOf}
-use Rattle.promises.specs.ReadPattern.{pattern-read}
-use Rattle.promises.specs.Faults.{WellFormed, rule-accepted}
+use Rattle.promises.specs.Faults.{rule-accepted}
 use Rattle.program.specs.Program.{program}
 use Rattle.program.specs.Length.{instrs}
 use Rattle.program.specs.Lines.{Line, line, endLine, linesOf, variablesIn, Columns, columns, written, laid}
