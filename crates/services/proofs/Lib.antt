@@ -1,3 +1,4 @@
 pub mod Sums
 pub mod Costs
 pub mod Counted
+pub mod Rules

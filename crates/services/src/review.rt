@@ -17,6 +17,7 @@ pub struct Reviewed {
 }
 
 pub const CAP: u32 = 9;
+
 pub const TOO_BIG: u32 = 10;
 
 // A tag as a wide number.
@@ -36,7 +37,15 @@ fn count_of(matcher: &[i32], pattern: &[i32], cap: u64) -> Tally
     let mut arg = [0u8; 390];
     let mut mat = [0u8; 390];
     let mut con = [0i32; 390];
-    compile(matcher, pattern, &mut op, &mut from, &mut arg, &mut mat, &mut con);
+    compile(
+        matcher,
+        pattern,
+        &mut op,
+        &mut from,
+        &mut arg,
+        &mut mat,
+        &mut con,
+    );
     tallied(&op, cap)
 }
 
@@ -47,11 +56,23 @@ fn of_rule(matcher: &[i32], pattern: &[i32], cap: i32) -> Reviewed
 {
     let most = tag_of(cap);
     if 64 < most {
-        return Reviewed { answer: CAP, place: 0, count: 0 };
+        return Reviewed {
+            answer: CAP,
+            place: 0,
+            count: 0,
+        };
     }
     match count_of(matcher, pattern, wide(most)) {
-        Tally::Count(n) => Reviewed { answer: 0, place: 0, count: n },
-        Tally::TooBig => Reviewed { answer: TOO_BIG, place: 0, count: 0 },
+        Tally::Count(n) => Reviewed {
+            answer: 0,
+            place: 0,
+            count: n,
+        },
+        Tally::TooBig => Reviewed {
+            answer: TOO_BIG,
+            place: 0,
+            count: 0,
+        },
     }
 }
 
@@ -60,7 +81,11 @@ pub fn review(matcher: &[i32], pattern: &[i32], cap: i32) -> Reviewed
     ensures { λ r. ⌜ reviewed r ≡ review (now (matcher .entry)) (now (pattern .entry)) cap ⌝ }
 {
     match rule_refused(matcher, pattern) {
-        Judgement::Refused(a, i) => Reviewed { answer: a, place: i, count: 0 },
+        Judgement::Refused(a, i) => Reviewed {
+            answer: a,
+            place: i,
+            count: 0,
+        },
         Judgement::Accepted => of_rule(matcher, pattern, cap),
     }
 }
