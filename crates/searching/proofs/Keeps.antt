@@ -48,7 +48,7 @@ next-place op pc e h n = by-place _ 389 pc (λ z. absurd (n (rw z e))) (λ z. om
 held-less : {s : List ℤ} {at m : ℕ} (c : ℕ) → Held s at m → c ≤ m → Held s at c
 held-less c h l = record { tag = h .tag; marks = (let k = h .marks in omega arith) }
 
-held-whole : {s : List ℤ} (at : ℕ) → Tag s at → Held s at (wholeAt s at)
+pub held-whole : {s : List ℤ} (at : ℕ) → Tag s at → Held s at (wholeAt s at)
 unfolding wholeAt
 held-whole {s} at w = record { tag = w; marks = let p = pow-pos (countAt s at) in omega arith }
 

@@ -27,6 +27,7 @@ use Rattle.searching.proofs.Keeps.{when-if, take-keeps, settle-keeps}
 use Rattle.searching.proofs.Counts.{settled-is, takes-is}
 use Rattle.searching.proofs.Whole.{run-over, run-more}
 use Rattle.searching.proofs.Runs.{top-bound}
+use Rattle.stepping.proofs.Laws.{cases}
 
 -- ---- The row.
 

@@ -5,3 +5,4 @@ pub mod Counts
 pub mod Runs
 pub mod Whole
 pub mod Laws
+pub mod Begun

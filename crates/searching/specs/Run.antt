@@ -137,10 +137,9 @@ unfolding when
 answerOf n = when (eqb n 3) 8 (when (eqb n 0) 0 7)
 
 -- Told with the room as it is left.
-unfoldable pub matched : (live rows steps words : ℕ) → List ℤ → Matched
-unfolding answerOf
-matched live rows steps words room = record { answer = answerOf live; place = 0; rows = rows; steps = steps; words = words; room = room }
+unfoldable pub matched : (answer rows steps words : ℕ) → List ℤ → Matched
+matched answer rows steps words room = record { answer = answer; place = 0; rows = rows; steps = steps; words = words; room = room }
 
 unfoldable pub told : Run → Matched
-unfolding matched
-told r = matched (r .state .live) (r .state .rows) (r .state .steps) (r .state .words) (r .room)
+unfolding matched answerOf
+told r = matched (answerOf (r .state .live)) (r .state .rows) (r .state .steps) (r .state .words) (r .room)

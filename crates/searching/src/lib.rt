@@ -165,3 +165,91 @@ pub fn advance(
     }
     Found { state: x, binds: b }
 }
+
+pub struct Report {
+    pub answer: u32,
+    pub rows: u64,
+    pub steps: u64,
+    pub words: usize,
+}
+
+// The answer: 8 full, 0 done, 7 budget.
+fn answer_of(live: u64) -> u32
+    ensures { λ r. ⌜ r ≡ answerOf live ⌝ }
+{
+    if live == 3 {
+        return 8;
+    }
+    if live == 0 {
+        return 0;
+    }
+    7
+}
+
+// The whole run of a program on a target, from its first state.
+pub fn search(
+    budget: u32,
+    n: usize,
+    mt: &[i32],
+    s: &[i32],
+    op: &[u8; 390],
+    from: &[u16; 390],
+    arg: &[u8; 390],
+    mat: &[u8; 390],
+    con: &[i32; 390],
+    room: &mut [i32],
+) -> Report
+    requires { ⌜ Target (now s) ⌝ ∗ ⌜ 0 < length (now s) ⌝ ∗ ⌜ Fine (env (now op) (now from) (now arg) (now mat) (now con) (now mt) (now s) n) ⌝ }
+    ensures { λ r. ⌜ Searched (env (now (op .entry)) (now (from .entry)) (now (arg .entry)) (now (mat .entry)) (now (con .entry)) (now (mt .entry)) (now (s .entry)) n) budget (now (room .entry)) (matched (r .answer) (r .rows) (r .steps) (r .words) (now (room .exit))) ⌝ }
+{
+    let mut ends = [0u16; 512];
+    let mut base = [0u16; 512];
+    let mut places = [0u16; 512];
+    ends_of(s, &mut ends);
+    places_of(s, &ends, &mut base, &mut places);
+    let mut ats = [0u16; 390];
+    let mut wholes = [0u64; 390];
+    let mut lefts = [0u64; 390];
+    let mut lows = [0u16; 390];
+    let mut backs = [0u64; 390];
+    let given = [Binding { at: 0, marks: 0 }; 16];
+    let first = State {
+        pc: 0,
+        at: 0,
+        marks: whole(s, 0),
+        top: 0,
+        live: 1,
+        rows: 0,
+        steps: 0,
+        words: 0,
+    };
+    let found = advance(
+        first,
+        given,
+        budget as u64,
+        n,
+        mt,
+        s,
+        &ends,
+        &base,
+        &places,
+        op,
+        from,
+        arg,
+        mat,
+        con,
+        &mut ats,
+        &mut wholes,
+        &mut lefts,
+        &mut lows,
+        &mut backs,
+        room,
+    );
+    let x = found.state;
+    Report {
+        answer: answer_of(x.live),
+        rows: x.rows,
+        steps: x.steps,
+        words: x.words,
+    }
+}
