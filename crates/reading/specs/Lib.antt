@@ -4,3 +4,5 @@ pub mod Matchers
 pub mod Table
 pub mod Patterns
 pub mod Variables
+pub mod Fitting
+pub mod Targets

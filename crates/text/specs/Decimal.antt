@@ -66,10 +66,10 @@ unfoldable pub lastDigits : (most : ℕ) → ℕ → List ℕ
 lastDigits zero n = []
 lastDigits (suc most) n = cond (ltb n 10) ((48 + n) ∷ []) (lastDigits most (n / 10) ++ ((48 + n % 10) ∷ []))
 
--- No number that is printed has more than ten digits.
+-- No number of 64 bits has more than twenty digits.
 unfoldable pub decimal : ℕ → List ℕ
 unfolding lastDigits
-decimal = lastDigits 10
+decimal = lastDigits 20
 
 unfoldable pub numeral : ℤ → List ℕ
 unfolding decimal

@@ -1,13 +1,17 @@
 -- What the answers of the readers stand for.
-use Prim.Native.Nat.{ℕ, suc, _+_, _-_, _≤_, _<_}
+use Prim.Native.Nat.{ℕ, suc, _+_, _-_, _*_, _≤_, _<_}
 use mathlib.Core.Path.{_≡_}
 use mathlib.Core.Bool.{cond}
 use mathlib.Core.Option.{Option, none, some}
-use mathlib.Core.List.{List, [], _∷_}
+use mathlib.Core.List.{List, [], _∷_, _++_}
 use lib.Dec.{eqb}
-use lib.ListN.{length, take, drop}
+use lib.ListN.{length, take, drop, replicate}
+use lib.Seq.{sets}
 use lib.IntN.{ℤ, pos, negℤ}
-use Rattle.text.specs.Question.{Limits, Lines, Question, wordsOf, asked}
+use Rattle.text.specs.Decimal.{newline, lineOf}
+use Rattle.text.specs.Rows.{cutRows, lines}
+use Rattle.text.specs.declared.rows.Rest.{Rest}
+use Rattle.text.specs.Question.{Limits, Lines, Question, wordsOf}
 use Rattle.text.specs.declared.number.Digits.{Digits}
 use Rattle.text.specs.declared.number.Signed.{Signed}
 use Rattle.text.specs.declared.number.Piece.{Piece}
@@ -58,14 +62,20 @@ unfoldable pub ofBounds : Bounds → Option Limits
 ofBounds (Bounds.Of budget room) = some (record { budget = budget; room = room })
 ofBounds Bounds.Other = none
 
+unfoldable pub RoomFew : Bounds → Type 0
+RoomFew (Bounds.Of budget room) = room ≤ 4096
+RoomFew Bounds.Other = Unit {0}
+
 -- The four lines end where the newlines stand.
 unfoldable pub part : ℕ → ℕ → List ℕ → List ℕ
 part from to s = take (to - from) (drop from s)
 
+unfoldable pub these : (one two three four : List ℕ) → Lines
+these a b c d = record { one = a; two = b; three = c; four = d }
+
 unfoldable pub ofEnds : List ℕ → Ends → Option Lines
-unfolding part
-ofEnds s (Ends.At a b c d) =
-    some (record { one = part 0 a s; two = part (a + 1) b s; three = part (b + 1) c s; four = part (c + 1) d s })
+unfolding part these
+ofEnds s (Ends.At a b c d) = some (these (part 0 a s) (part (a + 1) b s) (part (b + 1) c s) (part (c + 1) d s))
 ofEnds s Ends.Other = none
 
 unfoldable pub Ordered : List ℕ → Ends → Type 0
@@ -82,6 +92,31 @@ unfoldable pub Few : Asked → Type 0
 Few (Asked.Of nm np nt budget room) = (nm ≤ 2000) × (np ≤ 2000) × (nt ≤ 2000) × (room ≤ 4096)
 Few Asked.Other = Unit {0}
 
-pub record ReadQuestion (input : List ℕ) (r : Asked) (m p t : List ℤ) : Type 0 where
-  pub is : ofAsked r m p t ≡ asked input
-  pub few : Few r
+-- ---- Printing.
+
+-- A list with other bytes from an index on.
+unfoldable pub put : List ℕ → ℕ → List ℕ → List ℕ
+put l at bs = sets l at bs
+
+-- A text was written from an index to an end, and nothing else.
+pub record Wrote (old new : List ℕ) (at end : ℕ) (text : List ℕ) : Type 0 where
+  pub ends : end ≡ at + length text
+  pub bytes : new ≡ put old at text
+
+-- The line of five numbers.
+unfoldable pub fiveLine : (a b c d e : ℕ) → List ℕ
+unfolding lineOf
+fiveLine a b c d e = lineOf (pos a ∷ pos b ∷ pos c ∷ pos d ∷ pos e ∷ [])
+
+-- Rows were printed from an index on; the last of them are empty lines, which are counted and not written. Nothing else was written.
+pub record WroteRows (old new : List ℕ) (at : ℕ) (r : Rest) (values rows : ℕ) (ws : List ℤ) : Type 0 where
+  pub text : take (r .at) new ++ replicate (r .lines) newline ≡ take at old ++ lines (cutRows values rows ws)
+  pub kept : drop (r .at) new ≡ drop (r .at) old
+  pub from : at ≤ r .at
+  pub within : r .at ≤ at + 22 * length ws
+
+-- A text stands at the start, but for its last empty lines, which are counted; all behind is as it was.
+pub record Text (old new : List ℕ) (r : Rest) (text : List ℕ) : Type 0 where
+  pub whole : take (r .at) new ++ replicate (r .lines) newline ≡ text
+  pub kept : drop (r .at) new ≡ drop (r .at) old
+  pub within : r .at ≤ length new

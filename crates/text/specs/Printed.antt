@@ -4,20 +4,21 @@ use mathlib.Core.Option.{none, some}
 use mathlib.Core.List.{List, [], _∷_, _++_}
 use lib.ListN.{take, replicate}
 use lib.IntN.{ℤ, pos}
-use Rattle.rules.specs.Reading.{ok, fault, readPattern}
+use Rattle.rules.specs.Reading.{Verdict, ok, fault, _then_, readPattern}
 use Rattle.rules.specs.Variables.{variables}
 use Rattle.rules.specs.Services.{Matched, match}
 use Rattle.text.specs.Decimal.{newline, lineOf}
 use Rattle.text.specs.Question.{Question, asked}
 use Rattle.text.specs.Rows.{cutRows, lines}
 
+unfoldable pub orZero : Verdict ℕ → ℕ
+orZero (ok n) = n
+orZero (fault i) = 0
+
 -- How many variables a pattern has: a row has so many values. (No row is found where the words are not one whole pattern with its variables in order.)
 unfoldable pub variablesOf : List ℤ → ℕ
-unfolding readPattern variables
-variablesOf ps = elim (readPattern ps) [
-  | fault i ↦ 0
-  | ok p ↦ elim (variables p 0 0) [ fault i ↦ 0 | ok n ↦ n ]
-]
+unfolding _then_ readPattern variables orZero
+variablesOf ps = orZero (readPattern ps then λ p. variables p 0 0)
 
 -- "The five numbers (answer, place, rows, steps, words written)".
 unfoldable pub firstLine : Matched → List ℕ

@@ -8,7 +8,7 @@ ghost use mathlib.Core.Path.{_≡_};
 ghost use Prim.Native.Nat.{_≤_};
 ghost use lib.ListN.{length};
 ghost use Rattle.text.specs.Question.{pieces, wordsOf, limits};
-ghost use Rattle.text.specs.Meaning.{ReadWords, ofBounds};
+ghost use Rattle.text.specs.Meaning.{ReadWords, ofBounds, RoomFew};
 
 // How many words a line has.
 pub enum Line {
@@ -54,6 +54,7 @@ pub(crate) fn words_of(t: &[u8], out: &mut [i32]) -> Line
 // The two numbers of line 4.
 pub(crate) fn bounds_of(t: &[u8]) -> Bounds
     ensures { λ r. ⌜ ofBounds r ≡ limits (pieces (now (t .entry))) ⌝ }
+    ensures { λ r. ⌜ RoomFew r ⌝ }
 {
     let e = find(t, 0, 32);
     if e == t.len() {

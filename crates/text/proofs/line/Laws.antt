@@ -18,7 +18,7 @@ use mir.Val.{Fits, SFits, toZ, ofZ}
 use mir.Facts.{toZ-ofZ}
 use Rattle.text.specs.Decimal.{_then_, given, number, split}
 use Rattle.text.specs.Question.{Limits, limits, atMost, isWord, pieces, every, word, wordsOf}
-use Rattle.text.specs.Meaning.{ofDigits, ofPiece, ofLine, countOf, ofBounds, before}
+use Rattle.text.specs.Meaning.{ofDigits, ofPiece, ofLine, countOf, ofBounds, RoomFew, before}
 use Rattle.text.proofs.Pieces.{next-piece, last-piece, some-piece}
 use Rattle.text.specs.declared.number.Digits.{Digits}
 use Rattle.text.specs.declared.number.Piece.{Piece}
@@ -91,7 +91,15 @@ pub budget-fits : (s : List ℕ) (d : Digits) (n : ℕ) → ofDigits d ≡ (numb
 unfolding ofDigits
 budget-fits s d n e p = let h = most-of (number s) n 4294967295 (rw (← e, p)) in record { fits = omega arith }
 
-pub ruleset bounds-rules = (one-number, third-number, no-budget, no-room, budget-room, budget-fits, needs)
+pub room-few : (s : List ℕ) (d : Digits) (budget n : ℕ) → ofDigits d ≡ (number s then atMost 4096) → d ≡ Digits.Of n → RoomFew (Bounds.Of budget n)
+unfolding ofDigits RoomFew
+room-few s d budget n e p = most-of (number s) n 4096 (rw (← e, p))
+
+pub no-room-few : RoomFew Bounds.Other
+unfolding RoomFew
+no-room-few = tt
+
+pub ruleset bounds-rules = (one-number, third-number, no-budget, no-room, budget-room, budget-fits, room-few, no-room-few, needs)
 
 -- ---- Lines 1 to 3.
 

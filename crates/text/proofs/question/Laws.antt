@@ -3,17 +3,26 @@ use mathlib.Core.Path.{_≡_, refl, sym, _∙_, ap}
 use mathlib.Core.Bool.{Bool, true, false, cond}
 use mathlib.Core.Option.{Option, none, some}
 use mathlib.Core.List.{List, [], _∷_}
-use Prim.Native.Nat.{ℕ, zero, suc, _+_, _-_, _<_, _≤_}
+use Prim.Native.Nat.{ℕ, zero, suc, _+_, _-_, _^_, _<_, _≤_}
 use native.Mathlib.Omega.{arith}
 use borrow.Author.Needs.{needs}
 use borrow.Author.Tests.{le-leb, lt-leb}
 use lib.Dec.{eqb}
 use lib.ListN.{length, take, drop, length-drop, drop-of-length-le}
-use Rattle.text.specs.Decimal.{given, onto, split}
-use Rattle.text.specs.Question.{Lines, lines, linesOf}
-use Rattle.text.specs.Meaning.{before, part, ofEnds, Ordered}
+use lib.IntN.{ℤ}
+use mir.Syntax.{w64}
+use mir.Val.{Fits}
+use Rattle.text.specs.Decimal.{_then_, given, onto, split}
+use Rattle.text.specs.Question.{Lines, lines, linesOf, question, asked, wordsOf, limits, pieces}
+use Rattle.text.specs.Meaning.{before, part, these, ofLine, countOf, ofBounds, RoomFew, ofEnds, Ordered, ofAsked, Few}
 use Rattle.text.proofs.Pieces.{next-piece, last-piece, some-piece, in-bytes}
+use Rattle.text.specs.declared.line.Line.{Line}
+use Rattle.text.specs.declared.line.Bounds.{Bounds}
 use Rattle.text.specs.declared.question.Ends.{Ends}
+use Rattle.text.specs.declared.question.Asked.{Asked}
+use Rattle.text.specs.declared.line.Line.the-variants as Line
+use Rattle.text.specs.declared.line.Bounds.the-variants as Bounds
+use Rattle.text.specs.declared.question.Asked.the-variants as Asked
 use Rattle.text.specs.declared.question.Ends.the-variants as Ends
 
 pub too-long : (s : List ℕ) → 32768 < length s → ofEnds s Ends.Other ≡ linesOf s
@@ -108,7 +117,7 @@ module _ (s : List ℕ) (l : length s ≤ 32768) (a : ℕ) (ea : a ≡ 0 + befor
                     sym (fourth ∙ more (part 0 a s) (part (a + 1) b s) (part (b + 1) c s) (part (c + 1) d s) (drop (d + 1) s) (omega arith))
 
                 pub four-lines : length s ≤ d + 1 → ofEnds s (Ends.At a b c d) ≡ linesOf s
-                unfolding lines ofEnds split
+                unfolding lines ofEnds these split
                 four-lines h = sym (fourth ∙ rw (drop-of-length-le s h))
 
                 pub in-order : Ordered s (Ends.At a b c d)
@@ -116,3 +125,98 @@ module _ (s : List ℕ) (l : length s ≤ 32768) (a : ℕ) (ea : a ≡ 0 + befor
                 in-order = let k = fourth-in in (omega arith, omega arith, omega arith, k)
 
 pub ruleset ends-rules = (too-long, unordered, no-first, no-second, no-third, no-fourth, a-fifth, four-lines, in-order, needs)
+
+-- ---- What four lines ask.
+
+module _ (one two three four : List ℕ) (m p t : List ℤ) (x : Line) (ex : ofLine x m ≡ wordsOf one) where
+  pub no-matcher : x ≡ Line.Other → ofAsked Asked.Other m p t ≡ question (these one two three four)
+  unfolding question these _then_ ofLine ofAsked
+  no-matcher h = rw (← ex, h)
+
+  module _ (nx : ℕ) (hx : x ≡ Line.Words nx) (y : Line) (ey : ofLine y p ≡ wordsOf two) where
+    pub no-pattern : y ≡ Line.Other → ofAsked Asked.Other m p t ≡ question (these one two three four)
+    unfolding question these _then_ ofLine ofAsked
+    no-pattern h = rw (← ex, hx, ← ey, h)
+
+    module _ (ny : ℕ) (hy : y ≡ Line.Words ny) (z : Line) (ez : ofLine z t ≡ wordsOf three) where
+      pub no-target : z ≡ Line.Other → ofAsked Asked.Other m p t ≡ question (these one two three four)
+      unfolding question these _then_ ofLine ofAsked
+      no-target h = rw (← ex, hx, ← ey, hy, ← ez, h)
+
+      module _ (nz : ℕ) (hz : z ≡ Line.Words nz) (b : Bounds) (eb : ofBounds b ≡ limits (pieces four)) where
+        pub no-bounds : b ≡ Bounds.Other → ofAsked Asked.Other m p t ≡ question (these one two three four)
+        unfolding question these _then_ ofLine ofBounds ofAsked
+        no-bounds h = rw (← ex, hx, ← ey, hy, ← ez, hz, ← eb, h)
+
+        pub all-four : (budget room : ℕ) → b ≡ Bounds.Of budget room → ofAsked (Asked.Of nx ny nz budget room) m p t ≡ question (these one two three four)
+        unfolding question these _then_ ofLine ofBounds ofAsked
+        all-four budget room h = rw (← ex, hx, ← ey, hy, ← ez, hz, ← eb, h)
+
+pub few-other : Few Asked.Other
+unfolding Few
+few-other = tt
+
+counted : (x : Line) (n : ℕ) → x ≡ Line.Words n → countOf x ≤ 2000 → n ≤ 2000
+unfolding countOf
+counted x n e h = rw e at h
+
+roomed : (b : Bounds) (budget room : ℕ) → b ≡ Bounds.Of budget room → RoomFew b → room ≤ 4096
+unfolding RoomFew
+roomed b budget room e h = rw e at h
+
+pub few-all : (x y z : Line) (b : Bounds) (nx ny nz budget room : ℕ) → x ≡ Line.Words nx → countOf x ≤ 2000 → y ≡ Line.Words ny → countOf y ≤ 2000
+    → z ≡ Line.Words nz → countOf z ≤ 2000 → b ≡ Bounds.Of budget room → RoomFew b → Few (Asked.Of nx ny nz budget room)
+unfolding Few
+few-all x y z b nx ny nz budget room ex hx ey hy ez hz eb hb = (counted x nx ex hx, counted y ny ey hy, counted z nz ez hz, roomed b budget room eb hb)
+
+pub ruleset lines-rules = (no-matcher, no-pattern, no-target, no-bounds, all-four, few-other, few-all, needs)
+
+-- ---- The whole input.
+
+module _ (s : List ℕ) (r : Ends) (o : Ordered s r) (a b c d : ℕ) (e : r ≡ Ends.At a b c d) where
+  order : (a < b) × (b < c) × (c < d) × (d < length s)
+  unfolding Ordered
+  order = rw e at o
+
+  pub in-one : a ≤ length s
+  in-one = let h = order in omega arith
+
+  pub in-two : b ≤ length s
+  in-two = let h = order in omega arith
+
+  pub in-three : c ≤ length s
+  in-three = let h = order in omega arith
+
+  pub in-four : d ≤ length s
+  in-four = let h = order in omega arith
+
+  pub from-two : a + 1 ≤ b
+  from-two = let h = order in omega arith
+
+  pub from-three : b + 1 ≤ c
+  from-three = let h = order in omega arith
+
+  pub from-four : c + 1 ≤ d
+  from-four = let h = order in omega arith
+
+  pub fits-two : length s < 2 ^ 64 → Fits w64 (a + 1)
+  fits-two l = let h = order in record { fits = omega arith }
+
+  pub fits-three : length s < 2 ^ 64 → Fits w64 (b + 1)
+  fits-three l = let h = order in record { fits = omega arith }
+
+  pub fits-four : length s < 2 ^ 64 → Fits w64 (c + 1)
+  fits-four l = let h = order in record { fits = omega arith }
+
+module _ (s : List ℕ) (e : Ends) (q : ofEnds s e ≡ linesOf s) (m p t : List ℤ) where
+  pub not-lines : e ≡ Ends.Other → ofAsked Asked.Other m p t ≡ asked s
+  unfolding asked _then_ ofEnds ofAsked
+  not-lines h = rw (← q, h)
+
+  pub as-asked : (a b c d : ℕ) (r : Asked) → e ≡ Ends.At a b c d
+      → ofAsked r m p t ≡ question (these (take (a - 0) (drop 0 s)) (take (b - (a + 1)) (drop (a + 1) s)) (take (c - (b + 1)) (drop (b + 1) s)) (take (d - (c + 1)) (drop (c + 1) s)))
+      → ofAsked r m p t ≡ asked s
+  unfolding asked _then_ ofEnds part
+  as-asked a b c d r h k = k ∙ rw (← q, h)
+
+pub ruleset input-rules = (in-one, in-two, in-three, in-four, from-two, from-three, from-four, fits-two, fits-three, fits-four, not-lines, as-asked, few-other, needs)
