@@ -48,7 +48,7 @@ next-place op pc e h n = by-place _ 389 pc (λ z. absurd (n (rw z e))) (λ z. om
 held-less : {s : List ℤ} {at m : ℕ} (c : ℕ) → Held s at m → c ≤ m → Held s at c
 held-less c h l = record { tag = h .tag; marks = (let k = h .marks in omega arith) }
 
-held-whole : {s : List ℤ} (at : ℕ) → Tag s at → Held s at (wholeAt s at)
+pub held-whole : {s : List ℤ} (at : ℕ) → Tag s at → Held s at (wholeAt s at)
 unfolding wholeAt
 held-whole {s} at w = record { tag = w; marks = let p = pow-pos (countAt s at) in omega arith }
 
@@ -95,6 +95,7 @@ module _ (e : Env) (fine : Fine e) (g : Target (e .words)) where
       waits = record { held = λ j h z. waiting j h };
       binds = v .binds;
       room = v .room;
+      counts = (let q = v .counts in omega arith);
       long = v .long;
     }
 
@@ -107,6 +108,7 @@ module _ (e : Env) (fine : Fine e) (g : Target (e .words)) where
       waits = record { held = λ j h z. waiting j h };
       binds = w;
       room = v .room;
+      counts = (let q = v .counts in omega arith);
       long = v .long;
     }
 
@@ -119,6 +121,7 @@ module _ (e : Env) (fine : Fine e) (g : Target (e .words)) where
       waits = record { held = λ j h z. waiting j h };
       binds = v .binds;
       room = v .room;
+      counts = (let q = v .counts in omega arith);
       long = v .long;
     }
 
@@ -136,6 +139,7 @@ module _ (e : Env) (fine : Fine e) (g : Target (e .words)) where
       waits = record { held = λ j h z. let n : j ≡ x .pc → ⊥ = λ q. z refl (omega arith) in rw (getD-set-other (t .ats) (x .pc) j (x .at) 0 n) (waiting j h) };
       binds = v .binds;
       room = v .room;
+      counts = (let q = v .counts in omega arith);
       long = record {
         ats = length-set (t .ats) (x .pc) (x .at) ∙ v .long .ats;
         wholes = length-set (t .wholes) (x .pc) (x .marks) ∙ v .long .wholes;
@@ -219,6 +223,7 @@ module _ (e : Env) (fine : Fine e) (g : Target (e .words)) where
           waits = record { held = λ j h y. waiting j h };
           binds = v .binds;
           room = v .room;
+          counts = (let q = v .counts in omega arith);
           long = v .long;
         })
         (λ z. let f = ltb-false (length room - x .words) (length ws) z in let k = v .room in record {
@@ -228,6 +233,7 @@ module _ (e : Env) (fine : Fine e) (g : Target (e .words)) where
           waits = record { held = λ j h y. waiting j h };
           binds = v .binds;
           room = rw (length-sets room (x .words) ws) (omega arith);
+          counts = (let q = v .counts in omega arith);
           long = v .long;
         })
 
@@ -250,6 +256,7 @@ module _ (e : Env) (fine : Fine e) (g : Target (e .words)) where
       waits = record { held = λ j h n. v .waits .held j h (λ p q. absurd (omega arith)) };
       binds = v .binds;
       room = v .room;
+      counts = (let q = v .counts in omega arith);
       long = v .long;
     }
 
@@ -282,6 +289,7 @@ module _ (e : Env) (fine : Fine e) (g : Target (e .words)) where
             };
             binds = v .binds;
             room = v .room;
+            counts = (let q = v .counts in omega arith);
             long = record {
               ats = v .long .ats;
               wholes = v .long .wholes;

@@ -4,3 +4,5 @@ pub mod Turns
 pub mod Counts
 pub mod Runs
 pub mod Whole
+pub mod Laws
+pub mod Begun

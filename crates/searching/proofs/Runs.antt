@@ -66,7 +66,7 @@ row-fits : (D : Data) (k : Engine D) (ws : List ℤ) (c : Option (Conf D)) → l
 unfolding rowDone
 row-fits D k ws c h = ap (λ z. elim z as (λ _. Engine D) [ true ↦ wrote D k ws c | false ↦ filled D k ]) h
 
-top-bound : (top : ℕ) → ((top ≡ 0 → ⊥) → top - 1 < 390) → top ≤ 390
+pub top-bound : (top : ℕ) → ((top ≡ 0 → ⊥) → top - 1 < 390) → top ≤ 390
 top-bound zero h = omega arith
 top-bound (suc j) h = let k = h (λ z. omega arith) in omega arith
 

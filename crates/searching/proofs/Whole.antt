@@ -34,7 +34,7 @@ use Rattle.holding.specs.declared.rows.Binding.{Binding}
 use Rattle.stepping.specs.Steps.{when, Tables}
 use Rattle.tying.specs.Operations.{binding}
 use Rattle.tying.proofs.Instance.{places}
-use Rattle.searching.specs.Run.{Env, Run, run, lineAt, takeOf, settled, runOf, opening, answerOf, told}
+use Rattle.searching.specs.Run.{Env, Run, run, lineAt, takeOf, settled, runOf, opening, answerOf, matched, told}
 use Rattle.searching.specs.Valid.{Fine, Valid}
 use Rattle.searching.specs.Meaning.{slotsOf, bindsOf, confOf, standing, engineOf}
 use Rattle.searching.proofs.Keeps.{take-keeps, settle-keeps}
@@ -180,7 +180,7 @@ module _ (e : Env) (g : Target (e .words)) (fine : Fine e) (m : Matcher) (p : Pa
   answer-is r (inr (inr l)) = rw l
 
   told-is : (room : List ℤ) (r : Run) → Stands room r → told r ≡ carriedOut (reports (places (e .words) g) (engineOf (e .words) g r)) room
-  unfolding told carriedOut reports engineOf
+  unfolding told matched carriedOut reports engineOf
   told-is room r s k = record {
     answer = sym (answer-is r (s .phase)) k;
     place = 0;

@@ -2,3 +2,4 @@
 pub mod Run
 pub mod Valid
 pub mod Meaning
+pub mod Searched

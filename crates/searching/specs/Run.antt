@@ -108,6 +108,13 @@ unfoldable pub takeOf : Env → Run → Run
 unfolding when takeEnd takeBind takeStep
 takeOf e r = when (eqb (getD (e .op) (r .state .pc) 0) 0) (takeEnd e r) (when (eqb (getD (e .op) (r .state .pc) 0) 3) (takeBind e r) (takeStep e r))
 
+-- The row, or a step; what tag 3 asks and the binding come before it.
+unfoldable pub taken : ℕ → Bool → List ℕ → List ℕ → List ℤ → List ℤ → ℕ → Run → Run
+unfolding when endOf afterEnd afterTurn
+taken o q op from con s n r =
+    when (eqb o 0) (afterEnd (endOf s n (r .state) (r .binds) (r .room)) (r .tables) (r .binds))
+    (afterTurn (stepOf op from con s q (r .state) (r .tables)) (r .binds) (r .room))
+
 -- ---- The run.
 
 unfoldable pub settled : Env → Run → Run
@@ -129,13 +136,10 @@ unfoldable pub answerOf : (live : ℕ) → ℕ
 unfolding when
 answerOf n = when (eqb n 3) 8 (when (eqb n 0) 0 7)
 
+-- Told with the room as it is left.
+unfoldable pub matched : (answer rows steps words : ℕ) → List ℤ → Matched
+matched answer rows steps words room = record { answer = answer; place = 0; rows = rows; steps = steps; words = words; room = room }
+
 unfoldable pub told : Run → Matched
-unfolding answerOf
-told r = record {
-  answer = answerOf (r .state .live);
-  place = 0;
-  rows = r .state .rows;
-  steps = r .state .steps;
-  words = r .state .words;
-  room = r .room;
-}
+unfolding matched answerOf
+told r = matched (answerOf (r .state .live)) (r .state .rows) (r .state .steps) (r .state .words) (r .room)

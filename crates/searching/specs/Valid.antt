@@ -1,12 +1,16 @@
 -- What keeps a run safe: a table of facts about each entry by itself. A step keeps it, so no run reads or writes outside its tables, whatever it stands for.
-use Prim.Native.Nat.{ℕ, suc, _≤_, _<_}
+use Prim.Native.Nat.{ℕ, suc, _+_, _^_, _≤_, _<_}
 use mathlib.Core.Path.{_≡_}
 use mathlib.Core.List.{List}
 use lib.ListN.{length, getD}
 use lib.IntN.{ℤ}
+use Rattle.holding.specs.Places.{Target}
+use Rattle.holding.specs.Tables.{Ends, Places}
 use Rattle.holding.specs.Held.{Held}
 use Rattle.holding.specs.Row.{Bound}
-use Rattle.stepping.specs.Steps.{Tables, Picks}
+use Rattle.holding.specs.declared.rows.Binding.{Binding}
+use Rattle.stepping.specs.declared.State.{State}
+use Rattle.stepping.specs.Steps.{Tables, Steps, Picks}
 use Rattle.searching.specs.Run.{Env, Run}
 
 -- The program: slots and variables are in range, and its last line is an end.
@@ -40,4 +44,24 @@ pub record Valid (e : Env) (r : Run) : Type 0 where
   pub waits : Waits (e .words) (r .state .live) (r .state .top) (r .tables)
   pub binds : Bound (e .words) (r .binds) 16
   pub room : r .state .words ≤ length (r .room)
+  pub counts : r .state .rows ≤ r .state .steps
   pub long : Long (r .tables)
+
+-- ---- What the code asks at each place.
+
+-- The target, and the tables of its places.
+pub record Given (s : List ℤ) (ends base places : List ℕ) : Type 0 where
+  pub target : Target s
+  pub ended : Ends s ends
+  pub placed : Places s base places
+
+-- A row: its values are held, and the counts can be raised.
+pub record Rows (s : List ℤ) (b : List Binding) (n : ℕ) (x : State) (room : List ℤ) : Type 0 where
+  pub bound : Bound s b n
+  pub steps : x .steps + 1 < 2 ^ 64
+  pub rows : x .rows + 1 < 2 ^ 64
+  pub words : x .words ≤ length room
+
+pub record Takes (o : ℕ) (s : List ℤ) (from : List ℕ) (b : List Binding) (n : ℕ) (x : State) (room : List ℤ) : Type 0 where
+  pub row : o ≡ 0 → Rows s b n x room
+  pub step : (o ≡ 0 → ⊥) → Steps s from x
