@@ -6,3 +6,4 @@ pub mod Runs
 pub mod Whole
 pub mod Laws
 pub mod Begun
+pub mod Accepted
