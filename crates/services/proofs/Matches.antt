@@ -3,13 +3,21 @@ use Prim.Native.Nat.{ℕ, zero, suc, _≤_, _<_}
 use native.Mathlib.Omega.{arith}
 use mathlib.Core.Path.{_≡_, refl, sym, ap, _∙_}
 use mathlib.Core.List.{List}
-use lib.ListN.{length}
-use lib.IntN.{ℤ}
+use lib.ListN.{length, replicate}
+use lib.IntN.{ℤ, pos}
 use Rattle.rules.specs.Forms.{Matcher, Value}
 use Rattle.rules.specs.Reading.{Verdict, ok, fault, readMatcher}
 use Rattle.rules.specs.Services.{Judged, accepted, refused, test, Rule, ruleOf, targetOf, turnedAway, matchTarget, matchRule, match}
+use Rattle.rules.specs.Services as paper
 use Rattle.promises.specs.Faults.{rule-accepted, Sane, sane-exactly}
 use Rattle.program.specs.Accepted.{matcher-short, pattern-short}
+use Rattle.program.specs.Lines.{columns, linesOf, variablesIn, laid}
+use Rattle.program.specs.Columns.{Holds, compiled-zeros}
+use Rattle.holding.specs.Places.{Target}
+use Rattle.searching.specs.Run.{env}
+use Rattle.searching.specs.Valid.{Fine}
+use Rattle.searching.specs.Searched.{Searched}
+use Rattle.searching.proofs.Accepted.{accepted-target, accepted-some, accepted-fine, accepted-match}
 use Rattle.reading.specs.Tests.{judgement, targetUnder}
 use Rattle.reading.specs.declared.refusal.Judgement.{Judgement}
 use Rattle.reading.specs.declared.refusal.Judgement.the-variants.{Accepted, Refused}
@@ -63,3 +71,21 @@ matcher-few ms ps ts g = let h = matcher-short ms ps (g .rule) (g .rule-is) in o
 
 pub pattern-few : (ms ps ts : List ℤ) → Ready ms ps ts → length ps ≤ 256
 pattern-few ms ps ts g = pattern-short ms ps (g .rule) (g .rule-is)
+
+pub ready-target : (ms ps ts : List ℤ) → Ready ms ps ts → Target ts
+ready-target ms ps ts g = accepted-target ms ps ts (g .rule) (g .value) (ready-sane g)
+
+pub ready-some : (ms ps ts : List ℤ) → Ready ms ps ts → 0 < length ts
+ready-some ms ps ts g = accepted-some ms ps ts (g .rule) (g .value) (ready-sane g)
+
+-- The compiled rule, in arrays that held zeros.
+module _ (ms ps ts : List ℤ) (n : ℕ) (op from arg mat : List ℕ) (con : List ℤ) (g : Ready ms ps ts) (vars : n ≡ variablesIn (linesOf ms ps))
+    (is : columns op from arg mat con ≡ laid 0 (linesOf ms ps) (columns (replicate 390 0) (replicate 390 0) (replicate 390 0) (replicate 390 0) (replicate 390 (pos 0)))) where
+  holds : Holds ms (g .rule) n (columns op from arg mat con)
+  holds = compiled-zeros ms ps (g .rule) (g .rule-is) n (columns op from arg mat con) vars is
+
+  pub ready-fine : Fine (env op from arg mat con ms ts n)
+  ready-fine = accepted-fine ms ts (g .rule) n op from arg mat con holds
+
+  pub ready-match : (budget : ℕ) (room : List ℤ) (out : paper.Matched) → Searched (env op from arg mat con ms ts n) budget room out → out ≡ match ms ps ts budget room
+  ready-match budget room out s = accepted-match ms ts (g .rule) n op from arg mat con holds ps (g .value) (ready-sane g) budget room out s

@@ -16,15 +16,14 @@ pub struct Matched {
     pub words: usize,
 }
 
-// Answers 1 to 6.
-fn turned_away(answer: u32, place: usize) -> Matched
-    ensures { λ r. ⌜ r ≡ record { answer = answer; place = place; rows = 0; steps = 0; words = 0 } ⌝ }
-{
-    Matched { answer: answer, place: place, rows: 0, steps: 0, words: 0 }
-}
-
 // The run of a rule and a target that were accepted.
-fn carry_out(matcher: &[i32], pattern: &[i32], target: &[i32], budget: u32, room: &mut [i32]) -> Matched
+fn carry_out(
+    matcher: &[i32],
+    pattern: &[i32],
+    target: &[i32],
+    budget: u32,
+    room: &mut [i32],
+) -> Matched
     requires { ⌜ Ready (now matcher) (now pattern) (now target) ⌝ }
     ensures { λ r. ⌜ told r (now (room .exit)) ≡ match (now (matcher .entry)) (now (pattern .entry)) (now (target .entry)) budget (now (room .entry)) ⌝ }
 {
@@ -33,8 +32,27 @@ fn carry_out(matcher: &[i32], pattern: &[i32], target: &[i32], budget: u32, room
     let mut arg = [0u8; 390];
     let mut mat = [0u8; 390];
     let mut con = [0i32; 390];
-    let n = compile(matcher, pattern, &mut op, &mut from, &mut arg, &mut mat, &mut con);
-    let r = search(budget, n, matcher, target, &op, &from, &arg, &mat, &con, room);
+    let n = compile(
+        matcher,
+        pattern,
+        &mut op,
+        &mut from,
+        &mut arg,
+        &mut mat,
+        &mut con,
+    );
+    let r = search(
+        budget,
+        n,
+        matcher,
+        target,
+        &op,
+        &from,
+        &arg,
+        &mat,
+        &con,
+        room,
+    );
     Matched {
         answer: r.answer,
         place: 0,
@@ -44,15 +62,33 @@ fn carry_out(matcher: &[i32], pattern: &[i32], target: &[i32], budget: u32, room
     }
 }
 
-// Match, for every input.
-pub fn match_units(matcher: &[i32], pattern: &[i32], target: &[i32], budget: u32, room: &mut [i32]) -> Matched
+// Match, for every input: answers 1 to 6 leave the room as it was.
+pub fn match_units(
+    matcher: &[i32],
+    pattern: &[i32],
+    target: &[i32],
+    budget: u32,
+    room: &mut [i32],
+) -> Matched
     ensures { λ r. ⌜ told r (now (room .exit)) ≡ match (now (matcher .entry)) (now (pattern .entry)) (now (target .entry)) budget (now (room .entry)) ⌝ }
 {
     if let Judgement::Refused(a, i) = rule_refused(matcher, pattern) {
-        return turned_away(a, i);
+        return Matched {
+            answer: a,
+            place: i,
+            rows: 0,
+            steps: 0,
+            words: 0,
+        };
     }
     if let Judgement::Refused(a, i) = target_refused(matcher, target) {
-        return turned_away(a, i);
+        return Matched {
+            answer: a,
+            place: i,
+            rows: 0,
+            steps: 0,
+            words: 0,
+        };
     }
     carry_out(matcher, pattern, target, budget, room)
 }
