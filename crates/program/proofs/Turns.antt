@@ -1,6 +1,5 @@
 -- One turn of the compiler's loop: the lines that are still to come are those from here on. Assumes nothing.
 use Prim.Native.Nat.{ℕ, zero, suc, _+_, _-_, _*_, _<_, _≤_}
-use native.Mathlib.Nat.{add-assoc}
 use native.Mathlib.Numerals.{add-one}
 use native.Mathlib.Omega.{arith}
 use mathlib.Core.Path.{_≡_, refl, sym, ap, _∙_}
@@ -16,7 +15,7 @@ use mir.Syntax.{w64}
 use mir.Val.{Fits}
 use Rattle.words.specs.Words.{tagZ, tagAt}
 use Rattle.words.proofs.Signed.{within}
-use Rattle.program.specs.Lines.{Line, line, endLine, opsUnder, opOf, operandsOf, stripLines, leafLine, firstUnder, Waiting, waits, slotOf, resumed, taken, linesFrom, linesOf, binding, variablesIn, Columns, columns, written, laid}
+use Rattle.program.specs.Lines.{Line, line, endLine, opsUnder, opOf, operandsOf, stripLines, leafLine, firstUnder, Waiting, waits, slotOf, resumed, linesFrom, lines-split, lines-leaf, linesOf, binding, variablesIn, Columns, written, laid}
 use Rattle.program.proofs.Laws.{cond-le, operands-le, strip-short}
 
 -- ---- The stack.
@@ -78,29 +77,22 @@ skips m (suc o) i ts pc (w ∷ ws) = skips m o i ts pc ws
 
 -- ---- A turn, by the word at the index.
 
-turn-word : (m : List ℤ) (i : ℕ) (ts : List Waiting) (pc : ℕ) (w : ℤ) (ws : List ℤ) → linesFrom m 0 i ts pc (w ∷ ws)
-    ≡ taken (tagAt m i) (opOf (tagZ w) (tagAt m i)) i ts pc ws (λ skip j us q. linesFrom m skip j us q ws)
-unfolding linesFrom
-turn-word m i ts pc w ws = refl
-
 tag-is : (p : List ℤ) (at t : ℕ) → t ≡ tagAt p at → tagZ (getD p at (negsuc 0)) ≡ t
 unfolding tagAt
 tag-is p at t e = sym e
 
 module _ (m p : List ℤ) (i : ℕ) (ts : List Waiting) (pc at t k o : ℕ) (h : at < length p) (e : t ≡ tagAt p at) (g : k ≡ tagAt m i) (x : o ≡ opOf t k) where
-  turn : linesFrom m 0 i ts pc (drop at p) ≡ taken k o i ts pc (drop (suc at) p) (λ skip j us q. linesFrom m skip j us q (drop (suc at) p))
-  turn = ap (linesFrom m 0 i ts pc) (drop-cons p at (negsuc 0) h) ∙ turn-word m i ts pc _ _ ∙ rw (tag-is p at t e, ← g, ← x)
+  x' : o ≡ opOf (tagZ (getD p at (negsuc 0))) k
+  x' = rw (tag-is p at t e) x
 
   turn-split : 7 < o → linesFrom m 0 i ts pc (drop at p)
       ≡ line o 0 0 i (pos 0) ∷ linesFrom m 0 (firstUnder o i) (waits i pc ∷ ts) (suc pc) (drop (suc at) p)
-  unfolding taken
-  turn-split l = turn ∙ rw (lt-ltb 7 o l)
+  turn-split l = ap (linesFrom m 0 i ts pc) (drop-cons p at (negsuc 0) h) ∙ lines-split m i _ k o g x' (lt-ltb 7 o l) ts pc (drop (suc at) p)
 
   turn-leaf : o ≤ 7 → linesFrom m 0 i ts pc (drop at p)
       ≡ stripLines k o i ++ (leafLine o i (slotOf ts) (drop (suc at) p)
       ∷ resumed ts (λ j us. linesFrom m (operandsOf o) j us (suc (pc + length (stripLines k o i))) (drop (suc at) p)))
-  unfolding taken
-  turn-leaf l = turn ∙ rw (le-ltb 7 o l)
+  turn-leaf l = ap (linesFrom m 0 i ts pc) (drop-cons p at (negsuc 0) h) ∙ lines-leaf m i _ k o g x' (le-ltb 7 o l) ts pc (drop (suc at) p)
 
 -- ---- What holds at the loop's head.
 

@@ -1,6 +1,7 @@
 -- The compiler on words: the lines of a rule's program, from the matcher's words and the pattern's.
 use Prim.Native.Nat.{ℕ, zero, suc, _+_, _-_, _%_}
-use mathlib.Core.Bool.{Bool, true, false, cond}
+use mathlib.Core.Path.{_≡_, refl, _∙_}
+use mathlib.Core.Bool.{true, false, cond}
 use mathlib.Core.List.{List, [], _∷_, _++_}
 use lib.ListN.{length, getD, set}
 use lib.Dec.{eqb, ltb}
@@ -131,3 +132,25 @@ unfoldable pub laid : ℕ → List Line → Columns → Columns
 unfolding written
 laid pc [] t = t
 laid pc (l ∷ ls) t = laid (suc pc) ls (written pc l t)
+
+-- ---- The lines by the tag of the first word, as the code takes it.
+
+lines-word : (ms : List ℤ) (i : ℕ) (ts : List Waiting) (pc : ℕ) (w : ℤ) (ws : List ℤ) → linesFrom ms 0 i ts pc (w ∷ ws)
+    ≡ taken (tagAt ms i) (opOf (tagZ w) (tagAt ms i)) i ts pc ws (λ skip j us q. linesFrom ms skip j us q ws)
+unfolding linesFrom
+lines-word ms i ts pc w ws = refl
+
+module _ (ms : List ℤ) (i : ℕ) (w : ℤ) (k o : ℕ) (g : k ≡ tagAt ms i) (x : o ≡ opOf (tagZ w) k) where
+  lines-tag : (ts : List Waiting) (pc : ℕ) (ws : List ℤ)
+      → linesFrom ms 0 i ts pc (w ∷ ws) ≡ taken k o i ts pc ws (λ skip j us q. linesFrom ms skip j us q ws)
+  lines-tag ts pc ws = lines-word ms i ts pc w ws ∙ rw (← g, ← x)
+
+  pub lines-split : ltb 7 o ≡ true → (ts : List Waiting) (pc : ℕ) (ws : List ℤ) → linesFrom ms 0 i ts pc (w ∷ ws)
+      ≡ line o 0 0 i (pos 0) ∷ linesFrom ms 0 (firstUnder o i) (waits i pc ∷ ts) (suc pc) ws
+  unfolding taken
+  lines-split l ts pc ws = lines-tag ts pc ws ∙ rw l
+
+  pub lines-leaf : ltb 7 o ≡ false → (ts : List Waiting) (pc : ℕ) (ws : List ℤ) → linesFrom ms 0 i ts pc (w ∷ ws)
+      ≡ stripLines k o i ++ (leafLine o i (slotOf ts) ws ∷ resumed ts (λ j us. linesFrom ms (operandsOf o) j us (suc (pc + length (stripLines k o i))) ws))
+  unfolding taken
+  lines-leaf l ts pc ws = lines-tag ts pc ws ∙ rw l

@@ -1,11 +1,13 @@
--- The program of a pattern that fits: what is to do at each place, place after place, and that each instruction makes of it what is to do at the next.
-use Prim.Native.Nat.{ℕ, zero, suc, _+_}
-use mathlib.Core.Path.{_≡_, refl, sym, ap, _∙_}
-use mathlib.Core.Bool.{Bool, true, false, _&&_, _||_, decide}
+-- The program of a pattern under a matcher, place after place. If the pattern fits, each instruction makes of what is to do at its place what is to do
+-- at the next.
+use Prim.Native.Nat.{ℕ, zero, suc}
+use mathlib.Core.Path.{_≡_, refl}
+use mathlib.Core.Bool.{true, false, _&&_, _||_, decide}
 use mathlib.Core.Option.{Option, none, some}
 use mathlib.Core.List.{List, [], _∷_, _++_}
 use native.Mathlib.Omega.{arith}
-use lib.ListN.{length, getElem?}
+use lib.ListN.{length}
+use lib.Dec.{T}
 use lib.IntN.{ℤ, pos, negsuc}
 use Rattle.rules.specs.Forms.{Matcher, something, integer, list, multiset, Matcher-discrete, Pattern, wildcard, nil, variable, constant, value, cons, join}
 use Rattle.rules.specs.Reading.{Verdict, ok, fault, _then_, entry}
@@ -13,7 +15,10 @@ use Rattle.rules.specs.Numbers.{same}
 use Rattle.rules.specs.Variables.{demand}
 use Rattle.rules.specs.Fit.{tagsOf, among, takes, element, isInteger, solid, alike, comparable, fits}
 use Rattle.rules.specs.Search.{isSomething}
-use Rattle.program.specs.Points.{Kind, listCons, multisetCons, joins, over, firstBy, whole, Test, asConstant, asValue, asNil, tested, testBy, Sound, Loose, loose-wildcard, loose-variable}
+use Rattle.promises.specs.Tests.{is-true, and-split}
+use Rattle.promises.specs.Readers.{then-ok}
+use Rattle.promises.specs.Numbering.{demand-ok}
+use Rattle.program.specs.Points.{listCons, multisetCons, joins, over, firstBy, whole, asConstant, asValue, asNil, tested, testBy, Sound, Loose, loose-wildcard, loose-variable}
 use Rattle.program.specs.Points.{Instr, strip, drop, bind, test, split, end, Item, item, Point, point, finish, beyond, enter, from, Follows, strips, drops, binds, tests, splits, ends, after-end}
 
 unfoldable pub instrOf : Point → Instr
@@ -73,37 +78,23 @@ unfolding enter
 good-enter goods-none = good-end
 good-enter (goods at h g) = good at h g
 
-pub demand-ok : {A : Type 0} (b : Bool) (at : ℕ) (a k : A) → demand b at a ≡ ok k → (b ≡ true) × (a ≡ k)
-unfolding demand
-demand-ok true at a k h = (refl, cc)
-demand-ok false at a k h = let z : _≡_ {A = ℕ} 0 1 = cc in absurd (omega arith)
-
-pub then-ok : {A B : Type 0} (v : Verdict A) (f : A → Verdict B) (b : B) → v then f ≡ ok b → (a : A) × (v ≡ ok a) × (f a ≡ ok b)
-unfolding _then_
-then-ok (ok a) f b h = (a, refl, h)
-then-ok (fault i) f b h = let z : _≡_ {A = ℕ} 0 1 = cc in absurd (omega arith)
-
-pub both : (a b : Bool) → a && b ≡ true → (a ≡ true) × (b ≡ true)
-both true b h = (refl, h)
-both false b h = let z : _≡_ {A = ℕ} 0 1 = cc in absurd (omega arith)
-
-alike-ok : (m : Matcher) (o : Option Matcher) → alike m o ≡ true → o ≡ some m
+alike-ok : (m : Matcher) (o : Option Matcher) → T (alike m o) → o ≡ some m
 unfolding alike decide
-alike-ok m none h = let z : _≡_ {A = ℕ} 0 1 = cc in absurd (omega arith)
+alike-ok m none h = absurd h
 alike-ok m (some k) h = go (Matcher-discrete m k) h
   where
-    go : (d : Dec (m ≡ k)) → decide d ≡ true → some k ≡ some m
+    go : (d : Dec (m ≡ k)) → T (decide d) → some k ≡ some m
     go (yes e) h = rw e
-    go (no e) h = let z : _≡_ {A = ℕ} 0 1 = cc in absurd (omega arith)
+    go (no e) h = absurd h
 
 value-ok : (v c : ℤ) (m : Matcher) (at : ℕ) (ms ks : List Matcher) → demand (takes m 3 && comparable v c m ms) at ms ≡ ok ks
     → (solid m ≡ true) × (entry ms v ≡ some m) × (ms ≡ ks)
 unfolding comparable
 value-ok v c m at ms ks h =
     let r = demand-ok (takes m 3 && comparable v c m ms) at ms ks h in
-    let b = both (takes m 3) (comparable v c m ms) (r .0) .1 in
-    let t = both (solid m) (alike m (entry ms v)) (both (solid m && alike m (entry ms v)) (isInteger m || same c (pos 0)) b .0) in
-    (t .0, alike-ok m (entry ms v) (t .1), r .1)
+    let b = and-split (takes m 3) (comparable v c m ms) (r .0) .1 in
+    let t = and-split (solid m) (alike m (entry ms v)) (and-split (solid m && alike m (entry ms v)) (isInteger m || same c (pos 0)) b .0) in
+    (is-true (solid m) (t .0), alike-ok m (entry ms v) (t .1), r .1)
 
 -- Every instruction of the program makes of what is to do at its place what is to do at the next, and that fits.
 pub record Next (pc : ℕ) (P : Point) : Type 0 where
@@ -126,7 +117,7 @@ next pc (variable x) something at h g = record { follows = binds; fine = kept h 
 next pc (variable x) integer at h g = record { follows = strips loose-variable refl; fine = good-bare at loose-variable h g }
 next pc (variable x) (list m) at h g = record { follows = strips loose-variable refl; fine = good-bare at loose-variable h g }
 next pc (variable x) (multiset m) at h g = record { follows = strips loose-variable refl; fine = good-bare at loose-variable h g }
-next pc nil m {ms} {ks} at h g = let r = demand-ok (takes m 4) at ms ks h in record { follows = tests (asNil m) (r .0); fine = rw (r .1) (good-enter g) }
+next pc nil m {ms} {ks} at h g = let r = demand-ok (takes m 4) at ms ks h in record { follows = tests (asNil m) (is-true (takes m 4) (r .0)); fine = rw (r .1) (good-enter g) }
 next pc (constant c) something {ks = ks} at h g = never ks at h
 next pc (constant c) integer at h g = record { follows = tests (asConstant c) tt; fine = kept h g }
 next pc (constant c) (list m) {ks = ks} at h g = never ks at h

@@ -1,4 +1,5 @@
-// The program of a rule, in five lent arrays: op, arg and mat are u8, from is u16, con is i32. A rule of 256 words has at most 385 lines.
+// The program of a rule, compiled once: a line for each state that a run can take up there, and the end. Its numbers lie in five lent arrays, `op`, `arg`
+// and `mat` of u8, `from` of u16, `con` of i32; specs/Lines.antt says what they are. 256 words make at most 385 lines.
 use words::tag_at;
 ghost use mathlib.Core.Path.{_≡_};
 ghost use mathlib.Core.List.{_∷_, []};
@@ -8,7 +9,7 @@ ghost use lib.IntN.{pos};
 ghost use Rattle.words.specs.Words.{tagAt};
 ghost use Rattle.program.specs.Lines.{line, endLine, opOf, operandsOf, argOf, conOf, stripLines, leafLine, firstUnder, linesOf, binding, variablesIn, columns, written, laid};
 
-// A number of the stack or of a line, as an index.
+// A matcher's index.
 fn wide(x: u8) -> usize
     ensures { λ r. ⌜ r ≡ x ⌝ }
 {
@@ -126,7 +127,7 @@ fn strip(
 }
 
 // The line of a tag without parts, whose operands are at an index.
-fn bare(
+fn leaf_line(
     p: &[i32],
     at: usize,
     o: u8,
@@ -167,7 +168,7 @@ fn leaf(
     ensures { λ r. ⌜ r ≡ suc (pc + length (stripLines k o i)) ⌝ ∗ ⌜ columns (now (op .exit)) (now (from .exit)) (now (arg .exit)) (now (mat .exit)) (now (con .exit)) ≡ written (pc + length (stripLines k o i)) (leafLine o i f (drop at (now (p .entry)))) (laid pc (stripLines k o i) (columns (now (op .entry)) (now (from .entry)) (now (arg .entry)) (now (mat .entry)) (now (con .entry)))) ⌝ }
 {
     let q = strip(k, o, i, pc, op, from, arg, mat, con);
-    bare(p, at, o, i, f, q, op, from, arg, mat, con);
+    leaf_line(p, at, o, i, f, q, op, from, arg, mat, con);
     q + 1
 }
 
@@ -214,11 +215,12 @@ pub fn compile(
         let o = op_of(t, k);
         at += 1;
         if 7 < o {
+            let j = first_under(o, i);
             put(pc, o, 0, 0, i, 0, op, from, arg, mat, con);
             depth += 1;
             under[depth] = i;
             slots[depth] = pc as u16;
-            i = first_under(o, i);
+            i = j;
             pc += 1;
         } else {
             let f = slots[depth];

@@ -1,25 +1,23 @@
 -- Review's count bounds the steps, and the product of the factors bounds the rows, where no collection has more elements than the cap.
-use Prim.Native.Nat.{ℕ, zero, suc, _+_, _*_, _≤_, _<_, max}
+use Prim.Native.Nat.{ℕ, suc, _+_, _*_, _≤_}
 use native.Mathlib.Omega.{arith}
-use native.Mathlib.Nat.{le-refl, le-trans, mul-le-mul-right, mul-le-mul, mul-le-mul-left, mul-one, mul-assoc}
-use mathlib.Core.Path.{_≡_, refl, sym, ap, _∙_, subst}
-use mathlib.Core.Logic.{⊎-elim}
+use native.Mathlib.Nat.{le-trans, mul-le-mul-right, mul-one, mul-assoc}
+use mathlib.Core.Path.{_≡_, refl, sym, ap, _∙_}
 use mathlib.Core.Bool.{Bool, true, false, cond}
-use mathlib.Core.List.{List, [], _∷_, _++_, map, flatMap, append-nil, append-assoc, List·Memᴰ·head, List·Memᴰ·tail, List·Memᴰ·not-nil, List·Memᴰ·cases-cons, List·Memᴰ·eq-of-singleton, Memᴰ·of-map}
-use lib.ListN.{length, length-append, length-map}
-use lib.IntN.{ℤ, pos, negsuc}
+use mathlib.Core.List.{List, [], _∷_, _++_, flatMap, append-nil, append-assoc}
+use lib.ListN.{length, length-map}
 use Rattle.rules.specs.Forms.{Matcher, something, integer, list, multiset, Pattern, wildcard, nil, variable, constant, value, cons, join}
 use Rattle.rules.specs.Forms.{Value, int, collection, Values, empty, _▸_, count}
 use Rattle.rules.specs.Fit.{element}
-use Rattle.rules.specs.Equality.{Bindings, isConstant, isValue, isEmpty, Pick, picks, behind}
-use Rattle.rules.specs.Search.{Cut, cuts, longer, Halves, consHalves, joinHalves, isSomething, start, run}
+use Rattle.rules.specs.Equality.{Bindings, isConstant, isValue, isEmpty, picks, behind}
+use Rattle.rules.specs.Search.{cuts, longer, Halves, consHalves, joinHalves, isSomething, start}
 use Rattle.rules.specs.Review.{Weight, weight, leafSteps, consFactor, weights, total, formula}
-use Rattle.promises.specs.Written.{largest, largestOf}
+use Rattle.promises.specs.Written.{largest}
 use Rattle.promises.specs.Parts.{cons-parts, join-parts, part-largest}
 use Rattle.promises.specs.Lists.{Mem, length-flatMap-le}
-use Rattle.promises.specs.Solve.{Solution, Numbered, up, numbered, isMultiset, combine, just, whenSo, solve}
+use Rattle.promises.specs.Solve.{Solution, up, numbered, isMultiset, combine, just, whenSo, solve}
 use Rattle.promises.specs.Choices.{in-numbered}
-use Rattle.promises.specs.Trace.{Taken, passed, found, onlyIf, visit, visitAll, visitState, trace}
+use Rattle.promises.specs.Trace.{Taken, passed, found, onlyIf, visit, trace}
 
 -- ---- A cons or a join has no more choices than its factor says.
 
@@ -84,10 +82,12 @@ visit-cost most (constant c) m v e k n s h = test-cost (isConstant c v) (k e) n 
 visit-cost most (value x c) m v e k n s h = test-cost (isValue m e x c v) (k e) n (h e)
 visit-cost most (cons p q) m v e k n s h = both-cost _ (consHalves m v) (consFactor most m) _ (cons-count most m v s)
     (λ g i. let j = cons-parts m v g i in
-    visit-cost most p (element m) (g .first) e _ _ (le-trans (part-largest (j .first)) s) (λ d. visit-cost most q m (g .second) d k n (le-trans (part-largest (j .second)) s) h))
+    visit-cost most p (element m) (g .first) e _ _ (le-trans (part-largest (j .first)) s)
+    (λ d. visit-cost most q m (g .second) d k n (le-trans (part-largest (j .second)) s) h))
 visit-cost most (join p q) m v e k n s h = both-cost _ (joinHalves v) (suc most) _ (join-count most v s)
     (λ g i. let j = join-parts v g i in
-    visit-cost most p m (g .first) e _ _ (le-trans (part-largest (j .first)) s) (λ d. visit-cost most q m (g .second) d k n (le-trans (part-largest (j .second)) s) h))
+    visit-cost most p m (g .first) e _ _ (le-trans (part-largest (j .first)) s)
+    (λ d. visit-cost most q m (g .second) d k n (le-trans (part-largest (j .second)) s) h))
 
 -- ---- Review's formula is that cost.
 
@@ -107,8 +107,10 @@ horner-nested most nil m ts = omega arith
 horner-nested most (variable x) m ts = omega arith
 horner-nested most (constant c) m ts = omega arith
 horner-nested most (value x c) m ts = omega arith
-horner-nested most (cons p q) m ts = rw (append-assoc (weights most p (element m)) (weights most q m) ts, horner-nested most q m ts, horner-nested most p (element m) (weights most q m ++ ts))
-horner-nested most (join p q) m ts = rw (append-assoc (weights most p m) (weights most q m) ts, horner-nested most q m ts, horner-nested most p m (weights most q m ++ ts))
+horner-nested most (cons p q) m ts =
+    rw (append-assoc (weights most p (element m)) (weights most q m) ts, horner-nested most q m ts, horner-nested most p (element m) (weights most q m ++ ts))
+horner-nested most (join p q) m ts =
+    rw (append-assoc (weights most p m) (weights most q m) ts, horner-nested most q m ts, horner-nested most p m (weights most q m ++ ts))
 
 pub horner-formula : (most : ℕ) (p : Pattern) (m : Matcher) → horner most p m 1 ≡ formula most p m
 unfolding formula nested
@@ -117,7 +119,8 @@ horner-formula most p m = horner-nested most p m [] ∙ ap nested (append-nil (w
 -- THE BOUND: the whole search has at most as many states as review says.
 pub steps-bound : (most : ℕ) (m : Matcher) (p : Pattern) (v : Value) → largest v ≤ most → length (trace (start m p v ∷ [])) ≤ formula most p m
 unfolding trace start
-steps-bound most m p v s = rw (← horner-formula most p m, append-nil (visit p m v [] (λ d. found d ∷ []))) (visit-cost most p m v [] (λ d. found d ∷ []) 1 s (λ d. omega arith))
+steps-bound most m p v s = rw (← horner-formula most p m, append-nil (visit p m v [] (λ d. found d ∷ [])))
+    (visit-cost most p m v [] (λ d. found d ∷ []) 1 s (λ d. omega arith))
 
 -- ---- The rows: the product of all factors bounds them.
 

@@ -25,7 +25,8 @@ pattern-shorter n at ws g e = omega (arith, simp length-append at (ap length (pa
 Agree : {A : Type 0} → ℕ → Reader A → Reader A → Type 0
 Agree n r s = (at : ℕ) (ws : List ℤ) → length ws ≤ n → r at ws ≡ s at ws
 
-bind-agree : {A B : Type 0} (n : ℕ) (r s : Reader A) (k l : A → Reader B) → Shorter r → Agree n r s → ((a : A) → Agree n (k a) (l a)) → Agree n (r >>= k) (s >>= l)
+bind-agree : {A B : Type 0} (n : ℕ) (r s : Reader A) (k l : A → Reader B) → Shorter r → Agree n r s
+    → ((a : A) → Agree n (k a) (l a)) → Agree n (r >>= k) (s >>= l)
 unfolding Agree Shorter _>>=_
 bind-agree {A} {B} n r s k l f h j at ws i = go (r at ws) (λ g e. f at ws g e) ∙ ap (λ x. x then λ g. l (g .it) (g .next) (g .rest)) (h at ws i)
   where

@@ -1,6 +1,5 @@
 -- The solutions of a pattern are exactly the ways that can be followed down it: section 5 and section 4 agree.
-use Prim.Native.Nat.{ℕ, zero, suc}
-use mathlib.Core.Path.{_≡_, refl, sym, ap, ap₂, _∙_, subst}
+use mathlib.Core.Path.{_≡_, sym, ap, ap₂, _∙_, subst}
 use mathlib.Core.Bool.{Bool, true, false}
 use mathlib.Core.List.{List, [], _∷_, _++_, List·Memᴰ·head, List·Memᴰ·not-nil, List·Memᴰ·eq-of-singleton, Memᴰ·cast, Memᴰ·map, Memᴰ·of-map}
 use lib.Dec.{T}
@@ -59,7 +58,8 @@ module _ (b : Bool) (hs : List Halves) (By : Way → Value → Value → Type 0)
         between = y .0 .bound;
         divided = made (x .0) (x .1);
         first = hf (x .0 .halves .first) (y .0) (y .1);
-        second = subst (λ (t : Solution). Second (x .0 .halves .second) (y .0 .bound) (z .0 .way) (t .bound)) (z .2) (hg (x .0 .halves .second) (y .0 .bound) (z .0) (z .1));
+        second = subst (λ (t : Solution). Second (x .0 .halves .second) (y .0 .bound) (z .0 .way) (t .bound)) (z .2)
+            (hg (x .0 .halves .second) (y .0 .bound) (z .0) (z .1));
         way = ap (λ (t : Solution). t .way) (z .2);
       }
 

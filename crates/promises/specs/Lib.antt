@@ -21,5 +21,7 @@ pub mod Budget
 pub mod Bound
 pub mod Numbering
 pub mod Room
-pub mod Refusals
+pub mod Faults
+pub mod Reviewing
 pub mod Matching
+pub mod Main

@@ -1,5 +1,5 @@
 -- What match gives for a sane input, at every budget and with every room.
-use Prim.Native.Nat.{ℕ, zero, suc, _+_, _*_, _≤_, _<_}
+use Prim.Native.Nat.{ℕ, zero, suc, _*_, _≤_, _<_}
 use native.Mathlib.Omega.{arith}
 use native.Mathlib.Nat.{le-trans, mul-assoc}
 use mathlib.Core.Path.{_≡_, refl, sym, ap, _∙_, subst}
@@ -7,22 +7,27 @@ use mathlib.Core.Logic.{_↔_}
 use mathlib.Core.List.{List, [], _∷_, _++_, map, flatMap, List·Memᴰ·not-nil, List·Memᴰ·head}
 use lib.ListN.{length, length-map, take, drop}
 use lib.IntN.{ℤ}
-use Rattle.rules.specs.Forms.{Matcher, Pattern, Value, words, size}
+use Rattle.rules.specs.Forms.{Value, words, size}
+use Rattle.rules.specs.Reading.{ok}
+use Rattle.rules.specs.Variables.{variables}
 use Rattle.rules.specs.Equality.{Bindings}
 use Rattle.rules.specs.Search.{row, Run, run, start}
 use Rattle.rules.specs.Ways.{Way, Good}
-use Rattle.rules.specs.Review.{weights, formula}
-use Rattle.rules.specs.Services.{accepted, Rule, ruleOf, targetOf, Matched, carriedOut, match}
+use Rattle.rules.specs.Review.{weights}
+use Rattle.rules.specs.Services.{Rule, Matched, carriedOut, match}
 use Rattle.promises.specs.Written.{variableTags, largest, length-words}
 use Rattle.promises.specs.Lists.{Mem, flatMap-map}
 use Rattle.promises.specs.Trace.{Taken, trace, walk, run-walks}
 use Rattle.promises.specs.Solve.{Solution, solve, founds, founds-start}
-use Rattle.promises.specs.Listing.{Listing, solve-listing}
-use Rattle.promises.specs.Budget.{rowsOf, report, Full, Outcome, done, spent, full, full-rows, walk-outcome, answers-0, answers-7, answers-8, steps-most, first-rows}
+use Rattle.promises.specs.Listing.{solve-listing}
+use Rattle.promises.specs.Budget.{report, Full, Outcome, done, spent, full}
+use Rattle.promises.specs.Budget.{walk-outcome, walk-full, full-rows, answers-0, answers-7, answers-8, steps-most, first-rows}
 use Rattle.promises.specs.Bound.{product, steps-bound, rows-bound}
+use Rattle.promises.specs.Numbering.{variables-found}
 use Rattle.promises.specs.Room.{rows-words}
 use Rattle.promises.specs.ReadTarget.{target-read}
-use Rattle.promises.specs.Refusals.{Sane, WellFormed, Fitting, rule-accepted, target-accepted, match-ran}
+use Rattle.promises.specs.Reviewing.{countOf}
+use Rattle.promises.specs.Faults.{Sane, WellFormed, match-ran}
 
 -- The states of the search in the order in which they are taken up; and the good ways, in dictionary order.
 unfoldable pub states : Rule → Value → List Taken
@@ -92,6 +97,12 @@ module _ (ms ps ts : List ℤ) (budget : ℕ) (room : List ℤ) (r : Rule) (v : 
   pub answer-8 : it .answer ≡ 8 ↔ Full budget (length room) (states r v)
   answer-8 = by-answer 8 _ (answers-8 budget (length room) (states r v) ran outcome)
 
+  -- The state whose row does not fit is counted as a step, and the rows before it stand whole.
+  pub full-stands : (f : Full budget (length room) (states r v)) → it ≡ carriedOut (report 8 (suc (length (f .before))) (f .before)) room
+  unfolding states
+  full-stands f = result ∙ ap (λ x. carriedOut x room) (run-walks budget (start (r .matcher) (r .pattern) v ∷ []) (length room)
+      ∙ ap (λ l. walk budget l (length room)) (f .is) ∙ walk-full budget (length room) (f .before) (f .bound) (f .after) (f .reached) (f .fit) (f .over))
+
   -- ---- The rows.
 
   -- The rows found are those of the first good ways; they stand whole from the start of the room, and every word after them is untouched.
@@ -131,17 +142,19 @@ module _ (ms ps ts : List ℤ) (budget : ℕ) (room : List ℤ) (r : Rule) (v : 
   -- ---- Review's numbers.
 
   module _ (most : ℕ) (small : largest v ≤ most) where
-    pub steps-bounded : it .steps ≤ formula most (r .pattern) (r .matcher)
-    unfolding carriedOut states
-    steps-bounded = omega (arith, ap (λ (x : Matched). x .steps) result, steps-most budget (length room) (states r v) ran outcome, steps-bound most (r .matcher) (r .pattern) v small)
+    pub steps-bounded : it .steps ≤ countOf most r
+    unfolding carriedOut states countOf
+    steps-bounded =
+        let q = ap (λ (x : Matched). x .steps) result in
+        omega (arith, steps-most budget (length room) (states r v) ran outcome, steps-bound most (r .matcher) (r .pattern) v small)
 
     pub rows-bounded : it .rows ≤ product (weights most (r .pattern) (r .matcher))
     unfolding ways
     rows-bounded = le-trans (first-ways .0) (rows-bound most (r .pattern) (r .matcher) v [] small)
 
-    pub room-enough : formula most (r .pattern) (r .matcher) ≤ budget
+    pub room-enough : countOf most r ≤ budget
         → product (weights most (r .pattern) (r .matcher)) * variableTags (r .pattern) * length ts ≤ length room → it .answer ≡ 0
-    unfolding states
+    unfolding states countOf
     room-enough b h = answer-0 .1 (
       le-trans (steps-bound most (r .matcher) (r .pattern) v small) b,
       λ f. let k = full-rows budget (length room) (states r v) f .1 in
@@ -151,3 +164,11 @@ module _ (ms ps ts : List ℤ) (budget : ℕ) (room : List ℤ) (r : Rule) (v : 
           ∙ mul-assoc (product (weights most (r .pattern) (r .matcher))) (variableTags (r .pattern)) (size v) in
           omega arith,
     )
+
+-- The variables that the test counts.
+pub tags-counted : (ms ps : List ℤ) (r : Rule) → WellFormed ms ps r
+    → (variables (r .pattern) 0 0 ≡ ok (variableTags (r .pattern))) × (variableTags (r .pattern) ≤ 16)
+tags-counted ms ps r w =
+    let f = variables-found (r .pattern) 0 0 (w .numbered .0) (w .numbered .1) in
+    let k : w .numbered .0 ≡ variableTags (r .pattern) = omega (arith, f .0) in
+    (w .numbered .1 ∙ ap ok k, subst (λ n. n ≤ 16) k (f .1 (omega arith)))

@@ -2,13 +2,13 @@
 use Prim.Native.Nat.{ℕ, suc, _+_, _≤_}
 use native.Mathlib.Omega.{arith}
 use native.Mathlib.Nat.{suc-ne-zero}
-use mathlib.Core.Path.{_≡_, refl, sym, ap, _∙_}
+use mathlib.Core.Path.{_≡_, sym}
 use mathlib.Core.Bool.{Bool, true, false}
 use lib.Dec.{T, ltb→lt}
-use lib.IntN.{ℤ, pos}
+use lib.IntN.{pos}
 use Rattle.rules.specs.Numbers.{same}
 use Rattle.rules.specs.Forms.{Pattern, wildcard, nil, variable, constant, value, cons, join, span}
-use Rattle.rules.specs.Reading.{Verdict, ok, fault}
+use Rattle.rules.specs.Reading.{ok}
 use Rattle.rules.specs.Variables.{demand, isNext, isLeft, variables}
 use Rattle.promises.specs.Tests.{and-split}
 use Rattle.promises.specs.Readers.{then-ok}

@@ -1,10 +1,10 @@
 -- The words are one whole matcher exactly when some matcher with at most four tags 2 or 3 writes them out.
 use Prim.Native.Nat.{ℕ, zero, suc, _+_, _≤_, _<_, suc-le-suc}
 use native.Mathlib.Omega.{arith}
-use native.Mathlib.Nat.{suc-ne-zero, not-suc-le-zero, le-of-suc-le-suc}
+use native.Mathlib.Nat.{not-suc-le-zero, le-of-suc-le-suc}
 use mathlib.Core.Path.{_≡_, refl, sym, ap, _∙_}
 use mathlib.Core.Logic.{_↔_}
-use mathlib.Core.Option.{none, some}
+use mathlib.Core.Option.{some}
 use mathlib.Core.List.{List, [], _∷_, _++_}
 use lib.ListN.{length}
 use lib.IntN.{ℤ, pos, negsuc}
@@ -70,3 +70,7 @@ matcher-read ms m = (
   whole-sound (matcher 4) matcherWords (λ k. levels k ≤ 4) (matcher-sound 4) ms m,
   λ h. ap (whole (matcher 4)) (h .0) ∙ whole-complete (matcher 4) matcherWords (λ k. levels k ≤ 4) (matcher-complete 4) m (h .1),
 )
+
+-- No words are two matchers'.
+pub matcher-once : (m k : Matcher) → levels m ≤ 4 → levels k ≤ 4 → matcherWords m ≡ matcherWords k → m ≡ k
+matcher-once m k a b e = cc (matcher-read (matcherWords m) m .1 (refl, a), matcher-read (matcherWords m) k .1 (e, b))

@@ -4,7 +4,7 @@ use native.Mathlib.Omega.{arith}
 use native.Mathlib.Nat.{not-suc-le-zero}
 use mathlib.Core.Path.{_≡_, refl, sym, ap, _∙_, subst}
 use mathlib.Core.Logic.{_↔_}
-use mathlib.Core.Option.{none, some}
+use mathlib.Core.Option.{some}
 use mathlib.Core.List.{List, [], _∷_, _++_, append-assoc}
 use lib.ListN.{length, length-append}
 use lib.IntN.{ℤ, pos, negsuc}
@@ -12,7 +12,8 @@ use Rattle.rules.specs.Forms.{Pattern, wildcard, variable, constant, value, nil
 use Rattle.rules.specs.Reading.{ok, _then_, Got, Reader, give, _>>=_, word, entry, whole}
 use Rattle.rules.specs.Reading.{PatternTag, alone, operand, operands, parts, patternTags, patternParts, pattern, readPattern}
 use Rattle.promises.specs.Written.{patternWords}
-use Rattle.promises.specs.Readers.{got, Took, Sound, Complete, of-some, not-some, bind-ok, word-ok, gives, moved, none-read, tagged-sound, whole-sound, whole-complete, limited-ok}
+use Rattle.promises.specs.Readers.{got, Took, Sound, Complete, of-some, not-some, bind-ok, word-ok, gives, moved, none-read, tagged-sound}
+use Rattle.promises.specs.Readers.{whole-sound, whole-complete, limited-ok}
 
 -- What a tag stands for: how its operands and parts are written.
 PatternMeans : ℤ → PatternTag → Type 0
@@ -54,7 +55,8 @@ pattern-parts part s w (parts f) h at ws g e =
     let b = bind-ok part (λ p. part >>= λ q. give (f p q)) at ws g e in
     let c = bind-ok part (λ q. give (f (b .0 .it) q)) (b .0 .next) (b .0 .rest) g (b .2) in
     gives patternWords Any (f (b .0 .it) (c .0 .it)) (c .0 .next) (c .0 .rest) g (c .2)
-    (ap {B = List ℤ} (λ l. w ∷ l) (s at ws (b .0) (b .1) .0 ∙ ap {B = List ℤ} (λ l. patternWords (b .0 .it) ++ l) (s (b .0 .next) (b .0 .rest) (c .0) (c .1) .0)
+    (ap {B = List ℤ} (λ l. w ∷ l) (s at ws (b .0) (b .1) .0
+    ∙ ap {B = List ℤ} (λ l. patternWords (b .0 .it) ++ l) (s (b .0 .next) (b .0 .rest) (c .0) (c .1) .0)
     ∙ sym (append-assoc (patternWords (b .0 .it)) (patternWords (c .0 .it)) (c .0 .rest)))
     ∙ ap (λ l. l ++ c .0 .rest) (sym (h (b .0 .it) (c .0 .it)))) tt
 
@@ -115,3 +117,7 @@ pattern-read ps p = (
         ∙ whole-complete (pattern 256) patternWords (λ q. length (patternWords q) ≤ 256) (λ q. pattern-complete q 256) p (subst (λ (l : List ℤ). length l ≤ 256) (h .0) (h .1)),
   ),
 )
+
+-- No words are two patterns'.
+pub pattern-once : (p q : Pattern) → length (patternWords p) ≤ 256 → patternWords p ≡ patternWords q → p ≡ q
+pattern-once p q a e = cc (pattern-read (patternWords p) p .1 (refl, a), pattern-read (patternWords p) q .1 (e, a))

@@ -2,7 +2,7 @@
 -- elements, and collections stand inside collections to depth 8.
 use Prim.Native.Nat.{ℕ, zero, suc, _+_, _≤_, _<_, max, zero-le, suc-le-suc}
 use native.Mathlib.Omega.{arith}
-use native.Mathlib.Nat.{suc-ne-zero, not-suc-le-zero, le-of-suc-le-suc}
+use native.Mathlib.Nat.{not-suc-le-zero, le-of-suc-le-suc}
 use mathlib.Core.Path.{_≡_, refl, sym, ap, ap₂, _∙_, subst}
 use mathlib.Core.Logic.{_↔_}
 use mathlib.Core.Bool.{Bool, true, false}
@@ -12,11 +12,12 @@ use lib.ListN.{length, length-append}
 use lib.Dec.{T, leb, leb→le}
 use lib.IntN.{ℤ, pos, negsuc}
 use Rattle.rules.specs.Forms.{Value, int, collection, Values, empty, _▸_, count, words, wordsAll}
-use Rattle.rules.specs.Reading.{Verdict, ok, fault, _then_, Got, Reader, give, _>>=_, known, word, entry, whole}
+use Rattle.rules.specs.Reading.{ok, fault, _then_, Got, Reader, give, _>>=_, known, word, entry, whole}
 use Rattle.rules.specs.Reading.{TargetTag, one, many, targetTags, atMost64, times, targetParts, target, readTarget}
 use Rattle.promises.specs.Tests.{leb-true}
 use Rattle.promises.specs.Written.{deepest, deepestOf, largest, largestOf}
-use Rattle.promises.specs.Readers.{got, Took, Sound, Complete, of-some, not-some, bind-ok, known-ok, known-is, word-ok, gives, moved, none-read, tagged-sound, whole-sound, whole-complete, limited-ok}
+use Rattle.promises.specs.Readers.{got, Took, Sound, Complete, of-some, not-some, bind-ok, known-ok, known-is, word-ok, gives, moved, none-read, tagged-sound}
+use Rattle.promises.specs.Readers.{whole-sound, whole-complete, limited-ok}
 
 -- ---- What is read is written.
 
@@ -24,7 +25,8 @@ use Rattle.promises.specs.Readers.{got, Took, Sound, Complete, of-some, 
 TargetMeans : ℕ → ℤ → TargetTag → Type 0
 TargetMeans depth w (one f) = (x : ℤ) → (words (f x) ≡ w ∷ x ∷ []) × (deepest (f x) ≡ 0) × (largest (f x) ≡ 0)
 TargetMeans depth w (many f) = (0 < depth)
-    × ((vs : Values) → (words (f vs) ≡ w ∷ pos (count vs) ∷ wordsAll vs) × (deepest (f vs) ≡ suc (deepestOf vs)) × (largest (f vs) ≡ max (count vs) (largestOf vs)))
+    × ((vs : Values) → (words (f vs) ≡ w ∷ pos (count vs) ∷ wordsAll vs) × (deepest (f vs) ≡ suc (deepestOf vs))
+    × (largest (f vs) ≡ max (count vs) (largestOf vs)))
 
 target-means : (depth : ℕ) (w : ℤ) (t : TargetTag) → entry (targetTags depth) w ≡ some t → TargetMeans depth w t
 unfolding entry targetTags TargetMeans words deepest largest
@@ -125,7 +127,8 @@ mutual
   target-complete (int x) (suc d) h at us = moved (int x) us (omega arith)
   target-complete (collection vs) zero h at us = absurd (not-suc-le-zero (h .0))
   target-complete (collection vs) (suc d) h at us =
-      elements-read (λ i ws. target d i ws) vs (suc at) _ us (omega (arith, h .1)) (times-complete vs d (le-of-suc-le-suc (h .0), omega (arith, h .1)) (suc (suc at)) us)
+      elements-read (λ i ws. target d i ws) vs (suc at) _ us (omega (arith, h .1))
+      (times-complete vs d (le-of-suc-le-suc (h .0), omega (arith, h .1)) (suc (suc at)) us)
       ∙ moved (collection vs) us (omega arith)
 
   pub times-complete : (vs : Values) (depth : ℕ) → (deepestOf vs ≤ depth) × (largestOf vs ≤ 64) → (at : ℕ) (us : List ℤ)
@@ -140,5 +143,14 @@ unfolding readTarget Complete
 target-read ts v = (
   λ e. let l = limited-ok 1024 (whole (target 8)) ts v .0 e in let s = whole-sound (target 8) words (Within 8) (target-sound 8) ts v (l .1) in
       (s .0, l .0, s .1 .1, s .1 .0),
-  λ h. limited-ok 1024 (whole (target 8)) ts v .1 (h .1, ap (whole (target 8)) (h .0) ∙ whole-complete (target 8) words (Within 8) (λ w. target-complete w 8) v (h .3, h .2)),
+  λ h. limited-ok 1024 (whole (target 8)) ts v .1 (
+    h .1,
+    ap (whole (target 8)) (h .0)
+        ∙ whole-complete (target 8) words (Within 8) (λ w. target-complete w 8) v (h .3, h .2),
+  ),
 )
+
+-- No words are two values'.
+pub target-once : (v w : Value) → length (words v) ≤ 1024
+    → (largest v ≤ 64) × (deepest v ≤ 8) → (largest w ≤ 64) × (deepest w ≤ 8) → words v ≡ words w → v ≡ w
+target-once v w l a b e = cc (target-read (words v) v .1 (refl, l, a .0, a .1), target-read (words v) w .1 (e, l, b .0, b .1))

@@ -1,13 +1,12 @@
 -- Readers: when one takes exactly the words that a form writes out, and how that passes through what readers are made of.
-use Prim.Native.Nat.{ℕ, zero, suc, _+_, _≤_}
-use native.Mathlib.Omega.{arith}
+use Prim.Native.Nat.{ℕ, suc, _+_, _≤_}
 use native.Mathlib.Nat.{suc-ne-zero}
 use mathlib.Core.Path.{_≡_, refl, sym, ap, _∙_, subst}
 use mathlib.Core.Logic.{_↔_}
 use mathlib.Core.Bool.{Bool, true, false}
 use mathlib.Core.Option.{Option, none, some}
 use mathlib.Core.List.{List, [], _∷_, _++_, append-nil}
-use lib.ListN.{length, length-append}
+use lib.ListN.{length}
 use lib.Dec.{T, leb, leb→le}
 use lib.IntN.{ℤ}
 use Rattle.rules.specs.Reading.{Verdict, ok, fault, _then_, Got, Reader, give, _>>=_, known, word, entry, ended, whole, limited}
@@ -55,7 +54,8 @@ module _ {A : Type 0} where
   unfolding give
   gives W O a at us g e {ws} h o = let q : got a at us ≡ g = cc in subst (Took W O ws) q (h, o)
 
-  pub known-ok : (f : ℤ → Option A) (at : ℕ) (ws : List ℤ) (g : Got A) → known f at ws ≡ ok g → (w : ℤ) × (ws ≡ w ∷ g .rest) × (f w ≡ some (g .it))
+  pub known-ok : (f : ℤ → Option A) (at : ℕ) (ws : List ℤ) (g : Got A) → known f at ws ≡ ok g
+      → (w : ℤ) × (ws ≡ w ∷ g .rest) × (f w ≡ some (g .it))
   unfolding known
   known-ok f at [] g e = let z : _≡_ {A = ℕ} 0 1 = cc in absurd (suc-ne-zero 0 (sym z))
   known-ok f at (w ∷ ws) g e = go (f w) refl e
@@ -126,6 +126,7 @@ module _ {A : Type 0} (most : ℕ) (r : List ℤ → Verdict A) where
     λ h. ap (λ b. elim b as (λ _. Verdict A) [ true ↦ r ws | false ↦ fault most ]) (leb-true (length ws) most (h .0)) ∙ h .1,
   )
     where
-      go : (b : Bool) → (T b → length ws ≤ most) → elim b as (λ _. Verdict A) [ true ↦ r ws | false ↦ fault most ] ≡ ok a → (length ws ≤ most) × (r ws ≡ ok a)
+      go : (b : Bool) → (T b → length ws ≤ most) → elim b as (λ _. Verdict A) [ true ↦ r ws | false ↦ fault most ] ≡ ok a
+          → (length ws ≤ most) × (r ws ≡ ok a)
       go true f e = (f tt, e)
       go false f e = let z : _≡_ {A = ℕ} 0 1 = cc in absurd (suc-ne-zero 0 (sym z))

@@ -1,24 +1,24 @@
 -- The words of a row: a good way binds as many values as the pattern has variables, each a part of the target and so with no more words than the target.
-use Prim.Native.Nat.{ℕ, zero, suc, _+_, _*_, _≤_}
+use Prim.Native.Nat.{ℕ, _+_, _*_, _≤_}
 use native.Mathlib.Omega.{arith}
 use native.Mathlib.Nat.{le-refl, le-trans, mul-le-mul-right, zero-add}
 use mathlib.Core.Path.{_≡_, refl, sym, ap, _∙_, subst}
-use mathlib.Core.List.{List, [], _∷_, _++_, map, flatMap, append-assoc, append-nil, Memᴰ·of-map}
+use mathlib.Core.List.{List, [], _∷_, _++_, map, append-assoc, append-nil, Memᴰ·of-map}
 use lib.ListN.{length, length-append, length-map}
 use lib.IntN.{ℤ}
 use Rattle.rules.specs.Forms.{Matcher, Pattern, wildcard, nil, variable, constant, value, cons, join, Value, words, size}
 use Rattle.rules.specs.Fit.{element}
 use Rattle.rules.specs.Equality.{Bindings}
 use Rattle.rules.specs.Search.{Halves, row, consHalves, joinHalves, start}
-use Rattle.rules.specs.Ways.{Way, ConsBy, JoinBy, Both, Follows}
+use Rattle.rules.specs.Ways.{Way, ConsBy, JoinBy, Follows}
 use Rattle.rules.specs.Review.{weights}
 use Rattle.promises.specs.Written.{variableTags, length-words, largest}
 use Rattle.promises.specs.Lists.{Mem, length-flatMap-le}
 use Rattle.promises.specs.Trace.{trace}
-use Rattle.promises.specs.Solve.{Solution, Numbered, solve, founds, founds-start}
-use Rattle.promises.specs.Choices.{Made, in-numbered, cons-complete, join-complete}
+use Rattle.promises.specs.Solve.{Solution, solve, founds-start}
+use Rattle.promises.specs.Choices.{in-numbered, cons-complete, join-complete}
 use Rattle.promises.specs.GoodWays.{sound}
-use Rattle.promises.specs.Parts.{Part, Parts, cons-parts, join-parts, part-size}
+use Rattle.promises.specs.Parts.{Parts, cons-parts, join-parts, part-size}
 use Rattle.promises.specs.Budget.{rowsOf}
 use Rattle.promises.specs.Bound.{product, rows-bound}
 
@@ -29,18 +29,22 @@ row-append (v ∷ e) d = ap {B = List ℤ} (λ r. words v ++ r) (row-append e d)
 
 row-bind : (e : Bindings) (v : Value) → length (row (e ++ (v ∷ []))) ≡ length (row e) + size v
 unfolding row
-row-bind e v = ap length (row-append e (v ∷ [])) ∙ length-append (row e) (words v ++ []) ∙ ap (λ (l : List ℤ). length (row e) + length l) (append-nil (words v)) ∙ ap (λ n. length (row e) + n) (length-words v)
+row-bind e v = ap length (row-append e (v ∷ [])) ∙ length-append (row e) (words v ++ [])
+    ∙ ap (λ n. length (row e) + n) (ap length (append-nil (words v)) ∙ length-words v)
 
 consBy-parts : (m : Matcher) (v : Value) (here : Way) (a b : Value) → ConsBy m v here a b → Parts (record { first = a; second = b }) v
 consBy-parts m v here a b h =
-    let c = cons-complete m v here a b h in subst (λ (g : Halves). Parts g v) (c .is) (cons-parts m v (c .c .halves) (in-numbered (consHalves m v) (c .c) (c .member)))
+    let c = cons-complete m v here a b h in
+    subst (λ (g : Halves). Parts g v) (c .is) (cons-parts m v (c .c .halves) (in-numbered (consHalves m v) (c .c) (c .member)))
 
 joinBy-parts : (v : Value) (here : Way) (a b : Value) → JoinBy v here a b → Parts (record { first = a; second = b }) v
 joinBy-parts v here a b h =
-    let c = join-complete v here a b h in subst (λ (g : Halves). Parts g v) (c .is) (join-parts v (c .c .halves) (in-numbered (joinHalves v) (c .c) (c .member)))
+    let c = join-complete v here a b h in
+    subst (λ (g : Halves). Parts g v) (c .is) (join-parts v (c .c .halves) (in-numbered (joinHalves v) (c .c) (c .member)))
 
 -- One binding for each variable.
-pub follows-binds : (p : Pattern) (m : Matcher) (v : Value) (e : Bindings) (w : Way) (d : Bindings) → Follows p m v e w d → length d ≡ length e + variableTags p
+pub follows-binds : (p : Pattern) (m : Matcher) (v : Value) (e : Bindings) (w : Way) (d : Bindings) → Follows p m v e w d
+    → length d ≡ length e + variableTags p
 unfolding Follows variableTags
 follows-binds wildcard m v e w d h = ap length (h .1) ∙ omega arith
 follows-binds nil m v e w d h = ap length (h .2) ∙ omega arith

@@ -1,17 +1,16 @@
 -- The solutions of a pattern as a list, by recursion on the pattern: each with its way and its bindings, in the order in which the search finds them.
-use Prim.Native.Nat.{ℕ, zero, suc, _+_}
-use mathlib.Core.Path.{_≡_, refl, sym, ap, _∙_, fun-ext}
+use Prim.Native.Nat.{ℕ, suc}
+use mathlib.Core.Path.{_≡_, refl, sym, ap, _∙_}
 use mathlib.Core.Bool.{Bool, true, false}
-use mathlib.Core.List.{List, [], _∷_, _++_, map, flatMap, append-nil, append-assoc}
-use lib.IntN.{ℤ, pos, negsuc}
+use mathlib.Core.List.{List, [], _∷_, _++_, map, flatMap, append-nil}
 use Rattle.rules.specs.Forms.{Matcher, something, integer, list, multiset, Pattern, wildcard, nil, variable, constant, value, cons, join}
-use Rattle.rules.specs.Forms.{Value, int, collection}
+use Rattle.rules.specs.Forms.{Value}
 use Rattle.rules.specs.Fit.{element}
 use Rattle.rules.specs.Equality.{Bindings, isConstant, isValue, isEmpty}
 use Rattle.rules.specs.Search.{Halves, consHalves, joinHalves, isSomething, start}
 use Rattle.rules.specs.Ways.{Way}
-use Rattle.promises.specs.Lists.{flatMap-append, flatMap-map, flatMap-flatMap, flatMap-cong}
-use Rattle.promises.specs.Trace.{Taken, passed, found, onlyIf, visit, visitAll, visitState, trace}
+use Rattle.promises.specs.Lists.{flatMap-map, flatMap-flatMap, flatMap-cong}
+use Rattle.promises.specs.Trace.{Taken, passed, found, onlyIf, visit, trace}
 
 pub record Solution : Type 0 where
   pub way : Way

@@ -2,8 +2,8 @@
 use Prim.Native.Nat.{ℕ, suc, _-_, _^_, _≤_, _<_}
 use native.Mathlib.Omega.{arith}
 use native.Mathlib.Nat.{mod-eq-of-lt}
-use mathlib.Core.Path.{_≡_, refl, ap}
-use lib.IntN.{ℤ, pos, negsuc}
+use mathlib.Core.Path.{_≡_, ap}
+use lib.IntN.{pos, negsuc}
 use Rattle.rules.specs.Numbers.{residue, signed}
 use Rattle.promises.specs.Tests.{ltb-true, ltb-false}
 

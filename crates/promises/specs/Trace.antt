@@ -1,14 +1,13 @@
 -- The states of the search tree in the order in which a run takes them up, by recursion on the pattern; and that a run with a budget is a
 -- walk along this list that ends when the budget does.
-use Prim.Native.Nat.{ℕ, zero, suc, _+_, _-_}
+use Prim.Native.Nat.{ℕ, zero, suc, _-_}
 use mathlib.Core.Path.{_≡_, refl, sym, ap, _∙_}
 use mathlib.Core.Bool.{Bool, true, false}
-use mathlib.Core.List.{List, [], _∷_, _++_, map, flatMap, append-nil, append-assoc}
+use mathlib.Core.List.{List, [], _∷_, _++_, map, flatMap, append-nil}
 use lib.ListN.{length, take}
 use lib.Dec.{leb}
-use lib.IntN.{ℤ, pos, negsuc}
-use Rattle.rules.specs.Forms.{Matcher, something, integer, list, multiset, Pattern, wildcard, nil, variable, constant, value, cons, join}
-use Rattle.rules.specs.Forms.{Value, int, collection}
+use Rattle.rules.specs.Forms.{Matcher, something, Pattern, wildcard, nil, variable, constant, value, cons, join}
+use Rattle.rules.specs.Forms.{Value}
 use Rattle.rules.specs.Fit.{element}
 use Rattle.rules.specs.Equality.{Bindings, isConstant, isValue, isEmpty}
 use Rattle.rules.specs.Search.{Halves, consHalves, joinHalves, Atom, atom, State, state, isSomething, dropIf, after}

@@ -3,3 +3,6 @@ pub mod Tests
 pub mod Matchers
 pub mod Table
 pub mod Patterns
+pub mod Variables
+pub mod Fitting
+pub mod Targets

@@ -1,7 +1,12 @@
 // The tests 1 to 6 of document 01 on slices of words, one module a test.
+mod fit;
 pub mod matcher;
 pub mod pattern;
+pub mod refusal;
 pub mod table;
+pub mod target;
+mod unfit;
+pub mod variables;
 
 ghost use mathlib.Core.Path.{_≡_};
 ghost use Rattle.reading.specs.Tests.{restAt};

@@ -23,17 +23,8 @@ use Rattle.reading.specs.Table.{byTag, operandsIn, partsIn}
 use Rattle.reading.specs.Patterns.{readsP, patternOf}
 use Rattle.reading.specs.declared.Tested.{Tested}
 use Rattle.reading.specs.declared.Tested.the-variants.{Passed, Fault}
+use Rattle.reading.proofs.After.{after, after-then}
 use Rattle.reading.proofs.Known.{meant, known-word, entry-tag}
-
--- A fault ends the walk; else it goes on.
-unfoldable pub after : {A : Type 0} → Verdict A → (A → Tested) → Tested
-after (ok a) k = k a
-after (fault i) k = Fault i
-
-pub after-then : {A B : Type 0} (x : Verdict A) (f : A → Verdict B) (k : B → Tested) → after (x then f) k ≡ after x (λ a. after (f a) k)
-unfolding after _then_
-after-then (ok a) f k = refl
-after-then (fault i) f k = refl
 
 -- What is left of the words is not more than there were.
 shorter : (d p : ℕ) (ws : List ℤ) (g : Got Pattern) → pattern d p ws ≡ ok g → length (g .rest) ≤ length ws
@@ -44,11 +35,11 @@ shorter d p ws g e =
 
 -- A reader that the walk follows, on up to d words.
 Walks : ℕ → Reader Pattern → Type 0
-Walks d r = (n p : ℕ) (ws : List ℤ) → length ws ≤ d → readsP 0 (suc n) p ws ≡ after (r p ws) (λ g. readsP 0 n (g .next) (g .rest))
+Walks d r = (n p : ℕ) (ws : List ℤ) → length ws ≤ d → readsP 0 (suc n) p ws ≡ after Fault (r p ws) (λ g. readsP 0 n (g .next) (g .rest))
 
 module _ (d : ℕ) (part : Reader Pattern) (h : Walks d part) (less : (p : ℕ) (ws : List ℤ) (g : Got Pattern) → part p ws ≡ ok g → length (g .rest) ≤ length ws) where
   walk-parts : (t : PatternTag) (n p : ℕ) (ws : List ℤ) → length ws ≤ d
-      → readsP (operandsIn t) (n + partsIn t) p ws ≡ after (patternParts part t p ws) (λ g. readsP 0 n (g .next) (g .rest))
+      → readsP (operandsIn t) (n + partsIn t) p ws ≡ after Fault (patternParts part t p ws) (λ g. readsP 0 n (g .next) (g .rest))
   unfolding readsP operandsIn partsIn patternParts _>>=_ _then_ give word known after Walks
   walk-parts (alone q) n p ws l = rw add-zero
   walk-parts (operand f) n p [] l = rw (ne-eqb (1 + (n + 0)) 0 (λ e. omega arith))
@@ -59,11 +50,11 @@ module _ (d : ℕ) (part : Reader Pattern) (h : Walks d part) (less : (p : ℕ) 
   walk-parts (parts f) n p ws l = rw (add-two n) (h (suc n) p ws l ∙ go (part p ws) refl)
     where
       go : (x : Verdict (Got Pattern)) → part p ws ≡ x
-          → after x (λ g. readsP 0 (suc n) (g .next) (g .rest))
-          ≡ after (x then λ g. part (g .next) (g .rest) then λ k. give (f (g .it) (k .it)) (k .next) (k .rest)) (λ g. readsP 0 n (g .next) (g .rest))
+          → after Fault x (λ g. readsP 0 (suc n) (g .next) (g .rest))
+          ≡ after Fault (x then λ g. part (g .next) (g .rest) then λ k. give (f (g .it) (k .it)) (k .next) (k .rest)) (λ g. readsP 0 n (g .next) (g .rest))
       go (ok g) e =
           h n (g .next) (g .rest) (let j = less p ws g e in omega arith)
-          ∙ sym (after-then (part (g .next) (g .rest)) (λ k. give (f (g .it) (k .it)) (k .next) (k .rest)) (λ k. readsP 0 n (k .next) (k .rest)))
+          ∙ sym (after-then Fault (part (g .next) (g .rest)) (λ k. give (f (g .it) (k .it)) (k .next) (k .rest)) (λ k. readsP 0 n (k .next) (k .rest)))
       go (fault i) e = refl
 
 walks : (d : ℕ) → Walks d (pattern d)
@@ -73,17 +64,17 @@ walks zero n p (w ∷ ws) l = absurd (omega arith)
 walks (suc d) n p [] l = rw (ne-eqb (0 + suc n) 0 (λ e. omega arith))
 walks (suc d) n p (w ∷ ws) l =
     go (walks d) (getElem? patternTags (tagZ w))
-    ∙ ap (λ (x : Verdict (Got PatternTag)). after (x then λ g. patternParts (λ i us. pattern d i us) (g .it) (g .next) (g .rest)) (λ g. readsP 0 n (g .next) (g .rest)))
+    ∙ ap (λ (x : Verdict (Got PatternTag)). after Fault (x then λ g. patternParts (λ i us. pattern d i us) (g .it) (g .next) (g .rest)) (λ g. readsP 0 n (g .next) (g .rest)))
     (sym (known-word (entry patternTags) p w ws ∙ ap (meant p ws) (entry-tag patternTags w (omega arith))))
   where
     go : Walks d (pattern d) → (o : Option PatternTag)
         → byTag o (Fault p) (λ t. readsP (operandsIn t) (n + partsIn t) (suc p) ws)
-        ≡ after (meant p ws o then λ g. patternParts (λ i us. pattern d i us) (g .it) (g .next) (g .rest)) (λ g. readsP 0 n (g .next) (g .rest))
+        ≡ after Fault (meant p ws o then λ g. patternParts (λ i us. pattern d i us) (g .it) (g .next) (g .rest)) (λ g. readsP 0 n (g .next) (g .rest))
     go h none = refl
     go h (some t) = walk-parts d (λ i us. pattern d i us) h (shorter d) t n (suc p) ws (omega arith)
 
 -- With no pattern to come the words are at their end.
-at-end : (x : Verdict (Got Pattern)) → after x (λ g. readsP 0 0 (g .next) (g .rest)) ≡ tested (x then ended)
+at-end : (x : Verdict (Got Pattern)) → after Fault x (λ g. readsP 0 0 (g .next) (g .rest)) ≡ tested (x then ended)
 unfolding after readsP tested ended _then_
 at-end (ok g) = go (g .rest)
   where

@@ -1,5 +1,5 @@
 -- For every input exactly one of: a refusal, by the first fault in the fixed order, or a run. In a refusal the room is as it was.
-use Prim.Native.Nat.{ℕ, zero, suc, _≤_}
+use Prim.Native.Nat.{ℕ, _≤_}
 use native.Mathlib.Omega.{arith}
 use mathlib.Core.Path.{_≡_, refl, sym, ap, _∙_, subst, subst₂}
 use mathlib.Core.Logic.{_↔_}
@@ -13,7 +13,7 @@ use Rattle.rules.specs.Fit.{fits, fitsValue}
 use Rattle.rules.specs.Search.{State, Run, run, start}
 use Rattle.rules.specs.Services.{Judged, accepted, refused, test, Rule, ruleOf, targetOf, Matched, turnedAway, carriedOut, matchTarget, matchRule, match}
 use Rattle.promises.specs.Budget.{Outcome, done, spent, full, report, walk-outcome}
-use Rattle.promises.specs.Trace.{Taken, trace, walk, run-walks}
+use Rattle.promises.specs.Trace.{Taken, trace, run-walks}
 
 -- ---- The tests, in their order: what each answer means.
 
@@ -113,6 +113,12 @@ pub record Sane (ms ps ts : List ℤ) (r : Rule) (v : Value) : Type 0 where
   pub rule : WellFormed ms ps r
   pub target : Fitting (r .matcher) ts v
 
+pub sane-exactly : (ms ps ts : List ℤ) (r : Rule) (v : Value) → (ruleOf ms ps ≡ accepted r) × (targetOf (r .matcher) ts ≡ accepted v) ↔ Sane ms ps ts r v
+sane-exactly ms ps ts r v = (
+  λ h. record { rule = rule-accepted ms ps r .0 (h .0); target = target-accepted (r .matcher) ts v .0 (h .1) },
+  λ s. (rule-accepted ms ps r .1 (s .rule), target-accepted (r .matcher) ts v .1 (s .target)),
+)
+
 -- What match gives, by the first fault or by the run.
 pub data Judgement (ms ps ts : List ℤ) (budget : ℕ) (room : List ℤ) (x : Matched) : Type 0 where
   turned : (a i : ℕ) → Fault ms ps ts a i → x ≡ turnedAway a i room → Judgement ms ps ts budget room x
@@ -132,7 +138,8 @@ module _ (ms ps ts : List ℤ) (budget : ℕ) (room : List ℤ) where
   match-ran r v s =
       ap (matchRule budget room ts) (rule-accepted ms ps r .1 (s .rule)) ∙ ap (matchTarget budget room r) (target-accepted (r .matcher) ts v .1 (s .target))
 
-  judge-target : (r : Rule) → WellFormed ms ps r → (y : Judged Value) → TargetIs (r .matcher) ts y → Judgement ms ps ts budget room (match ms ps ts budget room)
+  judge-target : (r : Rule) → WellFormed ms ps r → (y : Judged Value) → TargetIs (r .matcher) ts y
+      → Judgement ms ps ts budget room (match ms ps ts budget room)
   unfolding TargetIs
   judge-target r w (accepted v) f = let s : Sane ms ps ts r v = record { rule = w; target = f } in ran r v s (match-ran r v s)
   judge-target r w (refused a i) f = turned a i (ofTarget r w f) (match-turned a i (ofTarget r w f))
@@ -148,7 +155,7 @@ module _ (ms ps ts : List ℤ) (budget : ℕ) (room : List ℤ) where
 
 -- ---- And not both: a fault has an answer from 1 to 6, a run has not.
 
-rule-range : {ms ps : List ℤ} {a i : ℕ} → RuleFault ms ps a i → (1 ≤ a) × (a ≤ 6)
+pub rule-range : {ms ps : List ℤ} {a i : ℕ} → RuleFault ms ps a i → (1 ≤ a) × (a ≤ 4)
 rule-range (notMatcher e) = omega arith
 rule-range (notPattern x e) = omega arith
 rule-range (misnumbered x y e) = omega arith
@@ -159,7 +166,7 @@ target-range (notTarget e) = omega arith
 target-range (unfit x e) = omega arith
 
 fault-range : {ms ps ts : List ℤ} {a i : ℕ} → Fault ms ps ts a i → (1 ≤ a) × (a ≤ 6)
-fault-range (ofRule f) = rule-range f
+fault-range (ofRule f) = let h = rule-range f in omega arith
 fault-range (ofTarget r w f) = target-range f
 
 out-answer : (n free : ℕ) (us : List Taken) (r : Run) → Outcome n free us r → 1 ≤ r .answer → r .answer ≤ 6 → ⊥
@@ -169,11 +176,13 @@ out-answer n free us r (spent h f q) a b = let k = ap (λ (x : Run). x .answer) 
 out-answer n free us r (full f q) a b = let k = ap (λ (x : Run). x .answer) q in omega arith
 
 run-answer : (n free : ℕ) (ss : List State) → 1 ≤ (run n ss free) .answer → (run n ss free) .answer ≤ 6 → ⊥
-run-answer n free ss = subst (λ (r : Run). 1 ≤ r .answer → r .answer ≤ 6 → ⊥) (sym (run-walks n ss free)) (out-answer n free (trace ss) _ (walk-outcome n (trace ss) free))
+run-answer n free ss = subst (λ (r : Run). 1 ≤ r .answer → r .answer ≤ 6 → ⊥) (sym (run-walks n ss free))
+    (out-answer n free (trace ss) _ (walk-outcome n (trace ss) free))
 
 module _ (ms ps ts : List ℤ) (budget : ℕ) (room : List ℤ) where
   -- An answer from 1 to 6 is given exactly when that is the first fault, and with its place.
-  pub refused-exactly : (a i : ℕ) → Fault ms ps ts a i ↔ (1 ≤ a) × (a ≤ 6) × ((match ms ps ts budget room) .answer ≡ a) × ((match ms ps ts budget room) .place ≡ i)
+  pub refused-exactly : (a i : ℕ)
+      → Fault ms ps ts a i ↔ (1 ≤ a) × (a ≤ 6) × ((match ms ps ts budget room) .answer ≡ a) × ((match ms ps ts budget room) .place ≡ i)
   unfolding turnedAway carriedOut
   refused-exactly a i = (
     λ f. let q = match-turned ms ps ts budget room a i f in

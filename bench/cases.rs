@@ -1,0 +1,118 @@
+//! Runs case files: the trial program's, review's, and the published examples.
+
+use crate::{text, Services};
+use std::path::Path;
+
+pub struct Count {
+    pub cases: usize,
+    pub differ: usize,
+}
+
+impl Count {
+    fn see(&mut self, what: &str, input: &[u8], expected: &str, got: &str) {
+        self.cases += 1;
+        if expected != got {
+            self.differ += 1;
+            println!("{what}: case {} differs", self.cases);
+            println!("{}=\n{expected}-- but got\n{got}", String::from_utf8_lossy(input));
+        }
+    }
+}
+
+/// The cases of a file: input, and what is expected. A line `=!` says that the newline before it is no part of the input.
+fn blocks(bytes: &[u8]) -> Vec<(Vec<u8>, String)> {
+    let (mut cases, mut input, mut expected, mut reading) = (Vec::new(), Vec::new(), Vec::new(), true);
+    for line in bytes.split_inclusive(|&b| b == b'\n') {
+        match (reading, line) {
+            (true, b"=\n") => reading = false,
+            (true, b"=!\n") => {
+                input.pop();
+                reading = false;
+            }
+            (false, b"--\n") => {
+                cases.push((std::mem::take(&mut input), String::from_utf8(std::mem::take(&mut expected)).unwrap()));
+                reading = true;
+            }
+            (true, _) => input.extend_from_slice(line),
+            (false, _) => expected.extend_from_slice(line),
+        }
+    }
+    cases
+}
+
+fn review(services: &Services, input: &[u8]) -> String {
+    let lines: Vec<Vec<i32>> = input.split(|&b| b == b'\n').map(|line| text::words(line).unwrap()).collect();
+    let [answer, place, count] = (services.review)(&lines[0], &lines[1], lines[2][0]);
+    format!("{answer} {place} {count}\n")
+}
+
+/// Whether rows are as a published block wants them: `how` is its weakening line.
+fn agrees(how: &str, wanted: &[&str], rows: &[String]) -> bool {
+    let sorted = |rows: &mut Vec<&str>| rows.sort_unstable();
+    let mut got: Vec<&str> = rows.iter().map(String::as_str).collect();
+    match how {
+        "rows-as-multiset" => {
+            let mut wanted = wanted.to_vec();
+            sorted(&mut wanted);
+            sorted(&mut got);
+            wanted == got
+        }
+        "rows-prefix" => got.starts_with(wanted),
+        "rows-nonempty" => !got.is_empty(),
+        "rows-contain" => wanted.iter().all(|row| got.contains(row)),
+        _ => wanted == got,
+    }
+}
+
+fn published(services: &Services, text: &str, count: &mut Count) {
+    let mut base = false;
+    let mut block: Vec<&str> = Vec::new();
+    for line in text.lines() {
+        if line.starts_with('#') {
+            base = line == "# needs: base" || (base && !line.starts_with("# needs:"));
+        } else if line != "--" {
+            if !(block.is_empty() && line.is_empty()) {
+                block.push(line);
+            }
+        } else {
+            if base {
+                published_block(services, &block, count);
+            }
+            block.clear();
+            base = false;
+        }
+    }
+}
+
+fn published_block(services: &Services, block: &[&str], count: &mut Count) {
+    let input = block[..4].join("\n") + "\n";
+    let (how, wanted) = match &block[5..] {
+        [how, rows @ ..] if how.starts_with("rows-") => (*how, rows),
+        rows => ("", rows),
+    };
+    let q = text::question(input.as_bytes()).unwrap();
+    let (numbers, rows) = text::answered(services, &q);
+    let rows: Vec<String> =
+        rows.iter().map(|row| row.iter().map(i32::to_string).collect::<Vec<_>>().join(" ")).collect();
+    let good = numbers[0] == 0 && agrees(how, wanted, &rows);
+    let expected = format!("{how}\n{}\n", wanted.join("\n"));
+    let got = if good { expected.clone() } else { format!("{numbers:?}\n{}\n", rows.join("\n")) };
+    count.see("published", input.as_bytes(), &expected, &got);
+}
+
+pub fn file(services: &Services, path: &str, count: &mut Count) {
+    let bytes = std::fs::read(path).unwrap_or_else(|e| panic!("{path}: {e}"));
+    match Path::new(path).file_name().and_then(|name| name.to_str()) {
+        Some("published.txt") => published(services, std::str::from_utf8(&bytes).unwrap(), count),
+        Some("review.txt") => {
+            for (input, expected) in blocks(&bytes) {
+                count.see(path, &input, &expected, &review(services, &input));
+            }
+        }
+        _ => {
+            for (input, expected) in blocks(&bytes) {
+                count.see(path, &input, &expected, &text::printed(services, &input));
+            }
+        }
+    }
+}

@@ -1,0 +1,95 @@
+//! The comparison: the same random inputs to two services, and every number and every word of the room looked at.
+
+use crate::inputs::{self, Random};
+use crate::{reference, Services};
+
+/// Words around the room that nothing may touch.
+const GUARD: usize = 8;
+
+pub struct Tally {
+    pub inputs: u64,
+    pub differ: u64,
+    pub answers: [u64; 11],
+}
+
+struct Seen<T> {
+    numbers: T,
+    room: Vec<i32>,
+}
+
+fn in_a_room(f: impl Fn(&mut [i32]) -> reference::Matched, held: &[i32]) -> Seen<reference::Matched> {
+    let mut room = held.to_vec();
+    let end = room.len() - GUARD;
+    let numbers = f(&mut room[GUARD..end]);
+    Seen { numbers, room }
+}
+
+/// Budgets and rooms near the ends of a run that is not cut.
+fn near(r: &mut Random, end: u64, most: u64) -> u64 {
+    match r.below(6) {
+        0 => end,
+        1 => end.saturating_sub(1),
+        2 => end + 1,
+        3 => r.below(end + 1),
+        4 => r.below(8),
+        _ => most,
+    }
+}
+
+impl Tally {
+    fn see(&mut self, answer: u64, same: bool, input: impl FnOnce() -> String) {
+        self.inputs += 1;
+        self.answers[answer as usize] += 1;
+        if !same {
+            self.differ += 1;
+            if self.differ <= 5 {
+                println!("differs: {}", input());
+            }
+        }
+    }
+
+    fn one(&mut self, r: &mut Random, services: &Services) {
+        let mut matcher = inputs::matcher(r);
+        let mut pattern = inputs::pattern(r, &matcher);
+        let mut target = inputs::target(r, &matcher);
+        if r.once_in(4) {
+            for _ in 0..1 + r.below(2) {
+                match r.below(4) {
+                    0 => inputs::damage(r, &mut matcher),
+                    1 => inputs::damage(r, &mut target),
+                    _ => inputs::damage(r, &mut pattern),
+                }
+            }
+        }
+        if r.once_in(10) {
+            let cap = if r.once_in(8) { r.pick(&[-1, 65, i32::MIN, i32::MAX]) } else { r.below(65) as i32 };
+            let (ours, theirs) =
+                (reference::review(&matcher, &pattern, cap), (services.review)(&matcher, &pattern, cap));
+            self.see(ours[0], ours == theirs, || format!("review {matcher:?} {pattern:?} {cap} {ours:?} {theirs:?}"));
+            return;
+        }
+        let most = if r.once_in(50) { 50_000 } else { 1_500 };
+        let whole = reference::match_words(&matcher, &pattern, &target, most, &mut vec![0; 4096]);
+        let budget = near(r, whole[3], most.into()) as u32;
+        let room = near(r, whole[4], 4096).min(4096) as usize;
+        let held: Vec<i32> = (0..room + 2 * GUARD).map(|_| r.next() as i32).collect();
+        let (m, p, t) = (&matcher[..], &pattern[..], &target[..]);
+        let ours = in_a_room(|room| reference::match_words(m, p, t, budget, room), &held);
+        let theirs = in_a_room(|room| (services.match_words)(m, p, t, budget, room), &held);
+        let untouched = GUARD + ours.numbers[4] as usize;
+        let kept = ours.room[..GUARD] == held[..GUARD] && ours.room[untouched..] == held[untouched..];
+        let same = ours.numbers == theirs.numbers && ours.room == theirs.room && kept;
+        self.see(ours.numbers[0], same, || {
+            format!("{m:?} {p:?} {t:?} {budget} {room}: {:?} {:?}", ours.numbers, theirs.numbers)
+        });
+    }
+}
+
+pub fn random(services: &Services, inputs: u64, seed: u64) -> Tally {
+    let mut tally = Tally { inputs: 0, differ: 0, answers: [0; 11] };
+    let mut r = Random(seed);
+    while tally.inputs < inputs {
+        tally.one(&mut r, services);
+    }
+    tally
+}

@@ -1,0 +1,119 @@
+//! The library through its C border: words as they are, the numbers in bytes, eight each, low byte first.
+
+use crate::reference::{Matched, Reviewed};
+
+extern "C" {
+    fn lozhbinor_match(
+        matcher: *const i32,
+        matcher_len: usize,
+        pattern: *const i32,
+        pattern_len: usize,
+        target: *const i32,
+        target_len: usize,
+        budget: u32,
+        room: *mut i32,
+        room_len: usize,
+        numbers: *mut u8,
+        numbers_len: usize,
+    ) -> u32;
+    fn lozhbinor_review(
+        matcher: *const i32,
+        matcher_len: usize,
+        pattern: *const i32,
+        pattern_len: usize,
+        cap: i32,
+        numbers: *mut u8,
+        numbers_len: usize,
+    ) -> u32;
+}
+
+/// A byte that no number of a small run has, behind the numbers: it must stay.
+const MARK: u8 = 0xa5;
+
+/// The numbers in the bytes, after a look at what the call gave back and at the bytes behind them.
+fn numbers<const N: usize>(bytes: &[u8], answer: u32) -> [u64; N] {
+    let mut all = [0; N];
+    for (number, bytes) in all.iter_mut().zip(bytes.chunks(8)) {
+        *number = u64::from_le_bytes(bytes.try_into().unwrap());
+    }
+    assert_eq!(all[0], u64::from(answer), "the call gives back the answer");
+    assert!(bytes[8 * N..].iter().all(|&b| b == MARK), "bytes behind the numbers were written");
+    all
+}
+
+pub fn match_words(matcher: &[i32], pattern: &[i32], target: &[i32], budget: u32, room: &mut [i32]) -> Matched {
+    let mut bytes = [MARK; 48];
+    let answer = unsafe {
+        lozhbinor_match(
+            matcher.as_ptr(),
+            matcher.len(),
+            pattern.as_ptr(),
+            pattern.len(),
+            target.as_ptr(),
+            target.len(),
+            budget,
+            room.as_mut_ptr(),
+            room.len(),
+            bytes.as_mut_ptr(),
+            bytes.len(),
+        )
+    };
+    numbers(&bytes, answer)
+}
+
+pub fn review(matcher: &[i32], pattern: &[i32], cap: i32) -> Reviewed {
+    let mut bytes = [MARK; 32];
+    let answer = unsafe {
+        lozhbinor_review(
+            matcher.as_ptr(),
+            matcher.len(),
+            pattern.as_ptr(),
+            pattern.len(),
+            cap,
+            bytes.as_mut_ptr(),
+            bytes.len(),
+        )
+    };
+    numbers(&bytes, answer)
+}
+
+/// Answer 24: slices too short for the numbers, of every length; nothing is written anywhere. Gives how many were tried.
+pub fn short() -> usize {
+    let words = [3, 1, 5, 1, 0, 0, 1, 1, 0, 7];
+    let (matcher, pattern, target) = (&words[..2], &words[2..6], &words[6..]);
+    for len in 0..40 {
+        let (mut bytes, mut room) = ([MARK; 40], [-7; 4]);
+        let answer = unsafe {
+            lozhbinor_match(
+                matcher.as_ptr(),
+                matcher.len(),
+                pattern.as_ptr(),
+                pattern.len(),
+                target.as_ptr(),
+                target.len(),
+                99,
+                room.as_mut_ptr(),
+                room.len(),
+                bytes.as_mut_ptr(),
+                len,
+            )
+        };
+        assert!(answer == 24 && bytes == [MARK; 40] && room == [-7; 4], "match, {len} bytes for the numbers");
+    }
+    for len in 0..24 {
+        let mut bytes = [MARK; 24];
+        let answer = unsafe {
+            lozhbinor_review(
+                matcher.as_ptr(),
+                matcher.len(),
+                pattern.as_ptr(),
+                pattern.len(),
+                3,
+                bytes.as_mut_ptr(),
+                len,
+            )
+        };
+        assert!(answer == 24 && bytes == [MARK; 24], "review, {len} bytes for the numbers");
+    }
+    64
+}

@@ -1,0 +1,74 @@
+//! The comparison and the measurement: the library against a Rust program that shares nothing with it.
+//!   bench cases FILE..             case files, through the reference and through the services
+//!   bench compare N SEED           N random inputs: the services against the reference
+//!   bench speed CASE ROUNDS WHO    one rule again and again, by the `reference` or the `services`; prints the steps of one run
+//! The services are the library's, through the C border (built with `--cfg library`), or else those of a slow second program.
+
+mod cases;
+mod compare;
+mod inputs;
+#[cfg(library)]
+mod library;
+#[cfg(not(library))]
+mod model;
+mod reference;
+mod speed;
+mod text;
+
+/// What is put to the test: the two services of section 1.
+pub struct Services {
+    pub name: &'static str,
+    pub match_words: fn(&[i32], &[i32], &[i32], u32, &mut [i32]) -> reference::Matched,
+    pub review: fn(&[i32], &[i32], i32) -> reference::Reviewed,
+}
+
+const REFERENCE: Services =
+    Services { name: "the reference", match_words: reference::match_words, review: reference::review };
+
+#[cfg(library)]
+const TESTED: Services =
+    Services { name: "the library", match_words: library::match_words, review: library::review };
+
+#[cfg(not(library))]
+const TESTED: Services = Services { name: "the slow program", match_words: model::match_words, review: model::review };
+
+fn run_cases(services: &Services, paths: &[String]) -> bool {
+    let mut count = cases::Count { cases: 0, differ: 0 };
+    for path in paths {
+        cases::file(services, path, &mut count);
+    }
+    println!("{}: {} cases, {} differ", services.name, count.cases, count.differ);
+    count.differ == 0
+}
+
+fn run_comparison(inputs: u64, seed: u64) -> bool {
+    #[cfg(library)]
+    println!("{}: {} slices too short for the numbers, answer 24, nothing written", TESTED.name, library::short());
+    let tally = compare::random(&TESTED, inputs, seed);
+    println!("{} against the reference: {} random inputs, {} differ", TESTED.name, tally.inputs, tally.differ);
+    println!("  by answer, 0 to 10: {:?}", tally.answers);
+    tally.differ == 0
+}
+
+fn run_speed(name: &str, rounds: u64, who: &str) -> bool {
+    let services = if who == "reference" { &REFERENCE } else { &TESTED };
+    let case = speed::CASES.iter().find(|case| case.name == name);
+    let case = case.unwrap_or_else(|| panic!("no case {name}: {:?}", speed::CASES.map(|case| case.name)));
+    println!("{}", case.run(services, rounds));
+    true
+}
+
+fn number(words: &[String], at: usize) -> u64 {
+    words.get(at).and_then(|word| word.parse().ok()).unwrap_or_else(|| panic!("a number is missing: {words:?}"))
+}
+
+fn main() {
+    let words: Vec<String> = std::env::args().skip(1).collect();
+    let good = match words.first().map(String::as_str) {
+        Some("cases") => run_cases(&REFERENCE, &words[1..]) & run_cases(&TESTED, &words[1..]),
+        Some("compare") => run_comparison(number(&words, 1), number(&words, 2)),
+        Some("speed") if words.len() == 4 => run_speed(&words[1], number(&words, 2), &words[3]),
+        _ => panic!("bench cases FILE.. | compare N SEED | speed CASE ROUNDS WHO"),
+    };
+    std::process::exit(if good { 0 } else { 1 });
+}

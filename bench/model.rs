@@ -1,0 +1,388 @@
+//! Document 01 written out sentence by sentence over trees and lists of states: slow, and unlike the reference in every way, to check that one by.
+
+use crate::reference::{Matched, Reviewed};
+
+#[derive(Clone, PartialEq)]
+enum Matcher {
+    Something,
+    Integer,
+    List(Box<Matcher>),
+    Multiset(Box<Matcher>),
+}
+
+/// A pattern, and the index of its tag.
+#[derive(Clone)]
+struct Pattern {
+    at: usize,
+    form: Form,
+}
+
+#[derive(Clone)]
+enum Form {
+    Wildcard,
+    Variable(i32),
+    Constant(i32),
+    Value(i32, i32),
+    Nil,
+    Cons(Box<Pattern>, Box<Pattern>),
+    Join(Box<Pattern>, Box<Pattern>),
+}
+
+#[derive(Clone, PartialEq, Eq, PartialOrd, Ord)]
+enum Value {
+    Int(i32),
+    Collection(Vec<Value>),
+}
+
+type Fault = usize;
+
+// ---- Section 2: reading.
+
+struct Words<'a> {
+    words: &'a [i32],
+    at: usize,
+}
+
+impl Words<'_> {
+    fn next(&mut self) -> Result<i32, Fault> {
+        let word = *self.words.get(self.at).ok_or(self.at)?;
+        self.at += 1;
+        Ok(word)
+    }
+
+    fn end<T>(&self, it: T) -> Result<T, Fault> {
+        if self.at == self.words.len() {
+            Ok(it)
+        } else {
+            Err(self.at)
+        }
+    }
+
+    fn matcher(&mut self, left: usize) -> Result<Matcher, Fault> {
+        let at = self.at;
+        match self.next()? {
+            0 => Ok(Matcher::Something),
+            1 => Ok(Matcher::Integer),
+            2 if left > 0 => Ok(Matcher::List(Box::new(self.matcher(left - 1)?))),
+            3 if left > 0 => Ok(Matcher::Multiset(Box::new(self.matcher(left - 1)?))),
+            _ => Err(at),
+        }
+    }
+
+    fn pattern(&mut self) -> Result<Pattern, Fault> {
+        let at = self.at;
+        let form = match self.next()? {
+            0 => Form::Wildcard,
+            1 => Form::Variable(self.next()?),
+            2 => Form::Constant(self.next()?),
+            3 => Form::Value(self.next()?, self.next()?),
+            4 => Form::Nil,
+            5 => Form::Cons(Box::new(self.pattern()?), Box::new(self.pattern()?)),
+            6 => Form::Join(Box::new(self.pattern()?), Box::new(self.pattern()?)),
+            _ => return Err(at),
+        };
+        Ok(Pattern { at, form })
+    }
+
+    fn value(&mut self, depth: usize) -> Result<Value, Fault> {
+        let at = self.at;
+        match self.next()? {
+            0 => Ok(Value::Int(self.next()?)),
+            1 if depth > 0 => {
+                let count = self.next()?;
+                if !(0..=64).contains(&count) {
+                    return Err(at + 1);
+                }
+                Ok(Value::Collection((0..count).map(|_| self.value(depth - 1)).collect::<Result<_, _>>()?))
+            }
+            _ => Err(at),
+        }
+    }
+}
+
+fn words(words: &[i32]) -> Words<'_> {
+    Words { words, at: 0 }
+}
+
+fn limited(words: &[i32], most: usize) -> Result<(), Fault> {
+    if words.len() > most {
+        Err(most)
+    } else {
+        Ok(())
+    }
+}
+
+// ---- Section 2: variables and fit.
+
+fn tags(p: &Pattern) -> Vec<&Pattern> {
+    let mut all = vec![p];
+    if let Form::Cons(a, b) | Form::Join(a, b) = &p.form {
+        all.extend(tags(a));
+        all.extend(tags(b));
+    }
+    all
+}
+
+fn variables(p: &Pattern) -> Result<(), Fault> {
+    let mut next = 0;
+    for tag in tags(p) {
+        match tag.form {
+            Form::Variable(v) if v == next && next < 16 => next += 1,
+            Form::Variable(_) => return Err(tag.at),
+            Form::Value(v, _) if !(0..next).contains(&v) => return Err(tag.at),
+            _ => {}
+        }
+    }
+    Ok(())
+}
+
+fn solid(m: &Matcher) -> bool {
+    match m {
+        Matcher::Something => false,
+        Matcher::Integer => true,
+        Matcher::List(m) | Matcher::Multiset(m) => solid(m),
+    }
+}
+
+fn element(m: &Matcher) -> Option<&Matcher> {
+    match m {
+        Matcher::List(m) | Matcher::Multiset(m) => Some(m),
+        _ => None,
+    }
+}
+
+fn fits<'a>(p: &Pattern, m: &'a Matcher, under: &mut Vec<&'a Matcher>) -> Result<(), Fault> {
+    let compares = matches!(m, Matcher::Integer);
+    let good = match (&p.form, element(m)) {
+        (Form::Wildcard, _) => true,
+        (Form::Variable(_), _) => {
+            under.push(m);
+            true
+        }
+        (Form::Constant(_), _) => compares,
+        (Form::Value(v, c), _) => solid(m) && under[*v as usize] == m && (compares || *c == 0),
+        (Form::Nil, inner) => inner.is_some(),
+        (Form::Cons(a, b), Some(inner)) => {
+            fits(a, inner, under)?;
+            return fits(b, m, under);
+        }
+        (Form::Join(a, b), _) if matches!(m, Matcher::List(_)) => {
+            fits(a, m, under)?;
+            return fits(b, m, under);
+        }
+        _ => false,
+    };
+    if good {
+        Ok(())
+    } else {
+        Err(p.at)
+    }
+}
+
+fn size(v: &Value) -> usize {
+    match v {
+        Value::Int(_) => 2,
+        Value::Collection(vs) => 2 + vs.iter().map(size).sum::<usize>(),
+    }
+}
+
+fn fits_value(m: &Matcher, v: &Value, at: usize) -> Result<(), Fault> {
+    match (m, v) {
+        (Matcher::Something, _) | (Matcher::Integer, Value::Int(_)) => Ok(()),
+        (Matcher::List(m), Value::Collection(vs)) | (Matcher::Multiset(m), Value::Collection(vs)) => {
+            let mut at = at + 2;
+            for v in vs {
+                fits_value(m, v, at)?;
+                at += size(v);
+            }
+            Ok(())
+        }
+        _ => Err(at),
+    }
+}
+
+// ---- Section 4: the search.
+
+#[derive(Clone)]
+struct Atom<'a> {
+    pattern: &'a Pattern,
+    matcher: &'a Matcher,
+    value: Value,
+}
+
+/// The first atom stands last.
+#[derive(Clone)]
+struct State<'a> {
+    atoms: Vec<Atom<'a>>,
+    bindings: Vec<Value>,
+}
+
+/// Two values are equal under a matcher if they are the same once the elements of multisets are sorted.
+fn sorted(m: &Matcher, v: &Value) -> Value {
+    match (m, v) {
+        (Matcher::List(m), Value::Collection(vs)) => Value::Collection(vs.iter().map(|v| sorted(m, v)).collect()),
+        (Matcher::Multiset(m), Value::Collection(vs)) => {
+            let mut vs: Vec<Value> = vs.iter().map(|v| sorted(m, v)).collect();
+            vs.sort();
+            Value::Collection(vs)
+        }
+        _ => v.clone(),
+    }
+}
+
+fn raised(v: &Value, c: i32) -> Value {
+    match v {
+        Value::Int(x) => Value::Int(((i64::from(*x) + i64::from(c)) as u64 & 0xffff_ffff) as u32 as i32),
+        collection => collection.clone(),
+    }
+}
+
+static SOMETHING: Matcher = Matcher::Something;
+
+fn after<'a>(atom: &Atom<'a>, older: State<'a>) -> Vec<State<'a>> {
+    let (m, v) = (atom.matcher, &atom.value);
+    let keep = |equal: bool| if equal { vec![older.clone()] } else { Vec::new() };
+    let elements: &[Value] = match v {
+        Value::Collection(vs) => vs,
+        Value::Int(_) => &[],
+    };
+    let two = |a: &'a Pattern, am: &'a Matcher, av: Value, b: &'a Pattern, bv: Vec<Value>| {
+        let mut state = older.clone();
+        state.atoms.push(Atom { pattern: b, matcher: m, value: Value::Collection(bv) });
+        state.atoms.push(Atom { pattern: a, matcher: am, value: av });
+        state
+    };
+    match (&atom.pattern.form, m) {
+        (Form::Wildcard, Matcher::Something) => keep(true),
+        (Form::Variable(_), Matcher::Something) => {
+            let mut state = older.clone();
+            state.bindings.push(v.clone());
+            vec![state]
+        }
+        (Form::Wildcard, _) | (Form::Variable(_), _) => {
+            let mut state = older.clone();
+            state.atoms.push(Atom { pattern: atom.pattern, matcher: &SOMETHING, value: v.clone() });
+            vec![state]
+        }
+        (Form::Constant(c), _) => keep(*v == Value::Int(*c)),
+        (Form::Value(x, c), _) => keep(sorted(m, &raised(&older.bindings[*x as usize], *c)) == sorted(m, v)),
+        (Form::Nil, _) => keep(*v == Value::Collection(Vec::new())),
+        (Form::Cons(a, b), Matcher::List(inner)) => elements
+            .split_first()
+            .map(|(first, rest)| two(a, inner, first.clone(), b, rest.to_vec()))
+            .into_iter()
+            .collect(),
+        (Form::Cons(a, b), Matcher::Multiset(inner)) => (0..elements.len())
+            .map(|k| {
+                let mut rest = elements.to_vec();
+                let one = rest.remove(k);
+                two(a, inner, one, b, rest)
+            })
+            .collect(),
+        (Form::Join(a, b), _) => (0..=elements.len())
+            .map(|k| two(a, m, Value::Collection(elements[..k].to_vec()), b, elements[k..].to_vec()))
+            .collect(),
+        _ => unreachable!("the pattern fits"),
+    }
+}
+
+fn write(v: &Value, words: &mut Vec<i32>) {
+    match v {
+        Value::Int(x) => words.extend([0, *x]),
+        Value::Collection(vs) => {
+            words.extend([1, vs.len() as i32]);
+            vs.iter().for_each(|v| write(v, words));
+        }
+    }
+}
+
+fn run(m: &Matcher, p: &Pattern, v: Value, budget: u32, room: &mut [i32]) -> Matched {
+    let start = State { atoms: vec![Atom { pattern: p, matcher: m, value: v }], bindings: Vec::new() };
+    let (mut waiting, mut rows, mut steps, mut written) = (vec![start], 0, 0, 0);
+    let mut answer = 0;
+    while let Some(mut state) = waiting.pop() {
+        if steps == u64::from(budget) {
+            answer = 7;
+            break;
+        }
+        steps += 1;
+        match state.atoms.pop() {
+            Some(atom) => waiting.extend(after(&atom, state).into_iter().rev()),
+            None => {
+                let mut row = Vec::new();
+                state.bindings.iter().for_each(|v| write(v, &mut row));
+                if written + row.len() > room.len() {
+                    answer = 8;
+                    break;
+                }
+                room[written..written + row.len()].copy_from_slice(&row);
+                written += row.len();
+                rows += 1;
+            }
+        }
+    }
+    [answer, 0, rows, steps, written as u64]
+}
+
+// ---- Section 3: the two services.
+
+fn rule(matcher: &[i32], pattern: &[i32]) -> Result<(Matcher, Pattern), (u64, Fault)> {
+    let mut ms = words(matcher);
+    let m = ms.matcher(4).and_then(|m| ms.end(m)).map_err(|i| (1, i))?;
+    let mut ps = words(pattern);
+    let p = limited(pattern, 256).and_then(|()| ps.pattern()).and_then(|p| ps.end(p)).map_err(|i| (2, i))?;
+    variables(&p).map_err(|i| (3, i))?;
+    fits(&p, &m, &mut Vec::new()).map_err(|i| (4, i))?;
+    Ok((m, p))
+}
+
+fn all(matcher: &[i32], pattern: &[i32], target: &[i32]) -> Result<(Matcher, Pattern, Value), (u64, Fault)> {
+    let (m, p) = rule(matcher, pattern)?;
+    let mut ts = words(target);
+    let v = limited(target, 1024).and_then(|()| ts.value(8)).and_then(|v| ts.end(v)).map_err(|i| (5, i))?;
+    fits_value(&m, &v, 0).map_err(|i| (6, i))?;
+    Ok((m, p, v))
+}
+
+pub fn match_words(matcher: &[i32], pattern: &[i32], target: &[i32], budget: u32, room: &mut [i32]) -> Matched {
+    match all(matcher, pattern, target) {
+        Ok((m, p, v)) => run(&m, &p, v, budget, room),
+        Err((answer, place)) => [answer, place as u64, 0, 0, 0],
+    }
+}
+
+/// Section 6, over the tags left to right.
+fn weights(p: &Pattern, m: &Matcher, cap: u128) -> Vec<(u128, u128)> {
+    let leaf = |steps| vec![(steps, 1)];
+    let both = |factor, first, second| [vec![(1, factor)], first, second].concat();
+    match (&p.form, m) {
+        (Form::Wildcard, Matcher::Something) | (Form::Variable(_), Matcher::Something) => leaf(1),
+        (Form::Wildcard, _) | (Form::Variable(_), _) => leaf(2),
+        (Form::Cons(a, b), Matcher::Multiset(inner)) => both(cap, weights(a, inner, cap), weights(b, m, cap)),
+        (Form::Cons(a, b), Matcher::List(inner)) => both(1, weights(a, inner, cap), weights(b, m, cap)),
+        (Form::Join(a, b), _) => both(cap + 1, weights(a, m, cap), weights(b, m, cap)),
+        _ => leaf(1),
+    }
+}
+
+pub fn review(matcher: &[i32], pattern: &[i32], cap: i32) -> Reviewed {
+    let (m, p) = match rule(matcher, pattern) {
+        Ok(rule) => rule,
+        Err((answer, place)) => return [answer, place as u64, 0],
+    };
+    if !(0..=64).contains(&cap) {
+        return [9, 0, 0];
+    }
+    let (mut sum, mut earlier) = (0, 1);
+    for (steps, factor) in weights(&p, &m, cap as u128) {
+        sum += steps * earlier;
+        earlier *= factor;
+        if sum + earlier > 1 << 100 {
+            return [10, 0, 0];
+        }
+    }
+    if sum + earlier > u128::from(u32::MAX) {
+        return [10, 0, 0];
+    }
+    [0, 0, (sum + earlier) as u64]
+}

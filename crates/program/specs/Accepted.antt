@@ -1,0 +1,182 @@
+-- The program of a rule that is accepted: how long it is, and what each of its lines means.
+use Prim.Native.Nat.{ℕ, zero, suc, _+_, _*_, _≤_}
+use native.Mathlib.Omega.{arith}
+use native.Mathlib.Numerals.{add-one}
+use mathlib.Core.Path.{_≡_, refl, sym, ap, _∙_}
+use mathlib.Core.Bool.{Bool, true, false}
+use mathlib.Core.List.{List, [], _∷_, _++_, append-nil}
+use lib.ListN.{length, getD, drop, length-drop}
+use lib.Seq.{drop-drop, getD-drop}
+use lib.IntN.{ℤ}
+use Rattle.rules.specs.Forms.{Matcher, something, integer, list, multiset, Pattern, wildcard, nil, variable, constant, value, cons, join, span}
+use Rattle.rules.specs.Fit.{element}
+use Rattle.rules.specs.Search.{isSomething}
+use Rattle.rules.specs.Services.{accepted, Rule, ruleOf}
+use Rattle.promises.specs.Written.{matcherWords, patternWords, levels, length-pattern-words}
+use Rattle.promises.specs.ReadMatcher.{matcher-read}
+use Rattle.promises.specs.ReadPattern.{pattern-read}
+use Rattle.promises.specs.Faults.{WellFormed, rule-accepted}
+use Rattle.program.specs.Points.{Instr, Point, point, finish, beyond, Follows, after-end}
+use Rattle.program.specs.Program.{pointAt, program, program-follows}
+use Rattle.program.specs.Length.{instrs, toCome, in-range, all-some}
+use Rattle.program.specs.Lines.{Line, endLine, linesFrom, linesOf, variablesIn}
+use Rattle.program.specs.Meaning.{MatcherAt, whole-matcher, Means}
+use Rattle.program.specs.Numbered.{Numbered, numbered-end, numbered-at}
+use Rattle.program.specs.Compiled.{itemWords, parts-none, Stands, at-tag, at-wildcard, at-variable, at-end, at-beyond, Goes, goes}
+
+-- ---- 256 words make at most 384 instructions before the end.
+
+one-or-two : (b : Bool) → (1 ≤ elim b as (λ _. ℕ) [ true ↦ 1 | false ↦ 2 ]) × (elim b as (λ _. ℕ) [ true ↦ 1 | false ↦ 2 ] ≤ 2)
+one-or-two true = (omega arith, omega arith)
+one-or-two false = (omega arith, omega arith)
+
+some-instrs : (p : Pattern) (m : Matcher) → 1 ≤ instrs p m
+unfolding instrs
+some-instrs wildcard m = one-or-two (isSomething m) .0
+some-instrs (variable x) m = one-or-two (isSomething m) .0
+some-instrs nil m = omega arith
+some-instrs (constant c) m = omega arith
+some-instrs (value x c) m = omega arith
+some-instrs (cons p q) m = omega arith
+some-instrs (join p q) m = omega arith
+
+pub instrs-span : (p : Pattern) (m : Matcher) → 2 * instrs p m ≤ 3 * span p + 1
+unfolding instrs span
+instrs-span wildcard m = let h = one-or-two (isSomething m) .1 in omega arith
+instrs-span (variable x) m = let h = one-or-two (isSomething m) .1 in omega arith
+instrs-span nil m = omega arith
+instrs-span (constant c) m = omega arith
+instrs-span (value x c) m = omega arith
+instrs-span (cons p q) m = let a = instrs-span p (element m) in let b = instrs-span q m in omega arith
+instrs-span (join p q) m = let a = instrs-span p m in let b = instrs-span q m in omega arith
+
+-- ---- The words are few enough for the compiler.
+
+matcher-length : (m : Matcher) → length (matcherWords m) ≡ suc (levels m)
+unfolding matcherWords levels
+matcher-length something = refl
+matcher-length integer = refl
+matcher-length (list m) = ap suc (matcher-length m)
+matcher-length (multiset m) = ap suc (matcher-length m)
+
+module _ (ms ps : List ℤ) (r : Rule) (a : ruleOf ms ps ≡ accepted r) where
+  pub matcher-short : length ms ≤ 5
+  matcher-short =
+      let m = matcher-read ms (r .matcher) .0 (rule-accepted ms ps r .0 a .matcher) in
+      let e = ap length (m .0) ∙ matcher-length (r .matcher) in
+      let l = m .1 in
+      omega arith
+
+  pub pattern-short : length ps ≤ 256
+  pattern-short = pattern-read ps (r .pattern) .0 (rule-accepted ms ps r .0 a .pattern) .1
+
+-- ---- Place after place.
+
+-- Nothing is to do beyond the end, and something before.
+not-beyond : (P : Point) → 1 ≤ toCome P → P ≡ beyond → ⊥
+unfolding toCome
+not-beyond P h e = let z : toCome P ≡ 0 = rw e in omega arith
+
+none-beyond : (P : Point) → toCome P ≡ 0 → P ≡ beyond
+unfolding toCome
+none-beyond (point ks p m b ts) e = let h = all-some ts in absurd (omega arith)
+none-beyond (finish ks) e = absurd (omega arith)
+none-beyond beyond e = refl
+
+-- At the last instruction only the row is left.
+one-finish : (P : Point) → toCome P ≡ 1 → (ks : List Matcher) × (P ≡ finish ks)
+unfolding toCome
+one-finish (point ks p m b ts) e = let h = all-some ts in let l = some-instrs p m in absurd (omega arith)
+one-finish (finish ks) e = (ks, refl)
+one-finish beyond e = absurd (omega arith)
+
+stands-beyond : {ms : List ℤ} {vars pc : ℕ} {ls : List Line} {P : Point} → Stands ms vars pc ls P → P ≡ beyond → ls ≡ []
+stands-beyond at-beyond e = refl
+stands-beyond (at-end v) e = let z : _≡_ {A = ℕ} 0 1 = cc in absurd (omega arith)
+stands-beyond (at-tag i us a ps l v) e = let z : _≡_ {A = ℕ} 0 1 = cc in absurd (omega arith)
+stands-beyond (at-wildcard i us ps l v) e = let z : _≡_ {A = ℕ} 0 1 = cc in absurd (omega arith)
+stands-beyond (at-variable i us ps l v) e = let z : _≡_ {A = ℕ} 0 1 = cc in absurd (omega arith)
+
+stands-finish : {ms : List ℤ} {vars pc : ℕ} {ls : List Line} {P : Point} (ks : List Matcher) → Stands ms vars pc ls P → P ≡ finish ks → vars ≡ length ks
+stands-finish {vars = vars} ks s e = go (rw e at s)
+  where
+    go : {ms : List ℤ} {pc : ℕ} {ls : List Line} → Stands ms vars pc ls (finish ks) → vars ≡ length ks
+    go (at-end v) = v
+
+numbered-finish : {P : Point} (ks : List Matcher) → Numbered P → P ≡ finish ks → length ks ≤ 16
+numbered-finish ks n e = go (rw e at n)
+  where
+    go : Numbered (finish ks) → length ks ≤ 16
+    go (numbered-end l) = l
+
+onward : {ms : List ℤ} {vars pc : ℕ} {I : Instr} {P Q : Point} {ls : List Line} → Follows pc I P Q → Numbered P → Stands ms vars pc ls P → Stands ms vars (suc pc) (drop 1 ls) Q
+onward {P = point ks p m b ts} f n s = let g = goes f n (λ e. let z : _≡_ {A = ℕ} 0 1 = cc in omega arith) s in rw (g .lines) (g .stands)
+onward {P = finish ks} f n s = let g = goes f n (λ e. let z : _≡_ {A = ℕ} 0 1 = cc in omega arith) s in rw (g .lines) (g .stands)
+onward {P = beyond} after-end n at-beyond = at-beyond
+
+suc-drop : {A : Type 0} (l : List A) (n : ℕ) → drop 1 (drop n l) ≡ drop (suc n) l
+suc-drop l n = drop-drop 1 n l ∙ rw (add-one n)
+
+head-drop : {A : Type 0} (l : List A) (n : ℕ) (d x : A) (xs : List A) → drop n l ≡ x ∷ xs → getD l n d ≡ x
+head-drop l n d x xs e = let z : n + 0 ≡ n = omega arith in ap (λ k. getD l k d) (sym z) ∙ sym (getD-drop n l 0 d) ∙ ap (λ k. getD k 0 d) e
+
+module _ (ms ps : List ℤ) (r : Rule) (w : WellFormed ms ps r) where
+  vars : ℕ
+  vars = variablesIn (linesOf ms ps)
+
+  numbers : (pc : ℕ) → Numbered (pointAt (r .matcher) (r .pattern) pc)
+  numbers = numbered-at (r .matcher) (r .pattern) 0 (w .numbered .0) (w .numbered .1)
+
+  follows : (pc : ℕ) → Follows pc (program (r .matcher) (r .pattern) pc) (pointAt (r .matcher) (r .pattern) pc) (pointAt (r .matcher) (r .pattern) (suc pc))
+  follows = program-follows (r .matcher) (r .pattern) 0 (w .fitting .0) (w .fitting .1)
+
+  stands : (pc : ℕ) → Stands ms vars pc (drop pc (linesOf ms ps)) (pointAt (r .matcher) (r .pattern) pc)
+  unfolding pointAt linesOf itemWords vars
+  stands zero =
+      let m = matcher-read ms (r .matcher) .0 (w .matcher) .0 in
+      let p = pattern-read ps (r .pattern) .0 (w .pattern) .0 in
+      let a : MatcherAt ms 0 (r .matcher) = rw m (whole-matcher (r .matcher)) in
+      let e : linesFrom ms 0 0 [] 0 ps ≡ linesFrom ms 0 0 [] 0 (patternWords (r .pattern) ++ []) = rw (append-nil (patternWords (r .pattern)), p) in
+      at-tag {ks = []} {p = r .pattern} 0 [] a parts-none e (omega arith)
+  stands (suc pc) = rw (← suc-drop (linesOf ms ps) pc) (onward (follows pc) (numbers pc) (stands pc))
+
+  at : (pc : ℕ) → pc ≤ instrs (r .pattern) (r .matcher)
+      → Goes ms vars pc (drop pc (linesOf ms ps)) (program (r .matcher) (r .pattern) pc) (pointAt (r .matcher) (r .pattern) (suc pc))
+  at pc l =
+      let n = in-range (r .matcher) (r .pattern) pc in
+      goes (follows pc) (numbers pc) (not-beyond (pointAt (r .matcher) (r .pattern) pc) (omega arith)) (stands pc)
+
+  -- The program has as many lines as instructions, and the end.
+  pub lines-length : length (linesOf ms ps) ≡ instrs (r .pattern) (r .matcher) + 1
+  lines-length =
+      let l = instrs (r .pattern) (r .matcher) in
+      let a : drop l (linesOf ms ps) ≡ at l (omega arith) .first ∷ at l (omega arith) .others = at l (omega arith) .lines in
+      let b = stands-beyond (stands (suc l)) (none-beyond _ (in-range (r .matcher) (r .pattern) (suc l) ∙ omega arith)) in
+      let c = ap length a in
+      let d = ap length b in
+      let e = length-drop l (linesOf ms ps) in
+      let f = length-drop (suc l) (linesOf ms ps) in
+      omega arith
+
+  -- Each means the instruction at its place.
+  pub line-means : (pc : ℕ) → pc ≤ instrs (r .pattern) (r .matcher)
+      → Means ms (variablesIn (linesOf ms ps)) (getD (linesOf ms ps) pc endLine) (program (r .matcher) (r .pattern) pc)
+  unfolding vars
+  line-means pc l = let g = at pc l in rw (head-drop (linesOf ms ps) pc endLine _ _ (g .lines)) (g .means)
+
+  pub few-variables : variablesIn (linesOf ms ps) ≤ 16
+  unfolding vars
+  few-variables =
+      let l = instrs (r .pattern) (r .matcher) in
+      let f = one-finish (pointAt (r .matcher) (r .pattern) l) (in-range (r .matcher) (r .pattern) l ∙ omega arith) in
+      let e = stands-finish (f .0) (stands l) (f .1) in
+      let n = numbered-finish (f .0) (numbers l) (f .1) in
+      omega arith
+
+  pub program-fits : instrs (r .pattern) (r .matcher) ≤ 384
+  program-fits =
+      let s = instrs-span (r .pattern) (r .matcher) in
+      let p = pattern-read ps (r .pattern) .0 (w .pattern) in
+      let e = ap length (p .0) ∙ length-pattern-words (r .pattern) in
+      let l = p .1 in
+      omega arith

@@ -1,0 +1,93 @@
+-- The variables at each place of a program: what is to do there numbers on from the variables bound so far, and there are never more than 16.
+use Prim.Native.Nat.{ℕ, zero, suc, _+_, _<_, _≤_}
+use native.Mathlib.Omega.{arith}
+use mathlib.Core.Path.{_≡_, refl, sym, _∙_}
+use mathlib.Core.Bool.{Bool, true, false}
+use mathlib.Core.List.{List, [], _∷_, _++_}
+use lib.ListN.{length, length-append}
+use lib.Dec.{ltb, ltb→lt}
+use lib.IntN.{ℤ, pos, negsuc}
+use Rattle.rules.specs.Numbers.{same}
+use Rattle.rules.specs.Forms.{Matcher, something, Pattern, wildcard, nil, variable, constant, value, cons, join}
+use Rattle.rules.specs.Reading.{Verdict, ok}
+use Rattle.rules.specs.Variables.{isNext, isLeft, variables}
+use Rattle.rules.specs.Search.{isSomething}
+use Rattle.promises.specs.Tests.{and-split}
+use Rattle.promises.specs.Readers.{then-ok}
+use Rattle.promises.specs.Written.{variableTags}
+use Rattle.promises.specs.Pairing.{same-eq}
+use Rattle.promises.specs.Numbering.{variables-found, demand-ok}
+use Rattle.program.specs.Points.{Item, item, Point, point, finish, beyond, enter}
+use Rattle.program.specs.Program.{followOf, pointAt}
+
+-- n variables stand to the left of what waits.
+pub data Waits : ℕ → List Item → Type 0 where
+  waits-none : {n : ℕ} → Waits n []
+  waits : {n k : ℕ} {p : Pattern} {m : Matcher} {c : ℕ} {ts : List Item} (at : ℕ) → variables p at n ≡ ok k → Waits k ts → Waits n (item p m c ∷ ts)
+
+pub data Numbered : Point → Type 0 where
+  numbered : {ms : List Matcher} {p : Pattern} {m b : Matcher} {ts : List Item} {k : ℕ} (at : ℕ)
+      → length ms ≤ 16 → variables p at (length ms) ≡ ok k → Waits k ts → Numbered (point ms p m b ts)
+  numbered-end : {ms : List Matcher} → length ms ≤ 16 → Numbered (finish ms)
+  numbered-beyond : Numbered beyond
+
+enters : (ms : List Matcher) {n : ℕ} {ts : List Item} → length ms ≤ 16 → length ms ≡ n → Waits n ts → Numbered (enter ms ts)
+unfolding enter
+enters ms l e waits-none = numbered-end l
+enters ms l e (waits {k = k} {p = p} at h w) = let g : variables p at (length ms) ≡ ok k = rw e h in numbered {ms = ms} {p = p} at l g w
+
+-- A tag without parts: what is found is the number of variables to the left of what follows.
+kept : (ms : List Matcher) {n : ℕ} {ts : List Item} → length ms ≤ 16 → _≡_ {A = Verdict ℕ} (ok (length ms)) (ok n) → Waits n ts → Numbered (enter ms ts)
+kept ms {n} l h w = let e : length ms ≡ n = cc in enters ms l e w
+
+bound : (ms : List Matcher) (at : ℕ) {n : ℕ} {ts : List Item} (x : ℤ) (b : Matcher) → length ms ≤ 16 → variables (variable x) at (length ms) ≡ ok n → Waits n ts
+    → Numbered (enter (ms ++ (b ∷ [])) ts)
+unfolding variableTags
+bound ms at {n} x b l h w =
+    let r = variables-found (variable x) at (length ms) n h in
+    let z : length (ms ++ (b ∷ [])) ≡ length ms + 1 = length-append ms (b ∷ []) in
+    let y = r .1 l in
+    let f : n ≡ length ms + 1 = r .0 in
+    let e : length (ms ++ (b ∷ [])) ≡ n = z ∙ sym f in
+    enters (ms ++ (b ∷ [])) (omega arith) e w
+
+next : (pc : ℕ) (p : Pattern) (ms : List Matcher) (m b : Matcher) (ts : List Item) {k : ℕ} (at : ℕ)
+    → length ms ≤ 16 → variables p at (length ms) ≡ ok k → Waits k ts → Numbered (followOf pc (point ms p m b ts))
+unfolding followOf variables
+next pc wildcard ms m b ts at l h w = go (isSomething m)
+  where
+    go : (s : Bool) → Numbered (elim s as (λ _. Point) [ true ↦ enter ms ts | false ↦ point ms wildcard something b ts ])
+    go true = kept ms l h w
+    go false = numbered at l h w
+next pc (variable x) ms m b ts at l h w = go (isSomething m)
+  where
+    go : (s : Bool) → Numbered (elim s as (λ _. Point) [ true ↦ enter (ms ++ (b ∷ [])) ts | false ↦ point ms (variable x) something b ts ])
+    go true = bound ms at x b l h w
+    go false = numbered at l h w
+next pc nil ms m b ts at l h w = kept ms l h w
+next pc (constant c) ms m b ts at l h w = kept ms l h w
+next pc (value x c) ms m b ts {k = k} at l h w = enters ms l (demand-ok (isLeft x (length ms)) at (length ms) k h .1) w
+next pc (cons p q) ms m b ts {k = k} at l h w = let r = then-ok _ _ k h in numbered _ l (r .1) (waits _ (r .2) w)
+next pc (join p q) ms m b ts {k = k} at l h w = let r = then-ok _ _ k h in numbered _ l (r .1) (waits _ (r .2) w)
+
+pub numbered-at : (m : Matcher) (p : Pattern) (at k : ℕ) → variables p at 0 ≡ ok k → (pc : ℕ) → Numbered (pointAt m p pc)
+unfolding pointAt followOf
+numbered-at m p at k h zero = numbered {ms = []} {p = p} at (omega arith) h waits-none
+numbered-at m p at k h (suc pc) = go (pointAt m p pc) (numbered-at m p at k h pc)
+  where
+    go : (P : Point) → Numbered P → Numbered (followOf pc P)
+    go (point ms q j b ts) (numbered i l e w) = next pc q ms j b ts i l e w
+    go (finish ms) (numbered-end l) = numbered-beyond
+    go beyond numbered-beyond = numbered-beyond
+
+-- What a variable's number is, and which one tag 3 names.
+pub number-is : (x : ℤ) (at n k : ℕ) → variables (variable x) at n ≡ ok k → (x ≡ pos n) × (n < 16)
+unfolding variables isNext
+number-is x at n k h =
+    let r = and-split (same x (pos n)) (ltb n 16) (demand-ok (isNext x n) at (suc n) k h .0) in
+    (same-eq x (pos n) (r .0), ltb→lt n 16 (r .1))
+
+pub named-is : (x c : ℤ) (at n k : ℕ) → variables (value x c) at n ≡ ok k → (j : ℕ) × (x ≡ pos j) × (j < n)
+unfolding variables isLeft
+named-is (pos j) c at n k h = (j, refl, ltb→lt j n (demand-ok (isLeft (pos j) n) at n k h .0))
+named-is (negsuc j) c at n k h = absurd (demand-ok (isLeft (negsuc j) n) at n k h .0)

@@ -1,0 +1,32 @@
+-- The programs of two rules of document 01, section 8, as the compiler's definition gives them. A line is op, from, arg, mat, con.
+use mathlib.Core.Path.{_≡_, refl}
+use mathlib.Core.List.{[], _∷_}
+use lib.IntN.{pos}
+use Rattle.program.specs.Lines.{line, endLine, linesOf}
+
+-- P1: two of a rank, 5 1 0 5 3 0 0 0, under multiset integer. The value of the second cons's atom waits in slot 0, that of the rest in slot 3.
+p1 : linesOf (pos 3 ∷ pos 1 ∷ []) (pos 5 ∷ pos 1 ∷ pos 0 ∷ pos 5 ∷ pos 3 ∷ pos 0 ∷ pos 0 ∷ pos 0 ∷ []) ≡
+    line 9 0 0 0 (pos 0)  -- cons
+    ∷ line 1 0 0 1 (pos 0)  -- the variable's atom under something
+    ∷ line 3 0 0 1 (pos 0)  -- variable 0
+    ∷ line 9 0 0 0 (pos 0)  -- cons
+    ∷ line 5 3 0 1 (pos 0)  -- value of variable 0, plus 0
+    ∷ line 1 0 0 0 (pos 0)  -- the wildcard's atom under something
+    ∷ line 2 0 0 0 (pos 0)  -- wildcard
+    ∷ endLine
+    ∷ []
+unfolding linesOf
+p1 = refl
+
+-- P8: 5 1 0 5 3 0 0 4 under list of multiset of integer.
+p8 : linesOf (pos 2 ∷ pos 3 ∷ pos 1 ∷ []) (pos 5 ∷ pos 1 ∷ pos 0 ∷ pos 5 ∷ pos 3 ∷ pos 0 ∷ pos 0 ∷ pos 4 ∷ []) ≡
+    line 8 0 0 0 (pos 0)  -- cons
+    ∷ line 1 0 0 1 (pos 0)  -- the variable's atom under something
+    ∷ line 3 0 0 1 (pos 0)  -- variable 0
+    ∷ line 8 0 0 0 (pos 0)  -- cons
+    ∷ line 6 3 0 1 (pos 0)  -- value of variable 0, a multiset
+    ∷ line 7 0 0 0 (pos 0)  -- nil
+    ∷ endLine
+    ∷ []
+unfolding linesOf
+p8 = refl

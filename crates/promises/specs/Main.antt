@@ -1,0 +1,199 @@
+-- What document 01 demands, as theorems about its definitions. Each is stated here and proved elsewhere; what it assumes stands before its arrows, and
+-- nothing else is assumed. The words that the statements use are defined in Trace (order, seen), Solve (founds), Listing (Listing), Budget (rowsOf,
+-- report, Full, Outcome), Matching (states, ways, rowsOfWays), Bound (product), Written (the words and the numbers of the forms), Faults, Reviewing
+-- (Review, TooBig, countOf) and Pairing (greedy).
+use Prim.Native.Nat.{ℕ, suc, _*_, _≤_, _<_}
+use mathlib.Core.Path.{_≡_, sym, _∙_}
+use mathlib.Core.Logic.{_↔_}
+use mathlib.Core.List.{List, [], _∷_, _++_, map}
+use lib.ListN.{length, take, drop}
+use lib.Dec.{T}
+use lib.IntN.{ℤ, pos}
+use Rattle.rules.specs.Forms.{Matcher, Pattern, Value, Values, collection, multiset, words}
+use Rattle.rules.specs.Reading.{ok, readMatcher, readPattern, readTarget}
+use Rattle.rules.specs.Variables.{variables}
+use Rattle.rules.specs.Equality.{Bindings, equal}
+use Rattle.rules.specs.Search.{run, start}
+use Rattle.rules.specs.Ways.{Way, Good}
+use Rattle.rules.specs.Review.{weights}
+use Rattle.rules.specs.Services.{accepted, Rule, ruleOf, targetOf, Matched, turnedAway, carriedOut, match, Reviewed, review}
+use Rattle.promises.specs.Written.{matcherWords, patternWords, levels, largest, deepest, variableTags}
+use Rattle.promises.specs.Trace.{order, seen, trace-order}
+use Rattle.promises.specs.Solve.{Solution, founds, founds-start}
+use Rattle.promises.specs.Listing.{Listing, solve-listing, listing-unique}
+use Rattle.promises.specs.Budget.{report, Full, Outcome}
+use Rattle.promises.specs.Bound.{product}
+use Rattle.promises.specs.Pairing.{greedy, equal-equiv, multisets-greedy}
+use Rattle.promises.specs.ReadMatcher.{matcher-read, matcher-once}
+use Rattle.promises.specs.ReadPattern.{pattern-read, pattern-once}
+use Rattle.promises.specs.ReadTarget.{target-read, target-once}
+use Rattle.promises.specs.Faults.{Fault, Judgement, Sane, sane-exactly, rule-accepted, match-turned, match-judged, refused-exactly, fault-once, not-both}
+use Rattle.promises.specs.Reviewing.{Review, TooBig, countOf, review-judged, count-is, answer-10}
+use Rattle.promises.specs.Matching.{states, ways, rowsOfWays, outcome, result, answer-0, answer-7, answer-8, full-stands, first-ways, all-ways, no-row}
+use Rattle.promises.specs.Matching.{steps-bounded, rows-bounded, room-enough, tags-counted}
+
+-- ---- Determined: two results that a contract allows agree in every number and every word of the room.
+
+pub match-determined : (ms ps ts : List ℤ) (budget : ℕ) (room : List ℤ) (x y : Matched)
+    → x ≡ match ms ps ts budget room → y ≡ match ms ps ts budget room → x ≡ y
+match-determined ms ps ts budget room x y p q = p ∙ sym q
+
+pub review-determined : (ms ps : List ℤ) (most : ℤ) (x y : Reviewed) → x ≡ review ms ps most → y ≡ review ms ps most → x ≡ y
+review-determined ms ps most x y p q = p ∙ sym q
+
+-- ---- Exactly the good ways.
+
+module _ (r : Rule) (v : Value) where
+  -- `ways` are the good ways of section 5: each once, none missing, in strictly increasing dictionary order.
+  pub ways-listed : Listing (r .matcher) (r .pattern) v (ways r v)
+  unfolding ways
+  ways-listed = solve-listing (r .matcher) (r .pattern) v
+
+  -- No other list is so.
+  pub ways-only : (ss : List Solution) → Listing (r .matcher) (r .pattern) v ss → ss ≡ ways r v
+  ways-only ss l = listing-unique (r .matcher) (r .pattern) v ss (ways r v) l ways-listed
+
+  -- The first n of `states` are the first n that are taken up by section 4's order.
+  pub states-in-order : (n : ℕ) → take n (states r v) ≡ map seen (order n (start (r .matcher) (r .pattern) v ∷ []))
+  unfolding states
+  states-in-order n = trace-order n (start (r .matcher) (r .pattern) v ∷ [])
+
+  -- The bindings of the states with no atom left, in the order taken up, are those of the good ways.
+  pub rows-of-ways : founds (states r v) ≡ map (λ s. s .bound) (ways r v)
+  unfolding states ways
+  rows-of-ways = founds-start (r .matcher) (r .pattern) v
+
+-- For an input that is not refused, read as the rule r and the value v; `it` is what match gives.
+module _ (ms ps ts : List ℤ) (budget : ℕ) (room : List ℤ) (r : Rule) (v : Value)
+    (rule : ruleOf ms ps ≡ accepted r) (target : targetOf (r .matcher) ts ≡ accepted v) where
+  abbrev it : Matched
+  it = match ms ps ts budget room
+
+  abbrev free : ℕ
+  free = length room
+
+  sane : Sane ms ps ts r v
+  sane = sane-exactly ms ps ts r v .0 (rule, target)
+
+  -- ---- At every budget: a run takes up the first states, its steps are their number, and what it writes are their rows.
+
+  pub match-is : it ≡ carriedOut (run budget (start (r .matcher) (r .pattern) v ∷ []) free) room
+  match-is = result ms ps ts budget room r v sane
+
+  pub at-every-budget : Outcome budget free (states r v) (run budget (start (r .matcher) (r .pattern) v ∷ []) free)
+  at-every-budget = outcome ms ps ts budget room r v sane
+
+  -- The room holds the rows of the first good ways, whole, and each word after them is untouched.
+  pub room-holds : (it .rows ≤ length (ways r v)) × (it .words ≡ length (rowsOfWays (take (it .rows) (ways r v))))
+      × (it .room ≡ rowsOfWays (take (it .rows) (ways r v)) ++ drop (it .words) room)
+  room-holds = first-ways ms ps ts budget room r v sane
+
+  -- With answer 0 they are all good ways.
+  pub all-rows : it .answer ≡ 0 → it .rows ≡ length (ways r v)
+  all-rows = all-ways ms ps ts budget room r v sane
+
+  -- ---- No row: answer 0 with 0 rows exactly when no state remains and no good way exists.
+
+  pub no-row-exactly : (it .answer ≡ 0) × (it .rows ≡ 0)
+      ↔ (length (states r v) ≤ budget) × ((w : Way) (e : Bindings) → Good (r .matcher) (r .pattern) v w e → ⊥)
+  no-row-exactly = no-row ms ps ts budget room r v sane
+
+  -- ---- Full and budget. `Full`: among the first `budget` states there is one whose row does not fit after those of the states before it.
+
+  pub full-exactly : it .answer ≡ 8 ↔ Full budget free (states r v)
+  full-exactly = answer-8 ms ps ts budget room r v sane
+
+  -- Then its state is the last step, and the rows before it stand whole.
+  pub full-is : (f : Full budget free (states r v)) → it ≡ carriedOut (report 8 (suc (length (f .before))) (f .before)) room
+  full-is = full-stands ms ps ts budget room r v sane
+
+  pub budget-exactly : it .answer ≡ 7 ↔ (budget < length (states r v)) × (Full budget free (states r v) → ⊥)
+  budget-exactly = answer-7 ms ps ts budget room r v sane
+
+  pub done-exactly : it .answer ≡ 0 ↔ (length (states r v) ≤ budget) × (Full budget free (states r v) → ⊥)
+  done-exactly = answer-0 ms ps ts budget room r v sane
+
+-- ---- Review: one of a refusal, a cap outside 0 to 64, too big, or the formula.
+
+pub review-gives : (ms ps : List ℤ) (most : ℤ) → Review ms ps most (review ms ps most)
+review-gives = review-judged
+
+pub too-big-exactly : (ms ps : List ℤ) (most : ℤ) → (review ms ps most) .answer ≡ 10 ↔ TooBig ms ps most
+too-big-exactly = answer-10
+
+pub count-is-formula : (ms ps : List ℤ) (most : ℕ) (r : Rule) → ruleOf ms ps ≡ accepted r → (review ms ps (pos most)) .answer ≡ 0
+    → (review ms ps (pos most)) .count ≡ countOf most r
+count-is-formula ms ps most r e a = count-is ms ps most r (rule-accepted ms ps r .0 e) a
+
+-- The variables are those that the test of section 2 counts, at most 16.
+pub variables-counted : (ms ps : List ℤ) (r : Rule) → ruleOf ms ps ≡ accepted r
+    → (variables (r .pattern) 0 0 ≡ ok (variableTags (r .pattern))) × (variableTags (r .pattern) ≤ 16)
+variables-counted ms ps r e = tags-counted ms ps r (rule-accepted ms ps r .0 e)
+
+-- The count bounds every run on a target whose collections, nested ones too, have at most `most` elements.
+module _ (ms ps ts : List ℤ) (budget : ℕ) (room : List ℤ) (r : Rule) (v : Value)
+    (rule : ruleOf ms ps ≡ accepted r) (target : targetOf (r .matcher) ts ≡ accepted v)
+    (most : ℕ) (small : largest v ≤ most) where
+  pub steps-at-most : (match ms ps ts budget room) .steps ≤ countOf most r
+  steps-at-most = steps-bounded ms ps ts budget room r v (sane ms ps ts budget room r v rule target) most small
+
+  pub rows-at-most : (match ms ps ts budget room) .rows ≤ product (weights most (r .pattern) (r .matcher))
+  rows-at-most = rows-bounded ms ps ts budget room r v (sane ms ps ts budget room r v rule target) most small
+
+  -- ---- Room enough: with the count as budget, and (product of factors) × (variables) × (target words) words of room, match answers 0.
+
+  pub enough : countOf most r ≤ budget → product (weights most (r .pattern) (r .matcher)) * variableTags (r .pattern) * length ts ≤ length room
+      → (match ms ps ts budget room) .answer ≡ 0
+  enough = room-enough ms ps ts budget room r v (sane ms ps ts budget room r v rule target) most small
+
+-- ---- Refusals: for every input exactly one of a refusal, by the first fault in the fixed order, or a run.
+
+module _ (ms ps ts : List ℤ) where
+  pub refused-or-run : (budget : ℕ) (room : List ℤ) → Judgement ms ps ts budget room (match ms ps ts budget room)
+  refused-or-run = match-judged ms ps ts
+
+  -- Answers 1 to 6 exactly with their fault and at its place; then nothing else is given, and the room is as it was.
+  pub first-fault-exactly : (budget : ℕ) (room : List ℤ) (a i : ℕ)
+      → Fault ms ps ts a i ↔ (1 ≤ a) × (a ≤ 6) × ((match ms ps ts budget room) .answer ≡ a) × ((match ms ps ts budget room) .place ≡ i)
+  first-fault-exactly = refused-exactly ms ps ts
+
+  pub room-as-it-was : (budget : ℕ) (room : List ℤ) (a i : ℕ) → Fault ms ps ts a i → match ms ps ts budget room ≡ turnedAway a i room
+  room-as-it-was = match-turned ms ps ts
+
+  pub one-fault : (a i b j : ℕ) → Fault ms ps ts a i → Fault ms ps ts b j → (a ≡ b) × (i ≡ j)
+  one-fault = fault-once ms ps ts
+
+  pub fault-or-run : (a i : ℕ) (r : Rule) (v : Value) → Fault ms ps ts a i → Sane ms ps ts r v → ⊥
+  fault-or-run = not-both ms ps ts
+
+-- ---- Multiset equality: pairing off is marking off greedily; and equality is symmetric and transitive under every matcher.
+
+pub pairing-is-greedy : (m : Matcher) (vs ws : Values) → equal (multiset m) (collection vs) (collection ws) ≡ greedy (equal m) vs ws
+pairing-is-greedy = multisets-greedy
+
+pub equal-symmetric : (m : Matcher) (a b : Value) → T (equal m a b) → T (equal m b a)
+equal-symmetric m = equal-equiv m .symm
+
+pub equal-transitive : (m : Matcher) (a b c : Value) → T (equal m a b) → T (equal m b c) → T (equal m a c)
+equal-transitive m = equal-equiv m .tran
+
+-- ---- Words are read one way: what is read is what some matcher, pattern or value in the limits writes out, and no words are written by two.
+
+pub reads-matchers : (ms : List ℤ) (m : Matcher) → readMatcher ms ≡ ok m ↔ (ms ≡ matcherWords m) × (levels m ≤ 4)
+reads-matchers = matcher-read
+
+pub reads-patterns : (ps : List ℤ) (p : Pattern) → readPattern ps ≡ ok p ↔ (ps ≡ patternWords p) × (length ps ≤ 256)
+reads-patterns = pattern-read
+
+pub reads-targets : (ts : List ℤ) (v : Value) → readTarget ts ≡ ok v ↔ (ts ≡ words v) × (length ts ≤ 1024) × (largest v ≤ 64) × (deepest v ≤ 8)
+reads-targets = target-read
+
+pub one-matcher : (m k : Matcher) → levels m ≤ 4 → levels k ≤ 4 → matcherWords m ≡ matcherWords k → m ≡ k
+one-matcher = matcher-once
+
+pub one-pattern : (p q : Pattern) → length (patternWords p) ≤ 256 → patternWords p ≡ patternWords q → p ≡ q
+one-pattern = pattern-once
+
+pub one-value : (v w : Value) → length (words v) ≤ 1024
+    → (largest v ≤ 64) × (deepest v ≤ 8) → (largest w ≤ 64) × (deepest w ≤ 8) → words v ≡ words w → v ≡ w
+one-value = target-once

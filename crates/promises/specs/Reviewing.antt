@@ -1,0 +1,112 @@
+-- What review gives: the first fault of the rule, a cap outside 0 to 64, too big, or the count.
+use Prim.Native.Nat.{ℕ, _^_, _≤_, _<_}
+use native.Mathlib.Omega.{arith}
+use native.Mathlib.Decide.{decLe}
+use mathlib.Core.Path.{_≡_, refl, sym, ap, ap₂, _∙_}
+use mathlib.Core.Logic.{_↔_}
+use mathlib.Core.Bool.{true, false}
+use mathlib.Core.List.{List}
+use lib.IntN.{ℤ, pos, negsuc, pos-ne-negsuc}
+use Rattle.rules.specs.Review.{formula}
+use Rattle.rules.specs.Services.{Judged, accepted, refused, Rule, ruleOf, Reviewed, declined, counted, capped, reviewRule, review}
+use Rattle.promises.specs.Tests.{leb-true, leb-false, ltb-true, ltb-false}
+use Rattle.promises.specs.Faults.{RuleFault, rule-range, WellFormed, rule-accepted, rule-refused}
+
+-- Review's formula for a rule.
+unfoldable pub countOf : ℕ → Rule → ℕ
+unfolding formula
+countOf most r = formula most (r .pattern) (r .matcher)
+
+pub data Review (ms ps : List ℤ) (most : ℤ) (x : Reviewed) : Type 0 where
+  turned : (a i : ℕ) → RuleFault ms ps a i → x ≡ declined a i → Review ms ps most x
+  outside : (r : Rule) → WellFormed ms ps r → ((c : ℕ) → most ≡ pos c → c ≤ 64 → ⊥) → x ≡ declined 9 0 → Review ms ps most x
+  tooBig : (r : Rule) (c : ℕ) → WellFormed ms ps r → most ≡ pos c → c ≤ 64 → 4294967295 < countOf c r → x ≡ declined 10 0 → Review ms ps most x
+  counts : (r : Rule) (c : ℕ) → WellFormed ms ps r → most ≡ pos c → c ≤ 64 → countOf c r ≤ 4294967295
+      → x ≡ record { answer = 0; place = 0; count = countOf c r } → Review ms ps most x
+
+module _ (ms ps : List ℤ) where
+  of-rule : (most : ℤ) (r : Rule) → WellFormed ms ps r → review ms ps most ≡ capped most r
+  unfolding review
+  of-rule most r w = ap (reviewRule most) (rule-accepted ms ps r .1 w)
+
+  in-range : (c : ℕ) (r : Rule) → WellFormed ms ps r → c ≤ 64 → review ms ps (pos c) ≡ counted (countOf c r)
+  unfolding capped countOf
+  in-range c r w h = of-rule (pos c) r w
+      ∙ ap (λ t. elim t as (λ _. Reviewed) [ true ↦ counted (countOf c r) | false ↦ declined 9 0 ]) (leb-true c 64 h)
+
+  -- The count is the formula, where it is at most 4,294,967,295.
+  pub review-counts : (c : ℕ) (r : Rule) → WellFormed ms ps r → c ≤ 64 → countOf c r ≤ 4294967295
+      → review ms ps (pos c) ≡ record { answer = 0; place = 0; count = countOf c r }
+  unfolding counted
+  review-counts c r w h k = in-range c r w h
+      ∙ ap (λ t. elim t as (λ _. Reviewed) [ true ↦ record { answer = 0; place = 0; count = countOf c r } | false ↦ declined 10 0 ])
+      (ltb-true (countOf c r) (2 ^ 32) (omega arith))
+
+  pub review-too-big : (c : ℕ) (r : Rule) → WellFormed ms ps r → c ≤ 64 → 4294967295 < countOf c r → review ms ps (pos c) ≡ declined 10 0
+  unfolding counted
+  review-too-big c r w h k = in-range c r w h
+      ∙ ap (λ t. elim t as (λ _. Reviewed) [ true ↦ record { answer = 0; place = 0; count = countOf c r } | false ↦ declined 10 0 ])
+      (ltb-false (countOf c r) (2 ^ 32) (omega arith))
+
+  by-count : (c : ℕ) (r : Rule) → WellFormed ms ps r → c ≤ 64 → Dec (countOf c r ≤ 4294967295) → Review ms ps (pos c) (review ms ps (pos c))
+  by-count c r w h (yes k) = counts r c w refl h k (review-counts c r w h k)
+  by-count c r w h (no k) = tooBig r c w refl h (omega arith) (review-too-big c r w h (omega arith))
+
+  by-cap : (most : ℤ) (r : Rule) → WellFormed ms ps r → Review ms ps most (review ms ps most)
+  unfolding capped countOf
+  by-cap (negsuc n) r w = outside r w (λ c e h. pos-ne-negsuc c n (sym e)) (of-rule (negsuc n) r w)
+  by-cap (pos c) r w = go (decLe c 64)
+    where
+      go : Dec (c ≤ 64) → Review ms ps (pos c) (review ms ps (pos c))
+      go (yes h) = by-count c r w h (decLe (countOf c r) 4294967295)
+      go (no h) = outside r w (λ d e k. let q : c ≡ d = cc in omega arith)
+          (of-rule (pos c) r w ∙ ap (λ t. elim t as (λ _. Reviewed) [ true ↦ counted (countOf c r) | false ↦ declined 9 0 ]) (leb-false c 64 (omega arith)))
+
+  -- One of the four.
+  pub review-judged : (most : ℤ) → Review ms ps most (review ms ps most)
+  unfolding review
+  review-judged most = go (ruleOf ms ps) refl
+    where
+      go : (x : Judged Rule) → ruleOf ms ps ≡ x → Review ms ps most (review ms ps most)
+      go (accepted r) e = by-cap most r (rule-accepted ms ps r .0 e)
+      go (refused a i) e = turned a i (rule-refused ms ps a i .0 e) (ap (reviewRule most) e)
+
+-- ---- And only that one: the answers differ.
+
+pub record TooBig (ms ps : List ℤ) (most : ℤ) : Type 0 where
+  pub rule : Rule
+  pub wellFormed : WellFormed ms ps rule
+  pub limit : ℕ
+  pub is : most ≡ pos limit
+  pub inside : limit ≤ 64
+  pub passes : 4294967295 < countOf limit rule
+
+-- 10 exactly when the formula passes 4,294,967,295.
+pub answer-10 : (ms ps : List ℤ) (most : ℤ) → (review ms ps most) .answer ≡ 10 ↔ TooBig ms ps most
+unfolding declined
+answer-10 ms ps most = ((λ a. go a (review-judged ms ps most)), back)
+  where
+    go : (review ms ps most) .answer ≡ 10 → Review ms ps most (review ms ps most) → TooBig ms ps most
+    go a (turned b i f q) = let k = ap (λ (x : Reviewed). x .answer) q in let l = rule-range f .1 in absurd (omega arith)
+    go a (outside r w o q) = let k = ap (λ (x : Reviewed). x .answer) q in absurd (omega arith)
+    go a (tooBig r c w e h k q) = record { rule = r; wellFormed = w; limit = c; is = e; inside = h; passes = k }
+    go a (counts r c w e h k q) = let l = ap (λ (x : Reviewed). x .answer) q in absurd (omega arith)
+
+    back : TooBig ms ps most → (review ms ps most) .answer ≡ 10
+    back t = ap (λ m. (review ms ps m) .answer) (t .is)
+        ∙ ap (λ (x : Reviewed). x .answer) (review-too-big ms ps (t .limit) (t .rule) (t .wellFormed) (t .inside) (t .passes))
+
+-- The count of a review that answers 0 is the formula.
+pub count-is : (ms ps : List ℤ) (c : ℕ) (r : Rule) → WellFormed ms ps r → (review ms ps (pos c)) .answer ≡ 0
+    → (review ms ps (pos c)) .count ≡ countOf c r
+unfolding declined
+count-is ms ps c r w a = go (review-judged ms ps (pos c))
+  where
+    same : (s : Rule) → WellFormed ms ps s → s ≡ r
+    same s u = cc (rule-accepted ms ps s .1 u, rule-accepted ms ps r .1 w)
+
+    go : Review ms ps (pos c) (review ms ps (pos c)) → (review ms ps (pos c)) .count ≡ countOf c r
+    go (turned b i f q) = let k = ap (λ (x : Reviewed). x .answer) q in let l = rule-range f in absurd (omega arith)
+    go (outside s u o q) = let k = ap (λ (x : Reviewed). x .answer) q in absurd (omega arith)
+    go (tooBig s d u e h k q) = let l = ap (λ (x : Reviewed). x .answer) q in absurd (omega arith)
+    go (counts s d u e h k q) = let i : d ≡ c = cc in ap (λ (x : Reviewed). x .count) q ∙ ap₂ countOf i (same s u)

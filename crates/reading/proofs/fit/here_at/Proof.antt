@@ -1,0 +1,25 @@
+-- `reading::fit::here_at` meets its contract. Assumes nothing.
+use Rattle.reading.proofs.fit.Tags.{rules}
+use Rattle.reading.proofs.fit.here_at.Statement.{statement}
+use Rattle.reading.proofs.fit.here_at.Tie as tie
+
+pub here-at-spec : {M : Type 1} → statement M
+here-at-spec = tie.close (tie.spec
+    (λ c. search rules)
+    (λ c. search rules)
+    (λ c. search rules)
+    (λ c. search rules)
+    (λ c. search rules)
+    (λ c. search rules)
+    (λ c. search rules)
+    (λ c. search rules)
+    (λ c. search rules)
+    (λ c. search rules)
+    (λ c. search rules)
+    (λ c. search rules)
+    (λ c. search rules)
+    (λ c. search rules)
+    (λ c. search rules)
+    (λ c. search rules)
+    (λ c. search rules)
+    (λ c. search rules))

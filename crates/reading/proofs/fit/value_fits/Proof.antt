@@ -1,0 +1,14 @@
+-- `reading::fit::value_fits` meets its contract. Assumes nothing.
+use Rattle.reading.proofs.fit.Tags.{value-rules}
+use Rattle.reading.proofs.fit.value_fits.Statement.{statement}
+use Rattle.reading.proofs.fit.value_fits.Tie as tie
+
+pub value-fits-spec : {M : Type 1} → statement M
+value-fits-spec = tie.close (tie.spec
+    (λ c. search value-rules)
+    (λ c. search value-rules)
+    (λ c. search value-rules)
+    (λ c. search value-rules)
+    (λ c. search value-rules)
+    (λ c. search value-rules)
+    (λ c. search value-rules))

@@ -1,0 +1,3 @@
+-- What the proofs of test 3 use.
+pub mod Walked
+pub mod Steps

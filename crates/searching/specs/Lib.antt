@@ -1,0 +1,4 @@
+-- The definitions that this layer cites.
+pub mod Run
+pub mod Valid
+pub mod Meaning

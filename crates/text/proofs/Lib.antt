@@ -1,0 +1,3 @@
+-- What the proofs of several modules use.
+pub mod Pieces
+pub mod Written

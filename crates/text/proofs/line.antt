@@ -1,0 +1,2 @@
+-- What the proofs of reading lines use.
+pub mod Laws

@@ -1,0 +1,2 @@
+-- What the proofs of reading the input use.
+pub mod Laws

@@ -1,0 +1,2 @@
+-- What the proofs of printing the whole answer use.
+pub mod Laws

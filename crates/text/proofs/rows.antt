@@ -1,0 +1,2 @@
+-- What the proofs of printing rows use.
+pub mod Laws

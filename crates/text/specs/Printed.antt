@@ -1,0 +1,47 @@
+-- Document 01, section 9: what the trial program prints, as a function of its input.
+use Prim.Native.Nat.{ℕ}
+use mathlib.Core.Option.{none, some}
+use mathlib.Core.List.{List, [], _∷_, _++_}
+use lib.ListN.{take, replicate}
+use lib.IntN.{ℤ, pos}
+use Rattle.rules.specs.Reading.{Verdict, ok, fault, _then_, readPattern}
+use Rattle.rules.specs.Variables.{variables}
+use Rattle.rules.specs.Services.{Matched, match}
+use Rattle.text.specs.Decimal.{newline, lineOf}
+use Rattle.text.specs.Question.{Question, asked}
+use Rattle.text.specs.Rows.{cutRows, lines}
+
+unfoldable pub orZero : Verdict ℕ → ℕ
+orZero (ok n) = n
+orZero (fault i) = 0
+
+-- How many variables a pattern has: a row has so many values. (No row is found where the words are not one whole pattern with its variables in order.)
+unfoldable pub variablesOf : List ℤ → ℕ
+unfolding _then_ readPattern variables orZero
+variablesOf ps = orZero (readPattern ps then λ p. variables p 0 0)
+
+-- "The five numbers (answer, place, rows, steps, words written)".
+unfoldable pub firstLine : Matched → List ℕ
+unfolding lineOf
+firstLine m = lineOf (pos (m .answer) ∷ pos (m .place) ∷ pos (m .rows) ∷ pos (m .steps) ∷ pos (m .words) ∷ [])
+
+-- "And then each row on its own line". (Answers 1 to 6 have no rows.)
+unfoldable pub report : (values : ℕ) → Matched → List ℕ
+unfolding firstLine cutRows lines
+report values m = firstLine m ++ lines (cutRows values (m .rows) (take (m .words) (m .room)))
+
+-- What the room holds before is not printed.
+unfoldable pub matched : Question → Matched
+unfolding match
+matched q = match (q .matcher) (q .pattern) (q .target) (q .limits .budget) (replicate (q .limits .room) (pos 0))
+
+-- The one line `unreadable`.
+abbrev pub unreadable : List ℕ
+unreadable = 117 ∷ 110 ∷ 114 ∷ 101 ∷ 97 ∷ 100 ∷ 97 ∷ 98 ∷ 108 ∷ 101 ∷ newline ∷ []
+
+unfoldable pub printed : List ℕ → List ℕ
+unfolding asked report variablesOf matched
+printed bytes = elim (asked bytes) [
+  | none ↦ unreadable
+  | some q ↦ report (variablesOf (q .pattern)) (matched q)
+]

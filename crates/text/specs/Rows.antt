@@ -1,0 +1,36 @@
+-- Document 01, section 9: rows, each on its own line. Match writes rows one after the other; here they are cut apart again.
+use Prim.Native.Nat.{ℕ, zero, suc, _+_}
+use mathlib.Core.Bool.{cond}
+use mathlib.Core.List.{List, [], _∷_, _++_}
+use lib.ListN.{take, drop}
+use lib.IntN.{ℤ, pos, negsuc}
+use Rattle.rules.specs.Numbers.{same}
+use Rattle.text.specs.Decimal.{lineOf}
+
+-- How many values come in a value's own words: 1 n is a collection of n values, 0 x an integer.
+unfoldable pub natOf : ℤ → ℕ
+natOf (pos n) = n
+natOf (negsuc n) = 0
+
+unfoldable pub inside : (tag count : ℤ) → ℕ
+unfolding natOf same
+inside t c = cond (same t (pos 1)) (natOf c) 0
+
+-- How many words the next values have, in target form.
+unfoldable pub extent : (values : ℕ) → List ℤ → ℕ
+unfolding inside
+extent values [] = 0
+extent values (t ∷ []) = 0
+extent zero (t ∷ c ∷ ws) = 0
+extent (suc k) (t ∷ c ∷ ws) = 2 + extent (k + inside t c) ws
+
+-- A row is so many values.
+unfoldable pub cutRows : (values rows : ℕ) → List ℤ → List (List ℤ)
+unfolding extent
+cutRows values zero ws = []
+cutRows values (suc rows) ws = take (extent values ws) ws ∷ cutRows values rows (drop (extent values ws) ws)
+
+unfoldable pub lines : List (List ℤ) → List ℕ
+unfolding lineOf
+lines [] = []
+lines (r ∷ rs) = lineOf r ++ lines rs

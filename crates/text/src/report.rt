@@ -1,0 +1,61 @@
+// What the trial program prints, written into a lent slice of bytes. Empty lines at the end are counted and not written.
+use crate::print::put_first;
+use crate::rows::Rest;
+use crate::rows::put_rows;
+use reading::variables::Counted;
+use reading::variables::count_variables;
+ghost use mathlib.Core.Path.{_≡_};
+ghost use mathlib.Core.List.{_++_};
+ghost use Prim.Native.Nat.{_≤_};
+ghost use lib.ListN.{length};
+ghost use Rattle.text.specs.Rows.{cutRows, lines};
+ghost use Rattle.text.specs.Printed.{variablesOf, unreadable};
+ghost use Rattle.text.specs.Meaning.{fiveLine, Text};
+
+// How many values a row of a pattern has.
+pub(crate) fn values_of(p: &[i32]) -> u32
+    ensures { λ r. ⌜ r ≡ variablesOf (now (p .entry)) ⌝ }
+{
+    match count_variables(p) {
+        Counted::Number(n) => n,
+        Counted::Fault(_) => 0,
+    }
+}
+
+// The one line `unreadable`.
+pub(crate) fn put_unreadable(out: &mut [u8]) -> Rest
+    requires { ⌜ 98304 ≤ length (now out) ⌝ }
+    ensures { λ r. ⌜ Text (now (out .entry)) (now (out .exit)) r unreadable ⌝ }
+{
+    out[0] = b'u';
+    out[1] = b'n';
+    out[2] = b'r';
+    out[3] = b'e';
+    out[4] = b'a';
+    out[5] = b'd';
+    out[6] = b'a';
+    out[7] = b'b';
+    out[8] = b'l';
+    out[9] = b'e';
+    out[10] = b'\n';
+    Rest { at: 11, lines: 0 }
+}
+
+// The five numbers, and the rows that `ws` holds.
+pub(crate) fn put_report(
+    out: &mut [u8],
+    answer: u64,
+    place: u64,
+    rows: u64,
+    steps: u64,
+    words: u64,
+    ws: &[i32],
+    values: u32,
+) -> Rest
+    requires { ⌜ 98304 ≤ length (now out) ⌝ }
+    requires { ⌜ length (now ws) ≤ 4096 ⌝ }
+    ensures { λ r. ⌜ Text (now (out .entry)) (now (out .exit)) r (fiveLine answer place rows steps words ++ lines (cutRows values rows (now (ws .entry)))) ⌝ }
+{
+    let at = put_first(out, answer, place, rows, steps, words);
+    put_rows(ws, values, rows, out, at)
+}
