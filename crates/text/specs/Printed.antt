@@ -1,6 +1,6 @@
 -- Document 01, section 9: what the trial program prints, as a function of its input.
 use Prim.Native.Nat.{ℕ}
-use mathlib.Core.Option.{none, some}
+use mathlib.Core.Option.{Option, none, some}
 use mathlib.Core.List.{List, [], _∷_, _++_}
 use lib.ListN.{take, replicate}
 use lib.IntN.{ℤ, pos}
@@ -39,9 +39,11 @@ matched q = match (q .matcher) (q .pattern) (q .target) (q .limits .budget) (rep
 abbrev pub unreadable : List ℕ
 unreadable = 117 ∷ 110 ∷ 114 ∷ 101 ∷ 97 ∷ 100 ∷ 97 ∷ 98 ∷ 108 ∷ 101 ∷ newline ∷ []
 
+unfoldable pub answerTo : Option Question → List ℕ
+unfolding report variablesOf matched
+answerTo none = unreadable
+answerTo (some q) = report (variablesOf (q .pattern)) (matched q)
+
 unfoldable pub printed : List ℕ → List ℕ
-unfolding asked report variablesOf matched
-printed bytes = elim (asked bytes) [
-  | none ↦ unreadable
-  | some q ↦ report (variablesOf (q .pattern)) (matched q)
-]
+unfolding asked answerTo
+printed bytes = answerTo (asked bytes)
