@@ -1,110 +1,117 @@
-/* Every answer of document 01 once through the C border, with its numbers; and that nothing else is written. */
+/* Every answer of document 01's table, once through the C border, with guard
+ * words around the room and guard bytes around the numbers. */
 #include "lozhbinor.h"
+
 #include <inttypes.h>
 #include <stdio.h>
+#include <stdlib.h>
 #include <string.h>
 
-#define ROOM 8
-#define MARK 0xa5
+enum { GUARD = 4, ROOM = 8, SPARE = 3 };
 
-struct line {
-    const int32_t *word;
-    size_t count;
-};
+static int32_t words[GUARD + ROOM + GUARD];
+static uint8_t bytes[GUARD + LOZHBINOR_MATCH_BYTES + SPARE + GUARD];
+static int faults;
 
-#define LINE(...) \
-    { (const int32_t[]){__VA_ARGS__}, sizeof((const int32_t[]){__VA_ARGS__}) / sizeof(int32_t) }
-
-struct matching {
-    struct line matcher, pattern, target;
-    uint32_t budget;
-    size_t room, bytes;
-    uint64_t numbers[5];
-};
-
-struct reviewing {
-    struct line matcher, pattern;
-    int32_t cap;
-    size_t bytes;
-    uint64_t numbers[3];
-};
-
-#define UNITS LINE(1, 3, 0, 2, 0, 8, 0, 2)
-#define PAIR LINE(5, 1, 0, 5, 3, 0, 0, 0)
-
-static const struct matching matchings[] = {
-    {LINE(3, 1), PAIR, UNITS, 1000, 8, 48, {0, 0, 2, 22, 4}},
-    {LINE(3, 9), PAIR, UNITS, 1000, 8, 48, {1, 1, 0, 0, 0}},
-    {LINE(3, 1), LINE(5, 1), UNITS, 1000, 8, 48, {2, 2, 0, 0, 0}},
-    {LINE(3, 1), LINE(5, 1, 1, 0), UNITS, 1000, 8, 48, {3, 1, 0, 0, 0}},
-    {LINE(3, 1), LINE(6, 0, 0), UNITS, 1000, 8, 48, {4, 0, 0, 0, 0}},
-    {LINE(3, 1), PAIR, LINE(1, 65), 1000, 8, 48, {5, 1, 0, 0, 0}},
-    {LINE(3, 1), PAIR, LINE(1, 1, 1, 0), 1000, 8, 48, {6, 2, 0, 0, 0}},
-    {LINE(3, 1), PAIR, UNITS, 9, 8, 48, {7, 0, 1, 9, 2}},
-    {LINE(3, 1), PAIR, UNITS, 1000, 3, 48, {8, 0, 1, 21, 2}},
-    {LINE(3, 1), PAIR, UNITS, 1000, 8, 39, {24, 0, 0, 0, 0}},
-};
-
-static const struct reviewing reviewings[] = {
-    {LINE(3, 1), PAIR, 64, 32, {0, 0, 16577}},
-    {LINE(2, 2), PAIR, 64, 32, {1, 2, 0}},
-    {LINE(3, 1), PAIR, 65, 32, {9, 0, 0}},
-    {LINE(3, 1), LINE(5, 0, 5, 0, 5, 0, 5, 0, 5, 0, 0), 64, 32, {10, 0, 0}},
-    {LINE(3, 1), PAIR, 64, 23, {24, 0, 0}},
-};
-
-static unsigned differ, tried;
-
-/* Looks at what a call gave back, at its numbers, and at the bytes behind them. */
-static int as_wanted(uint32_t answer, const uint64_t *wanted, size_t count, const uint8_t *bytes) {
-    size_t at, from = answer == LOZHBINOR_SHORT ? 0 : count * 8;
-    int good = answer == wanted[0];
-    for (at = 0; at < count && answer != LOZHBINOR_SHORT; at++) {
-        good = good && lozhbinor_number(bytes, at) == wanted[at];
-    }
-    for (at = from; at < 48; at++) {
-        good = good && bytes[at] == MARK;
-    }
-    return good;
-}
-
-static void say(int good, const char *service, uint32_t wanted, uint32_t answer) {
-    tried++;
+static void check(int good, const char *what)
+{
     if (!good) {
-        differ++;
-        printf("%s: the case for answer %" PRIu32 " differs; it gave %" PRIu32 "\n", service, wanted, answer);
+        printf("WRONG: %s\n", what);
+        faults++;
     }
 }
 
-int main(void) {
-    size_t at, word;
-    for (at = 0; at < sizeof matchings / sizeof *matchings; at++) {
-        const struct matching *m = &matchings[at];
-        int32_t room[ROOM + 2];
-        uint8_t bytes[48];
-        uint32_t answer;
-        int good;
-        memset(bytes, MARK, sizeof bytes);
-        memset(room, MARK, sizeof room);
-        answer = lozhbinor_match(m->matcher.word, m->matcher.count, m->pattern.word, m->pattern.count, m->target.word, m->target.count, m->budget,
-                                 room + 1, m->room, bytes, m->bytes);
-        good = as_wanted(answer, m->numbers, 5, bytes) && room[0] == (int32_t)0xa5a5a5a5;
-        for (word = 1 + m->numbers[4]; word < ROOM + 2; word++) {
-            good = good && room[word] == (int32_t)0xa5a5a5a5;
-        }
-        for (word = 0; word < m->numbers[4]; word++) {
-            good = good && room[1 + word] == (word % 2 == 0 ? 0 : 2);
-        }
-        say(good, "match", (uint32_t)m->numbers[0], answer);
+static void clear(void)
+{
+    for (size_t i = 0; i < sizeof words / sizeof words[0]; i++)
+        words[i] = -77;
+    memset(bytes, 0xA5, sizeof bytes);
+}
+
+/* Words outside the first `written` of the room, and bytes outside the first `filled`, are as they were. */
+static void untouched(size_t written, size_t filled)
+{
+    for (size_t i = 0; i < sizeof words / sizeof words[0]; i++)
+        if (i < GUARD || i >= GUARD + written)
+            check(words[i] == -77, "a word outside the rows");
+    for (size_t i = 0; i < sizeof bytes; i++)
+        if (i < GUARD || i >= GUARD + filled)
+            check(bytes[i] == 0xA5, "a byte outside the numbers");
+}
+
+static size_t parse(const char *text, int32_t *into)
+{
+    size_t n = 0;
+    char *end;
+    for (long x = strtol(text, &end, 10); end != text; x = strtol(text, &end, 10)) {
+        into[n++] = (int32_t)x;
+        text = end;
     }
-    for (at = 0; at < sizeof reviewings / sizeof *reviewings; at++) {
-        const struct reviewing *r = &reviewings[at];
-        uint8_t bytes[48];
-        uint32_t answer;
-        memset(bytes, MARK, sizeof bytes);
-        answer = lozhbinor_review(r->matcher.word, r->matcher.count, r->pattern.word, r->pattern.count, r->cap, bytes, r->bytes);
-        say(as_wanted(answer, r->numbers, 3, bytes), "review", (uint32_t)r->numbers[0], answer);
+    return n;
+}
+
+static void match(const char *m, const char *p, const char *t, uint32_t budget, size_t room, const char *expected)
+{
+    int32_t mw[64], pw[64], tw[64];
+    size_t mn = parse(m, mw), pn = parse(p, pw), tn = parse(t, tw);
+    char got[128];
+    clear();
+    uint32_t answer = lozhbinor_match(mw, mn, pw, pn, tw, tn, budget, words + GUARD, room, bytes + GUARD, LOZHBINOR_MATCH_BYTES + SPARE);
+    const uint8_t *numbers = bytes + GUARD;
+    snprintf(got, sizeof got, "%" PRIu64 " %" PRIu64 " %" PRIu64 " %" PRIu64 " %" PRIu64, lozhbinor_number(numbers, 0), lozhbinor_number(numbers, 1),
+             lozhbinor_number(numbers, 2), lozhbinor_number(numbers, 3), lozhbinor_number(numbers, 4));
+    printf("match  %s\n", got);
+    check(answer == lozhbinor_number(numbers, 0), "the call's answer is the first number");
+    check(strcmp(got, expected) == 0, expected);
+    untouched((size_t)lozhbinor_number(numbers, 4), LOZHBINOR_MATCH_BYTES);
+}
+
+static void review(const char *m, const char *p, int32_t cap, const char *expected)
+{
+    int32_t mw[64], pw[64];
+    size_t mn = parse(m, mw), pn = parse(p, pw);
+    char got[128];
+    clear();
+    uint32_t answer = lozhbinor_review(mw, mn, pw, pn, cap, bytes + GUARD, LOZHBINOR_REVIEW_BYTES);
+    const uint8_t *numbers = bytes + GUARD;
+    snprintf(got, sizeof got, "%" PRIu64 " %" PRIu64 " %" PRIu64, lozhbinor_number(numbers, 0), lozhbinor_number(numbers, 1), lozhbinor_number(numbers, 2));
+    printf("review %s\n", got);
+    check(answer == lozhbinor_number(numbers, 0), "the call's answer is the first number");
+    check(strcmp(got, expected) == 0, expected);
+    untouched(0, LOZHBINOR_REVIEW_BYTES);
+}
+
+static void too_short(void)
+{
+    static const int32_t one[] = {1}, seven[] = {0, 7};
+    for (size_t n = 0; n < LOZHBINOR_MATCH_BYTES; n++) {
+        clear();
+        check(lozhbinor_match(one, 1, seven, 1, seven, 2, 9, words + GUARD, ROOM, bytes + GUARD, n) == LOZHBINOR_SHORT, "match 24");
+        untouched(0, 0);
     }
-    printf("%u answers through the C border, %u differ\n", tried, differ);
-    return differ != 0;
+    for (size_t n = 0; n < LOZHBINOR_REVIEW_BYTES; n++) {
+        clear();
+        check(lozhbinor_review(one, 1, seven, 1, 3, bytes + GUARD, n) == LOZHBINOR_SHORT, "review 24");
+        untouched(0, 0);
+    }
+    printf("match and review 24\n");
+}
+
+int main(void)
+{
+    match("3 1", "5 1 0 5 3 0 0 0", "1 3 0 2 0 8 0 2", 1000, ROOM, "0 0 2 22 4");
+    match("9", "0", "0 7", 1000, ROOM, "1 0 0 0 0");
+    match("1", "9", "0 7", 1000, ROOM, "2 0 0 0 0");
+    match("1", "1 5", "0 7", 1000, ROOM, "3 0 0 0 0");
+    match("1", "4", "0 7", 1000, ROOM, "4 0 0 0 0");
+    match("1", "0", "0", 1000, ROOM, "5 1 0 0 0");
+    match("1", "0", "1 0", 1000, ROOM, "6 0 0 0 0");
+    match("3 1", "5 1 0 5 3 0 0 0", "1 3 0 2 0 8 0 2", 9, ROOM, "7 0 1 9 2");
+    match("3 1", "5 1 0 5 3 0 0 0", "1 3 0 2 0 8 0 2", 1000, 3, "8 0 1 21 2");
+    review("3 1", "5 1 0 5 3 0 0 0", 3, "0 0 46");
+    review("3 1", "5 1 0 5 3 0 0 0", 65, "9 0 0");
+    review("3 1", "5 0 5 0 5 0 5 0 5 0 0", 64, "10 0 0");
+    too_short();
+    printf("%d wrong\n", faults);
+    return faults != 0;
 }

@@ -1,18 +1,17 @@
-/* Lozhbinor: a pattern matcher for game badges. C99 and C++.
+/* Lozhbinor: badge rules over a player's units, matched and reviewed.
  *
- * Matcher, pattern and target are words: signed 32-bit numbers in prefix form, a tag, its operands, then its parts.
+ * Every slice is a pointer and a length. Words are signed 32-bit numbers; the
+ * lengths of matcher, pattern, target and room count words, that of `numbers`
+ * counts bytes. The slices are only read, except `room` and `numbers`, which
+ * must not overlap each other or any other slice. A slice of length 0 may have
+ * any pointer that is not null.
  *
- *   matcher   0 something   1 integer   2 M list of M   3 M multiset of M
- *   pattern   0 wildcard    1 v variable v    2 c constant c    3 v c value of variable v, plus c
- *             4 nil         5 p q cons        6 p q join
- *   target    0 x integer x    1 n and then n values: a collection
- *
- * A slice is a pointer and a length in words (of `numbers`: in bytes). A pointer is never NULL, also where the length is 0, and is aligned for its
- * type. What `room` and `numbers` point to overlaps nothing else. Both calls are pure but for what they write there: no memory is kept or freed, and
- * calls on different rooms may run at the same time.
- *
- * The numbers of an answer go to `numbers`, eight bytes each, low byte first, on every machine; bytes behind them are left as they were. Read one by
- * lozhbinor_number. The call gives back the answer, which is also the first number. */
+ * The answer's numbers are written to `numbers`, eight bytes each, low byte
+ * first; its further bytes are left alone. The call gives back the answer. No
+ * input is wrong: every words, budget and room give one of the answers below.
+ * Nothing is allocated, nothing is kept between calls, and two threads may call
+ * at the same time on slices of their own.
+ */
 #ifndef LOZHBINOR_H
 #define LOZHBINOR_H
 
@@ -23,47 +22,57 @@
 extern "C" {
 #endif
 
-enum lozhbinor_answer {
-    LOZHBINOR_DONE = 0,     /* no state remains and every row found is written; with 0 rows there is no row */
+/* The answers. */
+enum {
+    LOZHBINOR_DONE = 0,     /* every row found is in the room; 0 rows: none exists */
     LOZHBINOR_MATCHER = 1,  /* the words are not one whole matcher */
     LOZHBINOR_PATTERN = 2,  /* over 256 words, or not one whole pattern */
-    LOZHBINOR_VARIABLE = 3, /* variables are not numbered 0, 1, .. from left to right, or a value names none to its left */
+    LOZHBINOR_VARIABLE = 3, /* a variable is out of order */
     LOZHBINOR_MISFIT = 4,   /* the pattern does not fit the matcher */
     LOZHBINOR_TARGET = 5,   /* over 1,024 words, or not one whole target in the limits */
     LOZHBINOR_UNFIT = 6,    /* the target does not fit the matcher */
-    LOZHBINOR_BUDGET = 7,   /* the budget is used up and more states remain */
-    LOZHBINOR_FULL = 8,     /* the next row does not fit the room */
-    LOZHBINOR_CAP = 9,      /* review: the cap is not from 0 to 64 */
+    LOZHBINOR_BUDGET = 7,   /* the budget is used up and states remain */
+    LOZHBINOR_FULL = 8,     /* a row did not fit into the room */
+    LOZHBINOR_CAP = 9,      /* review: the cap is outside 0 to 64 */
     LOZHBINOR_TOO_BIG = 10, /* review: the count passes 4,294,967,295 */
-    LOZHBINOR_SHORT = 24    /* too few bytes for the numbers; nothing was written anywhere */
+    LOZHBINOR_SHORT = 24    /* `numbers` is too short; nothing was written */
 };
 
-/* How many bytes the numbers of an answer need. */
-#define LOZHBINOR_MATCH_BYTES 40
-#define LOZHBINOR_REVIEW_BYTES 24
+/* The numbers of match, in this order: answer, place, rows, steps, words. */
+enum {
+    LOZHBINOR_MATCH_NUMBERS = 5,
+    LOZHBINOR_MATCH_BYTES = 40
+};
 
-/* Match: finds the rows of a rule in a target, in at most `budget` steps.
- *
- * Numbers: 0 answer, 1 place, 2 rows, 3 steps, 4 words written.
- * After answers 0, 7 and 8 the rows stand whole from the start of the room, one behind the other: each is the values of variables 0, 1, .. in target
- * form. Every word of the room behind the words written is as it was; after a refusal all of it is. The place of a refusal is the index of the first
- * word at fault. A budget of 0 takes no step; the same call with a larger budget begins with the same rows. */
-uint32_t lozhbinor_match(const int32_t *matcher, size_t matcher_len, const int32_t *pattern, size_t pattern_len, const int32_t *target,
-                         size_t target_len, uint32_t budget, int32_t *room, size_t room_len, uint8_t *numbers, size_t numbers_len);
+/* The numbers of review, in this order: answer, place, count. */
+enum {
+    LOZHBINOR_REVIEW_NUMBERS = 3,
+    LOZHBINOR_REVIEW_BYTES = 24
+};
 
-/* Review: a number of steps that match never passes for this rule, on any target whose collections, nested ones too, have at most `cap` elements.
- *
- * Numbers: 0 answer, 1 place, 2 count (0 in a refusal). */
-uint32_t lozhbinor_review(const int32_t *matcher, size_t matcher_len, const int32_t *pattern, size_t pattern_len, int32_t cap, uint8_t *numbers,
-                          size_t numbers_len);
+/* Matches the units in `target` against a rule. In answers 0, 7 and 8 the rows
+ * stand whole from the start of the room; each word after them, and in every
+ * other answer the whole room, is what it was. */
+uint32_t lozhbinor_match(const int32_t *matcher, size_t matcher_words,
+                         const int32_t *pattern, size_t pattern_words,
+                         const int32_t *target, size_t target_words,
+                         uint32_t budget,
+                         int32_t *room, size_t room_words,
+                         uint8_t *numbers, size_t numbers_bytes);
 
-/* The number at an index of an answer. */
-static inline uint64_t lozhbinor_number(const uint8_t *numbers, size_t index) {
+/* The worst count of steps of a rule where no collection has more than `cap`
+ * elements: a match with that budget is never stopped by it. */
+uint32_t lozhbinor_review(const int32_t *matcher, size_t matcher_words,
+                          const int32_t *pattern, size_t pattern_words,
+                          int32_t cap,
+                          uint8_t *numbers, size_t numbers_bytes);
+
+/* The number with this index, of those that a call has written. */
+static inline uint64_t lozhbinor_number(const uint8_t *numbers, size_t index)
+{
     uint64_t number = 0;
-    size_t byte;
-    for (byte = 8; byte > 0; byte--) {
-        number = number << 8 | numbers[index * 8 + byte - 1];
-    }
+    for (size_t i = 8; i-- > 0;)
+        number = number << 8 | numbers[8 * index + i];
     return number;
 }
 

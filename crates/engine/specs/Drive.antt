@@ -94,7 +94,12 @@ module _ (D : Data) where
           → Same (record { conf = c; left = left; rows = rows; steps = steps; written = written; full = true })
           (record { waiting = ss; left = left; rows = rows; steps = steps; written = written; full = true })
 
-    same-result : {k : Engine D} {K : Machine} → Same k K → reports k ≡ told K
+    -- An engine that is not full stands for the waiting states.
+    pub same-waiting : {k : Engine D} {K : Machine} → Same k K → k .full ≡ false → Rep D code points (k .conf) (K .waiting)
+    same-waiting (running r) e = r
+    same-waiting stopped e = let z : _≡_ {A = ℕ} 0 1 = cc in absurd (omega arith)
+
+    pub same-result : {k : Engine D} {K : Machine} → Same k K → reports k ≡ told K
     unfolding reports told verdict answerBy
     same-result (running over-all) = refl
     same-result (running (live l a ch)) = refl
@@ -125,7 +130,7 @@ module _ (D : Data) where
     same-step c i ss o k K (running y) ends (done {e = e} bs) r = rw (row-ok bs) (same-row (leb (length (row e)) (k .left)) k K (row e) o ss (running y) r)
     same-step c i ss o k K stopped ends (done {e = e} bs) r = rw (row-ok bs) (same-row (leb (length (row e)) (k .left)) k K (row e) o ss stopped r)
 
-    same-turn : {k : Engine D} {K : Machine} → Same k K → Same (turn code k) (once K)
+    pub same-turn : {k : Engine D} {K : Machine} → Same k K → Same (turn code k) (once K)
     unfolding turn once advance stepOn
     same-turn (running over-all) = running over-all
     same-turn (running (live {c = c} {ss = ss} l a ch)) = same-step c (code (c .pc)) ss _ _ _ (running (live l a ch))

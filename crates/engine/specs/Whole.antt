@@ -13,13 +13,14 @@ use lib.IntN.{ℤ, pos, negsuc}
 use Rattle.rules.specs.Forms.{Matcher, Pattern, Value}
 use Rattle.rules.specs.Reading.{Verdict, ok}
 use Rattle.rules.specs.Fit.{fits}
-use Rattle.rules.specs.Search.{run, start}
+use Rattle.rules.specs.Search.{State, run, start}
 use Rattle.engine.specs.Machine.{opened}
 use Rattle.program.specs.Points.{Instr, Item, item, Point, point, finish, beyond, enter, known}
 use Rattle.engine.specs.Held.{Data}
 use Rattle.engine.specs.Engine.{Slot, Conf, put}
 use Rattle.engine.specs.Rep.{waits-none, bound-none, At, at, done, shut, Rep, live}
-use Rattle.engine.specs.Drive.{Engine, advance, turn, turns, reports, running, engine-runs}
+use Rattle.engine.specs.Drive.{Engine, advance, turn, turns, reports, Same, running, engine-runs}
+use Rattle.program.specs.Length.{instrs, instrsAll, toCome, in-range, all-some}
 use Rattle.program.specs.Program.{program, pointAt, program-follows, followOf}
 
 -- The engine before the first step. The slots and the entries for bindings may hold anything.
@@ -28,12 +29,16 @@ fresh D h slots binds room =
     record { conf = some (record { pc = 0; cur = h; top = 0; slots = slots; binds = binds }); left = room; rows = 0; steps = 0; written = []; full = false }
 
 module _ (D : Data) (m : Matcher) (p : Pattern) (v : Value) (h : D .Held) (is : D .Is m h v) (at₀ : ℕ) (ks : List Matcher) (fit : fits p m at₀ [] ≡ ok ks) where
+  -- Before the first step it stands for the first state.
+  pub fresh-same : (slots : ℕ → Slot D) (binds : ℕ → D .Held) (room : ℕ)
+      → Same D (program m p) (pointAt m p) (program-follows m p at₀ ks fit) (fresh D h slots binds room) (opened (start m p v) room)
+  unfolding fresh opened start pointAt known
+  fresh-same slots binds room = running (live {c = record { pc = 0; cur = h; top = 0; slots = slots; binds = binds }} (omega arith) (at is waits-none bound-none) shut)
+
   pub machine-runs : (slots : ℕ → Slot D) (binds : ℕ → D .Held) (budget room : ℕ)
       → reports D (turns D (program m p) budget (fresh D h slots binds room)) ≡ run budget (start m p v ∷ []) room
-  unfolding fresh opened start pointAt known
   machine-runs slots binds budget room =
-      engine-runs D (program m p) (pointAt m p) (program-follows m p at₀ ks fit) budget (start m p v) room (fresh D h slots binds room)
-      (running (live (omega arith) (at is waits-none bound-none) shut))
+      engine-runs D (program m p) (pointAt m p) (program-follows m p at₀ ks fit) budget (start m p v) room (fresh D h slots binds room) (fresh-same slots binds room)
 
 -- Portions add up.
 pub turns-add : (D : Data) (code : ℕ → Instr) (a b : ℕ) (k : Engine D) → turns D code (a + b) k ≡ turns D code b (turns D code a k)
@@ -68,3 +73,15 @@ table-set {A} l i x d h = fun-ext (λ j. go j (eqb i j) (eqb→eq i j) (λ e. rw
     go : (j : ℕ) (b : Bool) → (T b → i ≡ j) → (i ≡ j → T b) → getD (set l i x) j d ≡ elim b as (λ _. A) [ true ↦ x | false ↦ getD l j d ]
     go j true f g = rw (sym (f tt)) (getD-set-same l i x d h)
     go j false f g = getD-set-other l i j x d (λ e. g (sym e))
+
+-- ---- Where a machine stands that stands for states.
+
+come-some : {D : Data} {slots : ℕ → Slot D} {b : ℕ → D .Held} {pc : ℕ} {h : D .Held} {P : Point} {s : State} → At D slots b pc h P s → 1 ≤ toCome P
+unfolding toCome instrsAll
+come-some (at {ts = ts} x ws bs) = let h = all-some ts in omega arith
+come-some (done bs) = omega arith
+
+-- At one of the places of the program, and the last open frame is before it.
+pub place-bound : (D : Data) (m : Matcher) (p : Pattern) {c : Conf D} {ss : List State} → Rep D (program m p) (pointAt m p) (some c) ss
+    → (c .pc ≤ instrs p m) × (c .top ≤ c .pc)
+place-bound D m p (live {c = c} l a ch) = let h = come-some a in let r = in-range m p (c .pc) in (omega arith, l)

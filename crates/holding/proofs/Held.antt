@@ -30,6 +30,10 @@ module _ (s : List ℤ) (at m : ℕ) (g : Target s) (w : Tag s at) where
 pub held-64 : (s : List ℤ) (at m : ℕ) → Target s → Held s at m → m < 2 ^ 64
 held-64 s at m g w = let p = pow-mono (g .small at (w .tag)) in omega (arith, w .marks)
 
+-- Fewer marks are marks of it: what a front and a back keep, and what is left when a place is taken.
+pub held-less : (s : List ℤ) (at m x : ℕ) → Held s at m → x ≤ m → Held s at x
+held-less s at m x w h = record { tag = w .tag; marks = omega (arith, w .marks) }
+
 pub held-clear : (s : List ℤ) (at m k x : ℕ) → Held s at m → x ≡ clear k m → Held s at x
 held-clear s at m k x w i = record { tag = w .tag; marks = rw i (clear-lt (countAt s at) k m (w .marks)) }
 

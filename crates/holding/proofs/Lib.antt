@@ -1,9 +1,12 @@
 pub mod Forest
 pub mod Elements
-pub mod Tables
+pub mod Counting
+pub mod Ends
+pub mod Filling
 pub mod Held
 pub mod Room
 pub mod Row
 pub mod Accepted
 pub mod First
+pub mod Matchers
 pub mod Equal

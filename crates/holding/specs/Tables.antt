@@ -1,5 +1,5 @@
--- Two tables over a target's words, with an entry for each value, so that element k of a collection is found at once: where each value ends; where
--- the places of a collection's elements begin in the list of places.
+-- Tables over a target's words, so that element k of a collection is found at once. `ends` and `base` have an entry for each value: where it ends,
+-- and where the places of its elements begin in `places`, which has one for each element.
 use Prim.Native.Nat.{ℕ, _+_, _/_, _<_, _≤_}
 use mathlib.Core.Path.{_≡_}
 use mathlib.Core.List.{List}

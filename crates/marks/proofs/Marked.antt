@@ -10,7 +10,7 @@ use Rattle.rules.specs.Forms.{Matcher, list, multiset, Value, int, collection, 
 use Rattle.rules.specs.Equality.{Pick, behind, picks, isEmpty}
 use Rattle.rules.specs.Search.{Halves, consHalves, Cut, longer, cuts, joinHalves}
 use Rattle.marks.specs.Marks.{clear, positions, Split, under, splits}
-use Rattle.marks.specs.Marked.{nth, keep, marked, held}
+use Rattle.marks.specs.Marked.{nth, keep, marked, held, choiceAt, partsAt}
 use Rattle.marks.proofs.Places.{by-digit, half-lt, half-pos, double-half, double-digit, digit-2, even-half, even-digit, low-even, low-odd, positions-none, full-odd, full-half}
 use Rattle.marks.proofs.Fronts.{splits-none}
 
@@ -151,13 +151,6 @@ cuts-marked (v ▸ vs) (suc k) m h l =
 map-map : {A B C : Type 0} (f : B → C) (g : A → B) (l : List A) → map f (map g l) ≡ map (λ (x : A). f (g x)) l
 map-map f g [] = refl
 map-map f g (a ∷ l) = ap (λ y. f (g a) ∷ y) (map-map f g l)
-
--- With place k chosen; with the marks in two.
-unfoldable pub choiceAt : Values → ℕ → ℕ → Halves
-choiceAt vs m k = record { first = nth vs k; second = held (collection vs) (clear k m) }
-
-unfoldable pub partsAt : Values → Split → Halves
-partsAt vs s = record { first = held (collection vs) (s .front); second = held (collection vs) (s .back) }
 
 module _ (vs : Values) (m : ℕ) (h : m < 2 ^ count vs) (l : m < 2 ^ 64) where
   pub cons-multiset : (e : Matcher) → consHalves (multiset e) (held (collection vs) m) ≡ map (choiceAt vs m) (positions 64 m)

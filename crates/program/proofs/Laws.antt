@@ -13,7 +13,7 @@ use lib.IntN.{ℤ, pos, negsuc}
 use mir.Syntax.{w8, w64}
 use mir.Val.{Fits}
 use Rattle.words.specs.Words.{tagZ, tagAt}
-use Rattle.program.specs.Lines.{Line, line, opsUnder, opOf, operandsOf, argOf, conOf, leafLine, stripLines, firstUnder, binding, Columns, columns, written, laid}
+use Rattle.program.specs.Lines.{line, opsUnder, opOf, operandsOf, argOf, conOf, leafLine, stripLines, firstUnder, binding, Columns, written, laid}
 
 -- ---- Tables.
 

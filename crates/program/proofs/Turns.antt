@@ -1,6 +1,5 @@
 -- One turn of the compiler's loop: the lines that are still to come are those from here on. Assumes nothing.
 use Prim.Native.Nat.{ℕ, zero, suc, _+_, _-_, _*_, _<_, _≤_}
-use native.Mathlib.Nat.{add-assoc}
 use native.Mathlib.Numerals.{add-one}
 use native.Mathlib.Omega.{arith}
 use mathlib.Core.Path.{_≡_, refl, sym, ap, _∙_}
@@ -16,7 +15,7 @@ use mir.Syntax.{w64}
 use mir.Val.{Fits}
 use Rattle.words.specs.Words.{tagZ, tagAt}
 use Rattle.words.proofs.Signed.{within}
-use Rattle.program.specs.Lines.{Line, line, endLine, opsUnder, opOf, operandsOf, stripLines, leafLine, firstUnder, Waiting, waits, slotOf, resumed, linesFrom, lines-split, lines-leaf, linesOf, binding, variablesIn, Columns, columns, written, laid}
+use Rattle.program.specs.Lines.{Line, line, endLine, opsUnder, opOf, operandsOf, stripLines, leafLine, firstUnder, Waiting, waits, slotOf, resumed, linesFrom, lines-split, lines-leaf, linesOf, binding, variablesIn, Columns, written, laid}
 use Rattle.program.proofs.Laws.{cond-le, operands-le, strip-short}
 
 -- ---- The stack.

@@ -1,5 +1,5 @@
 -- The program of a rule that is accepted: how long it is, and what each of its lines means.
-use Prim.Native.Nat.{ℕ, zero, suc, _+_, _-_, _*_, _<_, _≤_}
+use Prim.Native.Nat.{ℕ, zero, suc, _+_, _*_, _≤_}
 use native.Mathlib.Omega.{arith}
 use native.Mathlib.Numerals.{add-one}
 use mathlib.Core.Path.{_≡_, refl, sym, ap, _∙_}
@@ -9,7 +9,6 @@ use lib.ListN.{length, getD, drop, length-drop}
 use lib.Seq.{drop-drop, getD-drop}
 use lib.IntN.{ℤ}
 use Rattle.rules.specs.Forms.{Matcher, something, integer, list, multiset, Pattern, wildcard, nil, variable, constant, value, cons, join, span}
-use Rattle.rules.specs.Reading.{ok}
 use Rattle.rules.specs.Fit.{element}
 use Rattle.rules.specs.Search.{isSomething}
 use Rattle.rules.specs.Services.{accepted, Rule, ruleOf}
@@ -17,9 +16,9 @@ use Rattle.promises.specs.Written.{matcherWords, patternWords, levels, length-p
 use Rattle.promises.specs.ReadMatcher.{matcher-read}
 use Rattle.promises.specs.ReadPattern.{pattern-read}
 use Rattle.promises.specs.Faults.{WellFormed, rule-accepted}
-use Rattle.program.specs.Points.{Instr, Item, Point, point, finish, beyond, known, Follows, after-end}
+use Rattle.program.specs.Points.{Instr, Point, point, finish, beyond, Follows, after-end}
 use Rattle.program.specs.Program.{pointAt, program, program-follows}
-use Rattle.program.specs.Length.{instrs, instrsAll, toCome, in-range, all-some}
+use Rattle.program.specs.Length.{instrs, toCome, in-range, all-some}
 use Rattle.program.specs.Lines.{Line, endLine, linesFrom, linesOf, variablesIn}
 use Rattle.program.specs.Meaning.{MatcherAt, whole-matcher, Means}
 use Rattle.program.specs.Numbered.{Numbered, numbered-end, numbered-at}
@@ -85,7 +84,7 @@ none-beyond (finish ks) e = absurd (omega arith)
 none-beyond beyond e = refl
 
 -- At the last instruction only the row is left.
-one-finish : (P : Point) → toCome P ≡ 1 → (ks : List Matcher) × (P ≡ finish ks)
+pub one-finish : (P : Point) → toCome P ≡ 1 → (ks : List Matcher) × (P ≡ finish ks)
 unfolding toCome
 one-finish (point ks p m b ts) e = let h = all-some ts in let l = some-instrs p m in absurd (omega arith)
 one-finish (finish ks) e = (ks, refl)

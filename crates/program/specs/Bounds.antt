@@ -1,11 +1,11 @@
 -- The numbers of every line are in range, whatever the words: so many lines, the variable below 16, the slot of an earlier line.
 use Prim.Native.Nat.{ℕ, zero, suc, _+_, _*_, _%_, _<_, _≤_}
 use native.Mathlib.Omega.{arith}
-use mathlib.Core.Path.{_≡_, refl, sym, ap, _∙_}
+use mathlib.Core.Path.{_≡_, refl}
 use mathlib.Core.Bool.{Bool, true, false, cond}
 use mathlib.Core.List.{List, [], _∷_, _++_}
 use lib.Dec.{eqb, ltb}
-use lib.ListN.{length, getD, length-append}
+use lib.ListN.{length, getD}
 use lib.IntN.{ℤ, pos}
 use Rattle.words.specs.Words.{tagZ, tagAt}
 use Rattle.program.specs.Lines.{Line, line, endLine, opOf, operandsOf, argOf, stripLines, leafLine, firstUnder, Waiting, waits, slotOf, resumed, linesFrom, lines-split, lines-leaf, linesOf}

@@ -1,15 +1,16 @@
 -- The program in its five arrays: a line reads back as it was laid, and of a rule that is accepted each means the instruction at its place.
 use Prim.Native.Nat.{ℕ, zero, suc, _+_, _<_, _≤_}
-use native.Mathlib.Nat.{suc-add}
 use native.Mathlib.Omega.{arith}
-use mathlib.Core.Path.{_≡_, refl, sym, ap, _∙_}
+use mathlib.Core.Path.{_≡_, refl, sym, _∙_}
+use mathlib.Core.Bool.{Bool, true, false}
 use mathlib.Core.List.{List, [], _∷_}
-use lib.ListN.{length, getD, set, length-set}
+use borrow.Author.Tests.{ltb-true, ltb-false}
+use lib.Dec.{ltb}
+use lib.ListN.{length, getD, length-set, replicate, length-replicate, List·getD-eq-default}
 use lib.Seq.{getD-set-same, getD-set-other}
 use lib.IntN.{ℤ, pos}
 use Rattle.rules.specs.Services.{accepted, Rule, ruleOf}
-use Rattle.promises.specs.ReadPattern.{pattern-read}
-use Rattle.promises.specs.Faults.{WellFormed, rule-accepted}
+use Rattle.promises.specs.Faults.{rule-accepted}
 use Rattle.program.specs.Program.{program}
 use Rattle.program.specs.Length.{instrs}
 use Rattle.program.specs.Lines.{Line, line, endLine, linesOf, variablesIn, Columns, columns, written, laid}
@@ -82,29 +83,72 @@ laid-line pc (x ∷ ls) t (suc j) s h l =
     let e : pc + suc j ≡ suc pc + j = omega arith in
     rw e (laid-line (suc pc) ls (written pc x t) j (sized-written pc x t s) (omega arith) (omega arith))
 
--- The arrays hold the rule's program, and `vars` is the number of its variables.
+-- ---- Arrays of zeros, as they are lent to the compiler: then every entry after the lines is an end too.
+
+pub record Blank (t : Columns) : Type 0 where
+  pub sized : Sized t
+  pub ends : (pc : ℕ) → lineIn t pc ≡ endLine
+
+getD-same : {A : Type 0} (n i : ℕ) (a : A) → getD (replicate n a) i a ≡ a
+getD-same zero i a = refl
+getD-same (suc n) zero a = refl
+getD-same (suc n) (suc i) a = getD-same n i a
+
+zeros : ℕ → Columns
+zeros n = columns (replicate n 0) (replicate n 0) (replicate n 0) (replicate n 0) (replicate n (pos 0))
+
+zeros-blank : (n : ℕ) → n ≡ 390 → Blank (zeros n)
+unfolding zeros lineIn
+zeros-blank n e = record {
+  sized = record {
+    op = length-replicate n 0 ∙ e;
+    from = length-replicate n 0 ∙ e;
+    arg = length-replicate n 0 ∙ e;
+    mat = length-replicate n 0 ∙ e;
+    con = length-replicate n (pos 0) ∙ e;
+  };
+  ends = λ pc. rw (getD-same {A = ℕ} n pc 0, getD-same n pc (pos 0));
+}
+
+pub blank : Blank (columns (replicate 390 0) (replicate 390 0) (replicate 390 0) (replicate 390 0) (replicate 390 (pos 0)))
+unfolding zeros
+blank = zeros-blank 390 refl
+
+pub laid-blank : (ls : List Line) (t : Columns) → Blank t → length ls ≤ 390 → (pc : ℕ) → lineIn (laid 0 ls t) pc ≡ getD ls pc endLine
+laid-blank ls t b h pc = go (ltb pc (length ls)) refl
+  where
+    go : (s : Bool) → ltb pc (length ls) ≡ s → lineIn (laid 0 ls t) pc ≡ getD ls pc endLine
+    go true l = let e : 0 + pc ≡ pc = omega arith in rw e at (laid-line 0 ls t pc (b .sized) (omega arith) (ltb-true pc (length ls) l))
+    go false l =
+        let g = ltb-false pc (length ls) l in
+        laid-after 0 ls t pc (omega arith) ∙ b .ends pc ∙ sym (List·getD-eq-default ls endLine g)
+
+-- ---- The arrays hold the rule's program, and `vars` is the number of its variables.
+
 pub record Holds (ms : List ℤ) (r : Rule) (vars : ℕ) (t : Columns) : Type 0 where
   pub means : (pc : ℕ) → pc ≤ instrs (r .pattern) (r .matcher) → Means ms vars (lineIn t pc) (program (r .matcher) (r .pattern) pc)
-  pub small : (pc : ℕ) → pc ≤ instrs (r .pattern) (r .matcher) → Small pc (lineIn t pc)
+  pub after : (pc : ℕ) → instrs (r .pattern) (r .matcher) < pc → lineIn t pc ≡ endLine
+  pub small : (pc : ℕ) → Small pc (lineIn t pc)
   pub last : instrs (r .pattern) (r .matcher) ≤ 384
   pub few : vars ≤ 16
 
--- What the compiler leaves in the arrays holds the program of a rule that is accepted.
-pub compiled : (ms ps : List ℤ) (r : Rule) → ruleOf ms ps ≡ accepted r → (t : Columns) → Sized t → Holds ms r (variablesIn (linesOf ms ps)) (laid 0 (linesOf ms ps) t)
-compiled ms ps r a t s =
+-- What the compiler leaves in the arrays, if the rule is accepted.
+pub compiled : (ms ps : List ℤ) (r : Rule) → ruleOf ms ps ≡ accepted r → (t : Columns) → Blank t
+    → Holds ms r (variablesIn (linesOf ms ps)) (laid 0 (linesOf ms ps) t)
+compiled ms ps r a t b =
     let w = rule-accepted ms ps r .0 a in
     let n = lines-length ms ps r w in
-    let b = program-fits ms ps r w in
+    let l = program-fits ms ps r w in
+    let is = laid-blank (linesOf ms ps) t b (omega arith) in
     record {
-      means = λ pc l. rw (there w pc l) (line-means ms ps r w pc l);
-      small = λ pc l. rw (there w pc l) (line-small ms ps pc);
-      last = b;
+      means = λ pc h. rw (is pc) (line-means ms ps r w pc h);
+      after = λ pc h. is pc ∙ List·getD-eq-default (linesOf ms ps) endLine (omega arith);
+      small = λ pc. rw (is pc) (line-small ms ps pc);
+      last = l;
       few = few-variables ms ps r w;
     }
-  where
-    there : (w : WellFormed ms ps r) (pc : ℕ) → pc ≤ instrs (r .pattern) (r .matcher) → lineIn (laid 0 (linesOf ms ps) t) pc ≡ getD (linesOf ms ps) pc endLine
-    there w pc l =
-        let n = lines-length ms ps r w in
-        let b = program-fits ms ps r w in
-        let e : 0 + pc ≡ pc = omega arith in
-        rw e at (laid-line 0 (linesOf ms ps) t pc s (omega arith) (omega arith))
+
+-- The same, as a caller has it that lent arrays of zeros.
+pub compiled-zeros : (ms ps : List ℤ) (r : Rule) → ruleOf ms ps ≡ accepted r → (vars : ℕ) (t : Columns) → vars ≡ variablesIn (linesOf ms ps)
+    → t ≡ laid 0 (linesOf ms ps) (columns (replicate 390 0) (replicate 390 0) (replicate 390 0) (replicate 390 0) (replicate 390 (pos 0))) → Holds ms r vars t
+compiled-zeros ms ps r a vars t e g = rw (e, g) (compiled ms ps r a _ blank)

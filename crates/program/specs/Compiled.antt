@@ -1,5 +1,5 @@
 -- The compiler's lines are the program of the pattern: of a rule that is accepted each line means the instruction at its place.
-use Prim.Native.Nat.{ℕ, zero, suc, _+_, _%_, _<_, _≤_}
+use Prim.Native.Nat.{ℕ, suc, _+_, _%_, _<_}
 use native.Mathlib.Nat.{mod-eq-of-lt}
 use native.Mathlib.Omega.{arith}
 use mathlib.Core.Path.{_≡_, refl, sym, ap, _∙_}
@@ -7,17 +7,15 @@ use mathlib.Core.Bool.{Bool, true, false, cond}
 use mathlib.Core.List.{List, [], _∷_, _++_, append-assoc}
 use lib.Dec.{eqb, ltb}
 use lib.ListN.{length, length-append}
-use lib.IntN.{ℤ, pos, negsuc}
-use Rattle.rules.specs.Forms.{Matcher, something, integer, list, multiset, Pattern, wildcard, nil, variable, constant, value, cons, join}
-use Rattle.rules.specs.Reading.{ok}
-use Rattle.rules.specs.Variables.{variables}
+use lib.IntN.{ℤ, pos}
+use Rattle.rules.specs.Forms.{Matcher, something, integer, list, multiset, Pattern, wildcard, nil, variable, constant, value}
 use Rattle.rules.specs.Fit.{takes, solid}
 use Rattle.rules.specs.Search.{isSomething}
 use Rattle.promises.specs.Written.{patternWords}
 use Rattle.words.specs.Words.{tagZ, tagAt}
-use Rattle.program.specs.Points.{Kind, listCons, multisetCons, joins, over, firstBy, whole, Test, asConstant, asValue, asNil, tested, testBy, Sound, Loose, loose-wildcard, loose-variable}
-use Rattle.program.specs.Points.{Instr, strip, drop, bind, test, split, end, Item, item, Point, point, finish, beyond, enter, from, Follows, strips, drops, binds, tests, splits, ends, after-end}
-use Rattle.program.specs.Lines.{Line, line, endLine, opsUnder, opOf, operandsOf, argOf, conOf, stripLines, leafLine, firstUnder, Waiting, waits, slotOf, resumed, linesFrom, lines-split, lines-leaf, binding, variablesIn}
+use Rattle.program.specs.Points.{Kind, listCons, multisetCons, joins, over, firstBy, whole, asConstant, asValue, asNil, tested, testBy, Sound, Loose, loose-wildcard, loose-variable}
+use Rattle.program.specs.Points.{Instr, strip, drop, bind, test, split, Item, item, Point, point, finish, beyond, enter, from, Follows, strips, drops, binds, tests, splits, ends, after-end}
+use Rattle.program.specs.Lines.{Line, line, endLine, opOf, operandsOf, argOf, conOf, stripLines, leafLine, firstUnder, Waiting, waits, slotOf, resumed, linesFrom, lines-split, lines-leaf, binding, variablesIn}
 use Rattle.program.specs.Meaning.{MatcherAt, tagOf, matcher-tag, list-inner, multiset-inner, Means, means-end, means-strip, means-drop, means-bind, means-constant, means-integer, means-value, means-nil, means-list, means-multiset, means-join}
 use Rattle.program.specs.Numbered.{Numbered, numbered, number-is, named-is}
 

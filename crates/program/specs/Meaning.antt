@@ -1,17 +1,17 @@
 -- What the numbers of a line mean: an instruction.
-use Prim.Native.Nat.{ℕ, zero, suc, _+_, _<_}
+use Prim.Native.Nat.{ℕ, _+_}
 use native.Mathlib.Omega.{arith}
-use mathlib.Core.Path.{_≡_, refl, sym, ap, _∙_}
-use mathlib.Core.Bool.{true, false}
+use mathlib.Core.Path.{_≡_, sym, ap, _∙_}
+use mathlib.Core.Bool.{true}
 use mathlib.Core.List.{List, [], _∷_, _++_, append-nil}
-use lib.ListN.{length, getD, drop}
+use lib.ListN.{getD, drop}
 use lib.Seq.{drop-drop, getD-drop}
-use lib.IntN.{ℤ, pos, negsuc}
+use lib.IntN.{ℤ, negsuc}
 use Rattle.rules.specs.Forms.{Matcher, something, integer, list, multiset}
 use Rattle.rules.specs.Fit.{takes}
 use Rattle.promises.specs.Written.{matcherWords}
 use Rattle.words.specs.Words.{tagZ, tagAt}
-use Rattle.program.specs.Points.{Kind, listCons, multisetCons, joins, Test, asConstant, asValue, asNil, Instr, strip, drop as drops, bind, test, split, end}
+use Rattle.program.specs.Points.{listCons, multisetCons, joins, asConstant, asValue, asNil, Instr, strip, drop as drops, bind, test, split, end}
 use Rattle.program.specs.Lines.{Line}
 
 -- The words of the matcher m stand at the index i.

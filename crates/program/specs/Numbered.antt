@@ -1,16 +1,16 @@
 -- The variables at each place of a program: what is to do there numbers on from the variables bound so far, and there are never more than 16.
 use Prim.Native.Nat.{ℕ, zero, suc, _+_, _<_, _≤_}
 use native.Mathlib.Omega.{arith}
-use mathlib.Core.Path.{_≡_, refl, sym, ap, _∙_}
-use mathlib.Core.Bool.{Bool, true, false, _&&_}
+use mathlib.Core.Path.{_≡_, refl, sym, _∙_}
+use mathlib.Core.Bool.{Bool, true, false}
 use mathlib.Core.List.{List, [], _∷_, _++_}
 use lib.ListN.{length, length-append}
 use lib.Dec.{ltb, ltb→lt}
 use lib.IntN.{ℤ, pos, negsuc}
 use Rattle.rules.specs.Numbers.{same}
 use Rattle.rules.specs.Forms.{Matcher, something, Pattern, wildcard, nil, variable, constant, value, cons, join}
-use Rattle.rules.specs.Reading.{Verdict, ok, fault, _then_}
-use Rattle.rules.specs.Variables.{demand, isNext, isLeft, variables}
+use Rattle.rules.specs.Reading.{Verdict, ok}
+use Rattle.rules.specs.Variables.{isNext, isLeft, variables}
 use Rattle.rules.specs.Search.{isSomething}
 use Rattle.promises.specs.Tests.{and-split}
 use Rattle.promises.specs.Readers.{then-ok}

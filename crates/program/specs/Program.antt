@@ -1,12 +1,12 @@
 -- The program of a pattern under a matcher, place after place. If the pattern fits, each instruction makes of what is to do at its place what is to do
 -- at the next.
-use Prim.Native.Nat.{ℕ, zero, suc, _+_}
-use mathlib.Core.Path.{_≡_, refl, sym, ap, _∙_}
-use mathlib.Core.Bool.{Bool, true, false, _&&_, _||_, decide}
+use Prim.Native.Nat.{ℕ, zero, suc}
+use mathlib.Core.Path.{_≡_, refl}
+use mathlib.Core.Bool.{true, false, _&&_, _||_, decide}
 use mathlib.Core.Option.{Option, none, some}
 use mathlib.Core.List.{List, [], _∷_, _++_}
 use native.Mathlib.Omega.{arith}
-use lib.ListN.{length, getElem?}
+use lib.ListN.{length}
 use lib.Dec.{T}
 use lib.IntN.{ℤ, pos, negsuc}
 use Rattle.rules.specs.Forms.{Matcher, something, integer, list, multiset, Matcher-discrete, Pattern, wildcard, nil, variable, constant, value, cons, join}
@@ -18,7 +18,7 @@ use Rattle.rules.specs.Search.{isSomething}
 use Rattle.promises.specs.Tests.{is-true, and-split}
 use Rattle.promises.specs.Readers.{then-ok}
 use Rattle.promises.specs.Numbering.{demand-ok}
-use Rattle.program.specs.Points.{Kind, listCons, multisetCons, joins, over, firstBy, whole, Test, asConstant, asValue, asNil, tested, testBy, Sound, Loose, loose-wildcard, loose-variable}
+use Rattle.program.specs.Points.{listCons, multisetCons, joins, over, firstBy, whole, asConstant, asValue, asNil, tested, testBy, Sound, Loose, loose-wildcard, loose-variable}
 use Rattle.program.specs.Points.{Instr, strip, drop, bind, test, split, end, Item, item, Point, point, finish, beyond, enter, from, Follows, strips, drops, binds, tests, splits, ends, after-end}
 
 unfoldable pub instrOf : Point → Instr

@@ -1,8 +1,8 @@
 -- The programs of two rules of document 01, section 8, as the compiler's definition gives them. A line is op, from, arg, mat, con.
 use mathlib.Core.Path.{_≡_, refl}
-use mathlib.Core.List.{List, [], _∷_}
-use lib.IntN.{ℤ, pos}
-use Rattle.program.specs.Lines.{Line, line, endLine, linesOf}
+use mathlib.Core.List.{[], _∷_}
+use lib.IntN.{pos}
+use Rattle.program.specs.Lines.{line, endLine, linesOf}
 
 -- P1: two of a rank, 5 1 0 5 3 0 0 0, under multiset integer. The value of the second cons's atom waits in slot 0, that of the rest in slot 3.
 p1 : linesOf (pos 3 ∷ pos 1 ∷ []) (pos 5 ∷ pos 1 ∷ pos 0 ∷ pos 5 ∷ pos 3 ∷ pos 0 ∷ pos 0 ∷ pos 0 ∷ []) ≡

@@ -5,3 +5,4 @@ pub mod Table
 pub mod Patterns
 pub mod Variables
 pub mod Fitting
+pub mod Targets

@@ -2,7 +2,10 @@
 mod fit;
 pub mod matcher;
 pub mod pattern;
+pub mod refusal;
 pub mod table;
+pub mod target;
+mod unfit;
 pub mod variables;
 
 ghost use mathlib.Core.Path.{_≡_};

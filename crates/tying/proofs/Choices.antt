@@ -16,15 +16,15 @@ use Rattle.rules.specs.Fit.{takes, tagsOf, among}
 use Rattle.rules.specs.Search.{Halves, consHalves, joinHalves}
 use Rattle.words.specs.Words.{tagAt}
 use Rattle.marks.specs.Marks.{clear, positions, Split, raise, splits, Longer}
-use Rattle.marks.specs.Marked.{nth, marked, held}
+use Rattle.marks.specs.Marked.{nth, marked, held, choiceAt, partsAt}
 use Rattle.marks.proofs.Places.{low-digit, clear-add, clear-lt, digit-le, positions-one, positions-low, positions-none}
 use Rattle.marks.proofs.Fronts.{raise-none, splits-next, splits-last}
-use Rattle.marks.proofs.Marked.{choiceAt, partsAt, cons-multiset, cons-list, cons-list-none, join-splits}
+use Rattle.marks.proofs.Marked.{cons-multiset, cons-list, cons-list-none, join-splits}
 use Rattle.holding.specs.Places.{valueAt, elements, countAt, Target, Tag, elementAt}
 use Rattle.holding.specs.Held.{Held, heldAt, wholeAt, left}
 use Rattle.holding.specs.Row.{holds}
 use Rattle.holding.specs.declared.rows.Binding.{Binding}
-use Rattle.holding.proofs.Held.{held-collection, held-64, held-clear, held-some, whole-held, whole-value, next-in, next-64, next-tag, next-value}
+use Rattle.holding.proofs.Held.{held-collection, held-64, held-less, held-clear, held-some, whole-held, whole-value, next-in, next-64, next-tag, next-value}
 use Rattle.program.specs.Points.{Kind, listCons, multisetCons, joins, over, firstBy, halves}
 use Rattle.engine.specs.Held.{Picked, Opened}
 use Rattle.stepping.specs.Steps.{when, opensOf, noneOf, longerOf}
@@ -149,10 +149,10 @@ module _ (s : List ℤ) (g : Target s) where
         vs = elementsAt s h
 
         one : Held s (h .at) f
-        one = record { tag = l .held .tag; marks = omega (arith, l .within, l .held .marks) }
+        one = held-less s (h .at) (h .marks) f (l .held) (l .within)
 
         two : Held s (h .at) b
-        two = record { tag = l .held .tag; marks = omega (arith, l .held .marks) }
+        two = held-less s (h .at) (h .marks) b (l .held) (omega arith)
 
   -- ---- All kinds.
 

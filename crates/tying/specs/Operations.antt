@@ -14,7 +14,7 @@ use Rattle.rules.specs.Equality.{equal}
 use Rattle.rules.specs.Search.{Halves}
 use Rattle.words.specs.Words.{tagAt}
 use Rattle.marks.specs.Marks.{clear, positions, raise, splits}
-use Rattle.marks.proofs.Marked.{choiceAt, partsAt}
+use Rattle.marks.specs.Marked.{choiceAt, partsAt}
 use Rattle.holding.specs.Places.{valueAt, elements, elementAt}
 use Rattle.holding.specs.Held.{Held, wholeAt}
 use Rattle.holding.specs.Row.{holds}

@@ -1,5 +1,5 @@
 -- `program::op_of` meets its contract: each arm is an entry of the table. Assumes nothing.
-use borrow.Author.Tests.{eq-eqb, ne-eqb}
+use borrow.Author.Tests.{ne-eqb}
 use Rattle.program.specs.Lines.{opOf, opsUnder}
 use Rattle.program.proofs.Laws.{op-none}
 use Rattle.program.proofs.op_of.Statement.{statement}

@@ -24,13 +24,13 @@ inner integer (suc i) = integer
 inner (list m) (suc i) = inner m i
 inner (multiset m) (suc i) = inner m i
 
-tagOf : Matcher → ℕ
+unfoldable pub tagOf : Matcher → ℕ
 tagOf something = 0
 tagOf integer = 1
 tagOf (list m) = 2
 tagOf (multiset m) = 3
 
-tag-inner : (m : Matcher) (i : ℕ) → i ≤ levels m → tagAt (matcherWords m) i ≡ tagOf (inner m i)
+pub tag-inner : (m : Matcher) (i : ℕ) → i ≤ levels m → tagAt (matcherWords m) i ≡ tagOf (inner m i)
 unfolding tagAt matcherWords inner levels tagOf
 tag-inner something zero h = refl
 tag-inner integer zero h = refl

@@ -1,5 +1,5 @@
 -- `holding::places::count_at` meets its contract. Assumes nothing.
-use Rattle.holding.proofs.Tables.{count-rules}
+use Rattle.holding.proofs.Counting.{count-rules}
 use Rattle.holding.proofs.places.count_at.Statement.{statement}
 use Rattle.holding.proofs.places.count_at.Tie as tie
 use Rattle.holding.proofs.places.number_at.Reads as number-at-reads

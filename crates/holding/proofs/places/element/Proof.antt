@@ -1,5 +1,5 @@
 -- `holding::places::element` meets its contract. Assumes nothing.
-use Rattle.holding.proofs.Tables.{find-rules}
+use Rattle.holding.proofs.Filling.{find-rules}
 use Rattle.holding.proofs.places.element.Statement.{statement}
 use Rattle.holding.proofs.places.element.Tie as tie
 use Rattle.holding.proofs.places.wide.Reads as wide-reads

@@ -3,7 +3,7 @@ use Prim.Native.Nat.{_≤_, _%_}
 use mathlib.Core.Path.{_≡_}
 use lib.ListN.{length}
 use Rattle.holding.specs.Tables.{EndsFrom}
-use Rattle.holding.proofs.Tables.{ends-rules}
+use Rattle.holding.proofs.Ends.{ends-rules}
 use Rattle.holding.proofs.places.ends_of.Statement.{statement}
 use Rattle.holding.proofs.places.ends_of.Tie as tie
 use Rattle.holding.proofs.places.count_at.Reads as count-at-reads

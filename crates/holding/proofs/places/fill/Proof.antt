@@ -4,7 +4,7 @@ use mathlib.Core.Path.{_≡_}
 use lib.ListN.{length}
 use Rattle.holding.specs.Places.{Standing, elementAt}
 use Rattle.holding.specs.Tables.{Filled}
-use Rattle.holding.proofs.Tables.{fill-rules}
+use Rattle.holding.proofs.Filling.{fill-rules}
 use Rattle.holding.proofs.places.fill.Statement.{statement}
 use Rattle.holding.proofs.places.fill.Tie as tie
 use Rattle.holding.proofs.places.narrow.Reads as narrow-reads

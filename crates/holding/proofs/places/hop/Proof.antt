@@ -2,7 +2,7 @@
 use Prim.Native.Nat.{_≤_}
 use mathlib.Core.Path.{_≡_}
 use Rattle.holding.specs.Places.{hops, Standing}
-use Rattle.holding.proofs.Tables.{hop-rules}
+use Rattle.holding.proofs.Ends.{hop-rules}
 use Rattle.holding.proofs.places.hop.Statement.{statement}
 use Rattle.holding.proofs.places.hop.Tie as tie
 use Rattle.holding.proofs.places.wide.Reads as wide-reads

@@ -1,7 +1,7 @@
 -- `holding::places::number_at` meets its contract. Assumes nothing.
 use borrow.Author.Needs.{sfits-of}
 use mir.Facts.{toZ-ofZ}
-use Rattle.holding.proofs.Tables.{number-rules, number-at-is}
+use Rattle.holding.proofs.Counting.{number-rules, number-at-is}
 use Rattle.holding.proofs.places.number_at.Statement.{statement}
 use Rattle.holding.proofs.places.number_at.Tie as tie
 

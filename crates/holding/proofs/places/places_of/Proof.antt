@@ -5,7 +5,7 @@ use lib.ListN.{length, drop}
 use Rattle.rules.specs.Forms.{count}
 use Rattle.holding.specs.Places.{forest}
 use Rattle.holding.specs.Tables.{PlacesTo}
-use Rattle.holding.proofs.Tables.{all-rules, all-tag, all-room, all-used, all-turn}
+use Rattle.holding.proofs.Filling.{all-rules, all-tag, all-room, all-used, all-turn}
 use Rattle.holding.proofs.places.places_of.Statement.{statement}
 use Rattle.holding.proofs.places.places_of.Tie as tie
 use Rattle.holding.proofs.places.count_at.Reads as count-at-reads

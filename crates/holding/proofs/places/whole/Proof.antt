@@ -1,5 +1,5 @@
 -- `holding::places::whole` meets its contract. Assumes nothing.
-use Rattle.holding.proofs.Tables.{count-rules}
+use Rattle.holding.proofs.Counting.{count-rules}
 use Rattle.holding.proofs.places.whole.Statement.{statement}
 use Rattle.holding.proofs.places.whole.Tie as tie
 use Rattle.holding.proofs.places.count_at.Reads as count-at-reads

@@ -1,152 +1,24 @@
--- The tables of ends and places, as the code asks: words read as numbers, the tables filled, an element found. Assumes nothing.
-use mathlib.Core.Path.{_≡_, refl, sym, _∙_, ap, subst}
+-- The places of elements, as the code asks: of one collection, of all, and one element found. Assumes nothing.
+use mathlib.Core.Path.{_≡_, refl, _∙_, ap}
 use mathlib.Core.List.{List}
-use Prim.Native.Nat.{ℕ, zero, suc, _+_, _-_, _*_, _/_, _%_, _^_, _<_, _≤_}
-use native.Mathlib.Decide.{decLt, decLe, ℕ-discrete}
+use Prim.Native.Nat.{ℕ, zero, suc, _+_, _-_, _*_, _/_, _%_, _<_, _≤_}
+use native.Mathlib.Decide.{decLt, ℕ-discrete}
 use native.Mathlib.Omega.{arith}
 use borrow.Author.Needs.{needs}
-use lib.Dec.{T}
 use lib.ListN.{length, getD, drop, set, length-set, length-drop}
 use lib.Seq.{getD-set-same, getD-set-other}
-use lib.IntN.{ℤ, pos, negsuc, natAbs}
-use lib.Signed.{nonNeg}
-use mir.Syntax.{w32, w64}
-use mir.Val.{Fits, SFits}
-use Rattle.rules.specs.Forms.{Value, int, collection, Values, empty, _▸_, count, size, sizeAll}
+use lib.IntN.{ℤ, negsuc}
+use mir.Syntax.{w64}
+use mir.Val.{Fits}
+use Rattle.rules.specs.Forms.{collection, Values, empty, _▸_, count, size, sizeAll}
 use Rattle.words.specs.Words.{tagZ, tagAt}
-use Rattle.words.proofs.Signed.{getD-any, inside}
-use Rattle.holding.specs.Places.{lasts, node, forest, valueAt, countBy, countAt, Target, Tag, Standing, hops, elementAt}
-use Rattle.holding.specs.Tables.{EndsFrom, Ends, Filled, PlacesTo, Places}
-use Rattle.holding.specs.Held.{wholeAt}
+use Rattle.words.proofs.Signed.{inside}
+use Rattle.holding.specs.Places.{lasts, node, forest, valueAt, countBy, countAt, Target, Tag, Standing, elementAt}
+use Rattle.holding.specs.Tables.{Ends, Filled, PlacesTo, Places}
 use Rattle.promises.specs.Written.{length-words-all}
-use Rattle.holding.proofs.Forest.{is-here, flat-at, two-words, even-length, hop-none, hop-one, hop-more, standing-tag, standing-next}
-use Rattle.holding.proofs.Elements.{second, forest-at, by-tag, tag-small, count-some, standing-at, end-at, element-tag}
-
--- ---- A word that is not negative.
-
-module _ (s : List ℤ) (at : ℕ) (h : tagAt s at < 2147483648) where
-  pub word-in : at < length s
-  word-in = inside s at h
-
-  pub word-mul : length s * 4 < 2 ^ 63 → Fits w64 (at * 4)
-  word-mul l = let i = word-in in record { fits = omega arith }
-
-number-is : (y z : ℤ) → y ≡ z → tagZ z < 2147483648 → (T (nonNeg y) × Fits w32 (natAbs y)) × (natAbs y ≡ tagZ z)
-number-is (pos n) z p h = let g : n < 2147483648 = subst (λ (k : ℤ). tagZ k < 2147483648) (sym p) h in ((tt, record { fits = omega arith }), ap tagZ p)
-number-is (negsuc n) z p h = absurd (let g : 2147483648 < 2147483648 = subst (λ (k : ℤ). tagZ k < 2147483648) (sym p) h in omega arith)
-
-pub number-at-is : (s : List ℤ) (at : ℕ) (y : ℤ) → y ≡ getD s at (pos 0) → tagAt s at < 2147483648
-    → (T (nonNeg y) × Fits w32 (natAbs y)) × (natAbs y ≡ tagAt s at)
-unfolding tagAt
-number-at-is s at y p h = number-is y (getD s at (negsuc 0)) (p ∙ getD-any s at (pos 0) (negsuc 0) (inside s at h)) h
-
-pub ruleset number-rules = (word-in, word-mul, needs)
-
--- ---- How many elements.
-
-module _ (s : List ℤ) (at tag : ℕ) (g : Target s) (w : Tag s at) (d : tag ≡ tagAt s at) where
-  pub count-int : tag ≡ 0 → 0 ≡ countAt s at
-  unfolding countAt
-  count-int z = rw (sym d ∙ z)
-
-  module _ (f : tag ≡ 0 → ⊥) where
-    count-is : countAt s at ≡ tagAt s (at + 1)
-    unfolding countAt
-    count-is = count-some (tagAt s at) (tagAt s (at + 1)) (λ z. f (d ∙ z))
-
-    pub count-collection : (r : ℕ) → r ≡ tagAt s (at + 1) → r ≡ countAt s at
-    count-collection r e = e ∙ sym count-is
-
-    pub count-small : tagAt s (at + 1) < 2147483648
-    count-small = omega (arith, count-is, g .small at w)
-
-  pub count-next : length s < 2 ^ 64 → Fits w64 (at + 1)
-  count-next l = let h = second s at g w in record { fits = omega arith }
-
-pub whole-is : (s : List ℤ) (at n r : ℕ) → n ≡ countAt s at → r ≡ 2 ^ n - 1 → r ≡ wholeAt s at
-unfolding wholeAt
-whole-is s at n r d e = e ∙ rw d
-
-pub whole-64 : (s : List ℤ) (at n : ℕ) → Target s → Tag s at → n ≡ countAt s at → n ≤ 64
-whole-64 s at n g w d = rw d (g .small at w)
-
-pub ruleset count-rules = (tag-small, count-int, count-collection, count-small, count-next, whole-is, whole-64, needs)
-
--- ---- Over values that stand one after the other, by the table of ends.
-
-tag-half : (s : List ℤ) (e : ℕ) → Target s → Tag s e → e / 2 < 512
-tag-half s e g w = let h = w .inside in let l = g .short in omega arith
-
-module _ (s : List ℤ) (ends : List ℕ) (from k e : ℕ) (g : Target s) (q : EndsFrom s ends from) (r : Standing s k e) (l : from ≤ e) (h : 0 < k) where
-  pub hop-half : e / 2 < 512
-  hop-half = tag-half s e g (standing-tag s k e g r h)
-
-  pub hop-mul : Fits w64 (e / 2 * 2)
-  hop-mul = let i = hop-half in record { fits = omega arith }
-
-  module _ (x : ℕ) (d : x ≡ getD ends (e / 2) 0) where
-    hop-end : x ≡ e + size (valueAt s e)
-    hop-end = d ∙ q .are e (standing-tag s k e g r h) l
-
-    pub hop-again : (y : ℕ) → y ≡ hops s k e → y ≡ hops s (k - 1) x
-    hop-again y i = i ∙ hop-one s k e g r h ∙ ap (hops s (k - 1)) (sym hop-end)
-
-    pub hop-standing : Standing s (k - 1) x
-    hop-standing = rw hop-end (standing-next s k e g r h)
-
-    pub hop-from : from ≤ x
-    hop-from = omega (arith, hop-end)
-
-pub hop-out : (s : List ℤ) (k e x : ℕ) → x ≡ hops s k e → k ≤ 0 → e ≡ x
-hop-out s k e x i h = hop-none s k e h ∙ sym i
-
-pub ruleset hop-rules = (hop-half, hop-mul, hop-again, hop-standing, hop-from, hop-out, needs)
-
--- ---- The table of ends is filled from the right.
-
-pub ends-start : (s : List ℤ) (ends : List ℕ) → EndsFrom s ends (length s)
-ends-start s ends = record { are = λ at w f. let h = w .inside in absurd (omega arith) }
-
-pub ends-done : (s : List ℤ) (ends : List ℕ) (at : ℕ) → EndsFrom s ends at → at ≤ 1 → at % 2 ≡ 0 → Ends s ends
-ends-done s ends at q l e = record { are = λ j w. q .are j w (omega arith) }
-
-pub ends-even : (at : ℕ) → at % 2 ≡ 0 → 1 < at → (at - 2) % 2 ≡ 0
-ends-even at e h = omega arith
-
-module _ (s : List ℤ) (ends : List ℕ) (at : ℕ) (g : Target s) (e : at % 2 ≡ 0) (q : EndsFrom s ends at) (l : at ≤ length s) (h : 1 < at) where
-  pub ends-tag : Tag s (at - 2)
-  ends-tag = record { even = omega arith; inside = omega arith }
-
-  pub ends-from : EndsFrom s ends (at - 2 + 2)
-  ends-from = let z : at - 2 + 2 ≡ at = omega arith in rw z q
-
-  pub ends-in : (at - 2) / 2 < 512
-  ends-in = tag-half s (at - 2) g ends-tag
-
-  pub ends-mul : Fits w64 ((at - 2) / 2 * 2)
-  ends-mul = let i = ends-in in record { fits = omega arith }
-
-  pub ends-standing : (n : ℕ) → n ≡ countAt s (at - 2) → Standing s n (at - 2 + 2)
-  ends-standing n d = standing-at s (at - 2) g ends-tag n (omega arith)
-
-  module _ (n x : ℕ) (d : n ≡ countAt s (at - 2)) (i : x ≡ hops s n (at - 2 + 2)) where
-    ends-is : x ≡ at - 2 + size (valueAt s (at - 2))
-    ends-is = i ∙ rw d (end-at s (at - 2) g ends-tag)
-
-    pub ends-small : x < 65536
-    ends-small = let k = g .short in omega (arith, ends-is, is-here s (at - 2) g ends-tag .fits)
-
-    pub ends-turn : (r : ℕ) → length ends ≡ 512 → r ≡ x → EndsFrom s (set ends ((at - 2) / 2) r) (at - 2)
-    ends-turn r b j = record { are = λ k w f. go k w f (decLe at k) }
-      where
-        go : (k : ℕ) → Tag s k → at - 2 ≤ k → Dec (at ≤ k) → getD (set ends ((at - 2) / 2) r) (k / 2) 0 ≡ k + size (valueAt s k)
-        go k w f (yes y) = rw (getD-set-other ends ((at - 2) / 2) (k / 2) r 0 (λ z. omega arith)) (q .are k w y)
-        go k w f (no n) =
-            let u = w .even in
-            let z : k ≡ at - 2 = omega arith in
-            rw (z, getD-set-same ends ((at - 2) / 2) r 0 (omega (arith, ends-in))) (j ∙ ends-is)
-
-pub ruleset ends-rules = (even-length, ends-start, ends-done, ends-even, ends-tag, ends-from, ends-in, ends-mul, ends-standing, ends-small, ends-turn, needs)
+use Rattle.holding.proofs.Forest.{flat-at, two-words, hop-none, hop-more, standing-tag, standing-next}
+use Rattle.holding.proofs.Elements.{second, forest-at, standing-at}
+use Rattle.holding.proofs.Counting.{tag-half}
 
 -- ---- The places of one collection's elements.
 

@@ -1,0 +1,62 @@
+-- Document 01, section 1: the border to C. The answer's numbers go to a lent slice, eight bytes each, low byte first, its further bytes untouched.
+use Prim.Native.Nat.{ℕ, zero, suc, _/_, _%_}
+use mathlib.Core.List.{List, [], _∷_, _++_}
+use mathlib.Core.Bool.{cond}
+use lib.ListN.{length, drop}
+use lib.Seq.{sets}
+use lib.Dec.{ltb}
+use lib.IntN.{ℤ}
+use Rattle.rules.specs.Services.{Matched, match, Reviewed, review}
+
+-- n bytes of a number, low byte first.
+unfoldable pub digits : ℕ → ℕ → List ℕ
+digits zero x = []
+digits (suc n) x = x % 256 ∷ digits n (x / 256)
+
+-- Eight bytes for each number.
+unfoldable pub bytesOf : List ℕ → List ℕ
+unfolding digits
+bytesOf [] = []
+bytesOf (x ∷ xs) = digits 8 x ++ bytesOf xs
+
+-- Bytes written into a slice from an index on, the others as they were.
+unfoldable pub put : List ℕ → ℕ → List ℕ → List ℕ
+put l i bytes = sets l i bytes
+
+-- Bytes over the start of a slice, its further bytes untouched.
+unfoldable pub over : List ℕ → List ℕ → List ℕ
+over bytes slice = bytes ++ drop (length bytes) slice
+
+-- ---- What a call gives back, and what the room and the slice for the numbers hold then.
+
+pub record Called : Type 0 where
+  pub answer : ℕ
+  pub room : List ℤ
+  pub numbers : List ℕ
+
+abbrev pub called : ℕ → List ℤ → List ℕ → Called
+called a room numbers = record { answer = a; room = room; numbers = numbers }
+
+unfoldable pub matchNumbers : Matched → List ℕ
+matchNumbers m = m .answer ∷ m .place ∷ m .rows ∷ m .steps ∷ m .words ∷ []
+
+unfoldable pub reviewNumbers : Reviewed → List ℕ
+reviewNumbers r = r .answer ∷ r .place ∷ r .count ∷ []
+
+unfoldable pub matchTold : Matched → List ℕ → Called
+unfolding bytesOf over matchNumbers
+matchTold m numbers = called (m .answer) (m .room) (over (bytesOf (matchNumbers m)) numbers)
+
+-- 24 short, "before all others: the slice for the numbers is too short for them; nothing is written anywhere".
+unfoldable pub matchCalled : (ms ps ts : List ℤ) (budget : ℕ) (room : List ℤ) (numbers : List ℕ) → Called
+unfolding match matchTold
+matchCalled ms ps ts budget room numbers = cond (ltb (length numbers) 40) (called 24 room numbers) (matchTold (match ms ps ts budget room) numbers)
+
+unfoldable pub reviewTold : Reviewed → List ℕ → Called
+unfolding bytesOf over reviewNumbers
+reviewTold r numbers = called (r .answer) [] (over (bytesOf (reviewNumbers r)) numbers)
+
+-- (Review has no room.)
+unfoldable pub reviewCalled : (ms ps : List ℤ) (most : ℤ) (numbers : List ℕ) → Called
+unfolding review reviewTold
+reviewCalled ms ps most numbers = cond (ltb (length numbers) 24) (called 24 [] numbers) (reviewTold (review ms ps most) numbers)

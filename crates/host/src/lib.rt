@@ -1,0 +1,103 @@
+// Document 01, section 1: the border to C. Words cross as slices of i32; the answer's numbers go to a lent slice of bytes.
+use services::matching::match_units;
+use services::review::review;
+ghost use mathlib.Core.Path.{_≡_};
+ghost use Prim.Native.Nat.{_+_, _≤_};
+ghost use lib.ListN.{length};
+ghost use mathlib.Core.List.{_∷_, []};
+ghost use Rattle.host.specs.Border.{digits, put, bytesOf, over, called, matchCalled, reviewCalled};
+
+// A number's eight bytes, low byte first, from an index on.
+fn put_number(out: &mut [u8], at: usize, x: u64)
+    requires { ⌜ at + 8 ≤ length (now out) ⌝ }
+    ensures { λ _. ⌜ now (out .exit) ≡ put (now (out .entry)) at (digits 8 x) ⌝ }
+{
+    let mut left = x;
+    let mut k: usize = 0;
+    while k < 8 {
+        out[at + k] = (left % 256) as u8;
+        left = left / 256;
+        k += 1;
+    }
+}
+
+// The numbers of review's answer.
+fn put_three(out: &mut [u8], a: u64, b: u64, c: u64)
+    requires { ⌜ 24 ≤ length (now out) ⌝ }
+    ensures { λ _. ⌜ now (out .exit) ≡ over (bytesOf (a ∷ b ∷ c ∷ [])) (now (out .entry)) ⌝ }
+{
+    put_number(out, 0, a);
+    put_number(out, 8, b);
+    put_number(out, 16, c);
+}
+
+// The numbers of match's answer.
+fn put_five(out: &mut [u8], a: u64, b: u64, c: u64, d: u64, e: u64)
+    requires { ⌜ 40 ≤ length (now out) ⌝ }
+    ensures { λ _. ⌜ now (out .exit) ≡ over (bytesOf (a ∷ b ∷ c ∷ d ∷ e ∷ [])) (now (out .entry)) ⌝ }
+{
+    put_number(out, 0, a);
+    put_number(out, 8, b);
+    put_number(out, 16, c);
+    put_number(out, 24, d);
+    put_number(out, 32, e);
+}
+
+// Numbers of other widths as they are written.
+fn wide(x: u32) -> u64
+    ensures { λ r. ⌜ r ≡ x ⌝ }
+{
+    x as u64
+}
+
+fn long(x: usize) -> u64
+    ensures { λ r. ⌜ r ≡ x ⌝ }
+{
+    x as u64
+}
+
+// 24 short: the slice for the numbers is too short for them.
+const SHORT: u32 = 24;
+
+#[no_mangle]
+pub extern "C" fn lozhbinor_match(
+    matcher: &[i32],
+    pattern: &[i32],
+    target: &[i32],
+    budget: u32,
+    room: &mut [i32],
+    numbers: &mut [u8],
+) -> u32
+    ensures { λ r. ⌜ called r (now (room .exit)) (now (numbers .exit)) ≡ matchCalled (now (matcher .entry)) (now (pattern .entry)) (now (target .entry)) budget (now (room .entry)) (now (numbers .entry)) ⌝ }
+{
+    if numbers.len() < 40 {
+        return SHORT;
+    }
+    let m = match_units(matcher, pattern, target, budget, room);
+    put_five(
+        numbers,
+        wide(m.answer),
+        long(m.place),
+        m.rows,
+        m.steps,
+        long(m.words),
+    );
+    m.answer
+}
+
+#[no_mangle]
+pub extern "C" fn lozhbinor_review(
+    matcher: &[i32],
+    pattern: &[i32],
+    cap: i32,
+    numbers: &mut [u8],
+) -> u32
+    ensures { λ r. ⌜ called r [] (now (numbers .exit)) ≡ reviewCalled (now (matcher .entry)) (now (pattern .entry)) cap (now (numbers .entry)) ⌝ }
+{
+    if numbers.len() < 24 {
+        return SHORT;
+    }
+    let m = review(matcher, pattern, cap);
+    put_three(numbers, wide(m.answer), long(m.place), m.count);
+    m.answer
+}

@@ -1,0 +1,2 @@
+-- What the proofs of the ordered tests use.
+pub mod Laws

@@ -1,0 +1,4 @@
+-- What the proofs of test 5 use.
+pub mod Values
+pub mod Steps
+pub mod Whole

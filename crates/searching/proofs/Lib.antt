@@ -1,0 +1,9 @@
+pub mod Room
+pub mod Keeps
+pub mod Turns
+pub mod Counts
+pub mod Runs
+pub mod Whole
+pub mod Laws
+pub mod Begun
+pub mod Accepted

@@ -1,0 +1,248 @@
+-- One state taken up on numbers and lists is the engine's instruction, and the next choice is the engine's.
+use Prim.Native.Nat.{ℕ, zero, suc, _+_, _-_, _^_, _≤_, _<_}
+use native.Mathlib.Numerals.{add-one}
+use native.Mathlib.Omega.{arith}
+use mathlib.Core.Path.{_≡_, refl, sym, ap, _∙_, fun-ext, subst}
+use mathlib.Core.Bool.{Bool, true, false}
+use mathlib.Core.Option.{Option, none, some}
+use mathlib.Core.List.{List, _++_}
+use lib.ListN.{length, getD, set}
+use lib.Seq.{getD-set-same, getD-set-other}
+use lib.Dec.{eqb, eqb→eq, eqb-refl, T}
+use lib.Count.{trailingZeros}
+use lib.IntN.{ℤ, pos}
+use borrow.Author.Tests.{ne-eqb}
+use Rattle.rules.specs.Forms.{Matcher, something, integer, list, multiset}
+use Rattle.rules.specs.Fit.{takes}
+use Rattle.promises.specs.Written.{matcherWords}
+use Rattle.rules.specs.Numbers.{same}
+use Rattle.rules.specs.Equality.{equal}
+use Rattle.program.specs.Points.{asValue, Instr, bind, strip, test}
+use Rattle.program.specs.Meaning.{MatcherAt, Means, means-end, means-strip, means-drop, means-bind, means-constant, means-integer, means-value, means-nil, means-list, means-multiset, means-join}
+use Rattle.engine.specs.Engine.{put, Slot, Conf, Turn, on, back, check, next, pushed, opening, exec, slotAfter, topAfter, chosen, choose, nextChoice}
+use Rattle.engine.specs.Whole.{table-set}
+use Rattle.marks.specs.Marks.{clear}
+use Rattle.holding.specs.Places.{Target, elementAt}
+use Rattle.holding.specs.Held.{wholeAt}
+use Rattle.holding.specs.Row.{holds, nothing}
+use Rattle.holding.specs.Equality.{matcherAt, matcherOf, equalAt, isSum}
+use Rattle.holding.specs.declared.rows.Binding.{Binding}
+use Rattle.stepping.specs.declared.State.{State}
+use Rattle.stepping.specs.Steps as numbers
+use Rattle.stepping.specs.Steps.{when, Tables, Turned, tables, turned, counted, moved, lived, dropped, pushedIn, passesOf, noneOf, opensOf, splitOf, stepBy, stepOf, topped, topLeft, nowLeft, longerOf, joinOf, joinBy, consOf, consBy, pickOf}
+use Rattle.searching.specs.Run.{Env, Run, run, askOf, lineAt, boundAt, asked, takeBind, takeStep, afterTurn}
+use Rattle.searching.specs.Valid.{Long}
+use Rattle.tying.specs.Operations.{binding, isNone, isNumber, isSame, someOf, opensBy, opens, takePlace, takeFront, pick}
+use Rattle.tying.specs.Operations as operations
+use Rattle.tying.proofs.Instance.{places}
+use Rattle.searching.specs.Meaning.{slotsOf, bindsOf, confOf, standing}
+
+-- ---- The stores of a push are one changed slot; so are those of a choice.
+
+module _ (s : List ℤ) (g : Target s) where
+  -- A table that differs in one entry only.
+  one-changed : (f old : ℕ → Slot (places s g)) (i : ℕ) (x : Slot (places s g)) → f i ≡ x → ((j : ℕ) → (j ≡ i → ⊥) → f j ≡ old j) → f ≡ put old i x
+  unfolding put
+  one-changed f old i x e h = fun-ext (λ j. go j (eqb i j) (eqb→eq i j) (λ q. rw q (eqb-refl j)))
+    where
+      go : (j : ℕ) (b : Bool) → (T b → i ≡ j) → (i ≡ j → T b) → f j ≡ elim b as (λ _. Slot (places s g)) [ true ↦ x | false ↦ old j ]
+      go j true p q = rw (sym (p tt)) e
+      go j false p q = h j (λ z. q (sym z))
+
+  slots-push : (c : ℕ) (x : State) (t : Tables) → Long t → x .pc < 390
+      → slotsOf s g (pushedIn c x t)
+      ≡ put (slotsOf s g t) (x .pc) (record { held = binding (x .at) (x .marks); rem = c; prev = x .top; second = binding (x .at) (getD (t .backs) (x .pc) 0) })
+  unfolding slotsOf pushedIn
+  slots-push c x t l h = one-changed _ _ (x .pc) _
+      (rw (getD-set-same (t .ats) (x .pc) (x .at) 0 (omega (arith, l .ats)), getD-set-same (t .wholes) (x .pc) (x .marks) 0 (omega (arith, l .wholes)), getD-set-same (t .lefts) (x .pc) c 0 (omega (arith, l .lefts)), getD-set-same (t .lows) (x .pc) (x .top) 0 (omega (arith, l .lows))))
+      (λ j n. rw (getD-set-other (t .ats) (x .pc) j (x .at) 0 n, getD-set-other (t .wholes) (x .pc) j (x .marks) 0 n, getD-set-other (t .lefts) (x .pc) j c 0 n, getD-set-other (t .lows) (x .pc) j (x .top) 0 n))
+
+  slots-pick : (more b j : ℕ) (t : Tables) → Long t → j < 390
+      → slotsOf s g (tables (t .ats) (t .wholes) (nowLeft more j (t .lefts)) (t .lows) (set (t .backs) j b))
+      ≡ put (slotsOf s g t) j (slotAfter (places s g) (slotsOf s g t j) (someOf more) (binding (getD (t .ats) j 0) b))
+  unfolding slotsOf slotAfter nowLeft someOf when
+  slots-pick more b j t l h = by (eqb more 0)
+    where
+      by : (q : Bool) → slotsOf s g (tables (t .ats) (t .wholes) (when q (t .lefts) (set (t .lefts) j more)) (t .lows) (set (t .backs) j b))
+          ≡ put (slotsOf s g t) j (slotAfter (places s g) (slotsOf s g t j) (when q none (some more)) (binding (getD (t .ats) j 0) b))
+      by true = one-changed _ _ j _ (rw (getD-set-same (t .backs) j b 0 (omega (arith, l .backs)))) (λ i n. rw (getD-set-other (t .backs) j i b 0 n))
+      by false = one-changed _ _ j _ (rw (getD-set-same (t .backs) j b 0 (omega (arith, l .backs)), getD-set-same (t .lefts) j more 0 (omega (arith, l .lefts))))
+          (λ i n. rw (getD-set-other (t .backs) j i b 0 n, getD-set-other (t .lefts) j i more 0 n))
+
+-- ---- One state taken up.
+
+-- The matcher whose words stand at an index.
+matcher-words : (m : Matcher) (l : List ℤ) → matcherOf (matcherWords m ++ l) ≡ m
+unfolding matcherOf matcherWords
+matcher-words something l = refl
+matcher-words integer l = refl
+matcher-words (list m) l = ap list (matcher-words m l)
+matcher-words (multiset m) l = ap multiset (matcher-words m l)
+
+matcher-at : {ms : List ℤ} {i : ℕ} (m : Matcher) → MatcherAt ms i m → matcherAt ms i ≡ m
+unfolding matcherAt
+matcher-at m a = ap matcherOf (a .words) ∙ matcher-words m (a .rest)
+
+module _ (e : Env) (g : Target (e .words)) where
+  unfoldable pub asTurn : Run → Turn (places (e .words) g)
+  unfolding when
+  asTurn r =
+      when (eqb (r .state .live) 2) (back (confOf (e .words) g (r .state) (r .tables) (r .binds))) (on (confOf (e .words) g (r .state) (r .tables) (r .binds)))
+
+  module _ (x : State) (t : Tables) (b : List Binding) (room : List ℤ) where
+    -- The step whose line has the number o.
+    unfoldable stepAt : ℕ → Run
+    unfolding afterTurn askOf boundAt
+    stepAt o =
+        afterTurn
+        (stepBy o (e .from) (e .con) (e .words)
+        (askOf o (e .matcher) (getD (e .mat) (x .pc) 0) (getD (e .con) (x .pc) (pos 0)) (e .words) (boundAt e (x .pc) b) (x .at) (x .marks)) (counted x) t)
+        b room
+
+    step-at : {o : ℕ} → getD (e .op) (x .pc) 0 ≡ o → asTurn (stepAt o) ≡ asTurn (takeStep e (run x t b room))
+    unfolding takeStep asked stepOf stepAt
+    step-at z = ap (λ (o : ℕ). asTurn (stepAt o)) (sym z)
+
+    test-turn : (q : Bool) → elim q as (λ _. Turn (places (e .words) g)) [
+      | true ↦ on (next (places (e .words) g) (confOf (e .words) g x t b) ((slotsOf (e .words) g t (getD (e .from) (x .pc) 0)) .second) (bindsOf (e .words) g b))
+      | false ↦ back (confOf (e .words) g x t b)
+    ]
+        ≡ asTurn (afterTurn (when q (turned (dropped (e .from) (t .ats) (t .backs) (counted x)) t) (turned (lived (counted x) 2) t)) b room)
+    unfolding asTurn afterTurn when confOf slotsOf next dropped moved lived counted
+    test-turn true = rw (add-one (x .pc))
+    test-turn false = refl
+
+    strip-turn : exec (places (e .words) g) strip (confOf (e .words) g x t b) ≡ asTurn (stepAt 1)
+    unfolding asTurn afterTurn stepAt when confOf exec next stepBy moved counted
+    strip-turn = rw (add-one (x .pc))
+
+    pub bind-turn : length b ≡ 16 → getD (e .arg) (x .pc) 0 < 16
+        → exec (places (e .words) g) (bind (getD (e .arg) (x .pc) 0) (getD (e .from) (x .pc) 0)) (confOf (e .words) g x t b) ≡ asTurn (takeBind e (run x t b room))
+    unfolding asTurn when confOf exec next dropped moved counted takeBind slotsOf bindsOf
+    bind-turn lb v =
+        rw (add-one (x .pc)) (ap (λ z. on (record { pc = suc (x .pc); cur = (slotsOf (e .words) g t (getD (e .from) (x .pc) 0)) .second; top = x .top; slots = slotsOf (e .words) g t; binds = z }))
+        (sym (table-set b (getD (e .arg) (x .pc) 0) (binding (x .at) (x .marks)) nothing (omega arith))))
+
+    collection-turn : (m : Matcher) → matcherAt (e .matcher) (getD (e .mat) (x .pc) 0) ≡ m
+        → isSame (e .words) m (getD (e .con) (x .pc) (pos 0)) (getD b (getD (e .arg) (x .pc) 0) nothing) (binding (x .at) (x .marks))
+        ≡ equal m (holds (e .words) (getD b (getD (e .arg) (x .pc) 0) nothing)) (holds (e .words) (binding (x .at) (x .marks)))
+        → exec (places (e .words) g) (test (asValue m (getD (e .arg) (x .pc) 0) (getD (e .con) (x .pc) (pos 0))) (getD (e .from) (x .pc) 0)) (confOf (e .words) g x t b)
+        ≡ asTurn (stepAt 6)
+    unfolding exec check stepAt when stepBy passesOf askOf boundAt equalAt holds confOf bindsOf slotsOf counted
+    collection-turn m f q =
+        ap (λ (q : Bool). elim q as (λ _. Turn (places (e .words) g)) [
+          | true ↦ on (next (places (e .words) g) (confOf (e .words) g x t b) ((slotsOf (e .words) g t (getD (e .from) (x .pc) 0)) .second) (bindsOf (e .words) g b))
+          | false ↦ back (confOf (e .words) g x t b)
+        ])
+        (q ∙ ap (λ (k : Matcher). equal k (holds (e .words) (getD b (getD (e .arg) (x .pc) 0) nothing)) (holds (e .words) (binding (x .at) (x .marks)))) (sym f))
+        ∙ test-turn (equal (matcherAt (e .matcher) (getD (e .mat) (x .pc) 0)) (holds (e .words) (getD b (getD (e .arg) (x .pc) 0) nothing)) (holds (e .words) (binding (x .at) (x .marks))))
+
+    takes-same : (m : Matcher) → takes m 4 ≡ true
+        → isSame (e .words) m (getD (e .con) (x .pc) (pos 0)) (getD b (getD (e .arg) (x .pc) 0) nothing) (binding (x .at) (x .marks))
+        ≡ equal m (holds (e .words) (getD b (getD (e .arg) (x .pc) 0) nothing)) (holds (e .words) (binding (x .at) (x .marks)))
+    unfolding isSame takes
+    takes-same something h = refl
+    takes-same integer h = let z : _≡_ {A = ℕ} 0 1 = cc in absurd (omega arith)
+    takes-same (list m) h = refl
+    takes-same (multiset m) h = refl
+
+    split-turn : Long t → x .pc < 390 → (c : ℕ) (q : Bool) → back (opening (places (e .words) g) (confOf (e .words) g x t b) (when q none (some c)))
+        ≡ asTurn (afterTurn (when q (turned (lived (counted x) 2) t) (turned (numbers.pushed (counted x)) (pushedIn c (counted x) t))) b room)
+    unfolding asTurn afterTurn when confOf opening pushed lived counted numbers.pushed slotsOf
+    split-turn l h c true = refl
+    split-turn l h c false =
+        rw (add-one (x .pc)) (ap (λ z. back (record { pc = x .pc; cur = binding (x .at) (x .marks); top = suc (x .pc); slots = z; binds = bindsOf (e .words) g b }))
+        (sym (slots-push (e .words) g c (counted x) t l h)))
+
+    -- An instruction that takes up a state with an atom left, and is no bind.
+    pub step-turn : (i : Instr) → Means (e .matcher) (e .vars) (lineAt e (x .pc)) i → (getD (e .op) (x .pc) 0 ≡ 0 → ⊥) → (getD (e .op) (x .pc) 0 ≡ 3 → ⊥) → Long t → x .pc < 390
+        → exec (places (e .words) g) i (confOf (e .words) g x t b) ≡ asTurn (takeStep e (run x t b room))
+    unfolding stepAt when exec check confOf bindsOf slotsOf stepBy passesOf askOf boundAt splitOf opensOf noneOf opens opensBy operations.code isSame isNumber isNone counted lineAt
+    step-turn i (means-end z) n k l h = absurd (n z)
+    step-turn i (means-strip z) n k l h = strip-turn ∙ step-at z
+    step-turn i (means-drop z) n k l h = test-turn true ∙ step-at z
+    step-turn i (means-bind z) n k l h = absurd (k z)
+    step-turn i (means-constant z) n k l h = test-turn (same (getD (e .words) (x .at + 1) (pos 0)) (getD (e .con) (x .pc) (pos 0))) ∙ step-at z
+    step-turn i (means-integer z) n k l h =
+        test-turn (isSame (e .words) integer (getD (e .con) (x .pc) (pos 0)) (getD b (getD (e .arg) (x .pc) 0) nothing) (binding (x .at) (x .marks))) ∙ step-at z
+    step-turn i (means-value m z c a) n k l h = collection-turn m (matcher-at m a) (takes-same m c) ∙ step-at z
+    step-turn i (means-nil m z) n k l h = test-turn (eqb (x .marks) 0) ∙ step-at z
+    step-turn i (means-list m z) n k l h = split-turn l h (2 ^ trailingZeros 64 (x .marks)) (eqb (x .marks) 0) ∙ step-at z
+    step-turn i (means-multiset m z) n k l h = split-turn l h (x .marks) (eqb (x .marks) 0) ∙ step-at z
+    step-turn i (means-join m z) n k l h = split-turn l h 0 false ∙ step-at z
+
+  -- ---- The next choice.
+
+  module _ (x : State) (t : Tables) (b : List Binding) (l : Long t) where
+    -- What stands after a choice.
+    unfoldable pub stands : Turned → Option (Conf (places (e .words) g))
+    stands u = standing (e .words) g (u .state) (u .tables) b
+
+    choice-stands : (more at m w j : ℕ) → j < 390 → x .top ≡ suc j
+        → some (record {
+          pc = suc j;
+          cur = binding at m;
+          top = topAfter (places (e .words) g) j (slotsOf (e .words) g t j) (someOf more);
+          binds = bindsOf (e .words) g b;
+          slots = put (slotsOf (e .words) g t) j (slotAfter (places (e .words) g) (slotsOf (e .words) g t j) (someOf more) (binding (getD (t .ats) j 0) w));
+        })
+        ≡ standing (e .words) g (topLeft more j (t .lows) (moved x (j + 1) at m)) (tables (t .ats) (t .wholes) (nowLeft more j (t .lefts)) (t .lows) (set (t .backs) j w)) b
+    unfolding standing confOf topLeft topped moved topAfter someOf when slotsOf
+    choice-stands more at m w j h f =
+        ap (λ z. some (record { pc = suc j; cur = binding at m; top = topAfter (places (e .words) g) j (slotsOf (e .words) g t j) (someOf more); binds = bindsOf (e .words) g b; slots = z }))
+        (sym (slots-pick (e .words) g more w j t l h))
+        ∙ go (eqb more 0)
+      where
+        new : Tables
+        new = tables (t .ats) (t .wholes) (nowLeft more j (t .lefts)) (t .lows) (set (t .backs) j w)
+
+        go : (q : Bool) → some (record {
+          pc = suc j;
+          cur = binding at m;
+          top = topAfter (places (e .words) g) j (slotsOf (e .words) g t j) (when q none (some more));
+          binds = bindsOf (e .words) g b;
+          slots = slotsOf (e .words) g new;
+        })
+            ≡ standing (e .words) g (when q (topped (moved x (j + 1) at m) (getD (t .lows) j 0)) (moved x (j + 1) at m)) new b
+        go true = rw (add-one j)
+        go false = rw (add-one j, f)
+
+    cons-stands : (j : ℕ) → j < 390 → x .top ≡ suc j
+        → some (chosen (places (e .words) g) (confOf (e .words) g x t b) j
+        (takePlace (e .words) (binding (getD (t .ats) j 0) (getD (t .wholes) j 0)) (getD (t .lefts) j 0) (trailingZeros 64 (getD (t .lefts) j 0))))
+        ≡ stands (consOf (e .words) j x t)
+    unfolding stands chosen confOf consOf consBy takePlace slotsOf
+    cons-stands j h f =
+        choice-stands (clear k (getD (t .lefts) j 0)) (elementAt (e .words) (getD (t .ats) j 0) k) (wholeAt (e .words) (elementAt (e .words) (getD (t .ats) j 0) k))
+        (clear k (getD (t .wholes) j 0)) j h f
+      where
+        k : ℕ
+        k = trailingZeros 64 (getD (t .lefts) j 0)
+
+    -- The choice at j.
+    choose-is : (j : ℕ) (i : Instr) → Means (e .matcher) (e .vars) (lineAt e j) i → 7 < getD (e .op) j 0 → j < 390 → x .top ≡ suc j
+        → choose (places (e .words) g) i j (confOf (e .words) g x t b) ≡ stands (when (eqb (getD (e .op) j 0) 10) (joinOf j x t) (consOf (e .words) j x t))
+    unfolding stands choose chosen confOf slotsOf joinOf joinBy pick takeFront when lineAt
+    choose-is j i (means-end z) o h f = absurd (omega arith)
+    choose-is j i (means-strip z) o h f = absurd (omega arith)
+    choose-is j i (means-drop z) o h f = absurd (omega arith)
+    choose-is j i (means-bind z) o h f = absurd (omega arith)
+    choose-is j i (means-constant z) o h f = absurd (omega arith)
+    choose-is j i (means-integer z) o h f = absurd (omega arith)
+    choose-is j i (means-value k z y a) o h f = absurd (omega arith)
+    choose-is j i (means-nil k z) o h f = absurd (omega arith)
+    choose-is j i (means-list k z) o h f = rw z (cons-stands j h f)
+    choose-is j i (means-multiset k z) o h f = rw z (cons-stands j h f)
+    choose-is j i (means-join k z) g h f =
+        rw z (choice-stands (longerOf (getD (t .lefts) j 0) (getD (t .wholes) j 0 - getD (t .lefts) j 0)) (getD (t .ats) j 0) (getD (t .lefts) j 0)
+        (getD (t .wholes) j 0 - getD (t .lefts) j 0) j h f)
+
+    pub pick-is : (code : ℕ → Instr) (n : ℕ) → x .top ≡ n → ((j : ℕ) → n ≡ suc j → Means (e .matcher) (e .vars) (lineAt e j) (code j)) → ((n ≡ 0 → ⊥) → 7 < getD (e .op) (n - 1) 0) → n ≤ 390
+        → nextChoice (places (e .words) g) code n (confOf (e .words) g x t b) ≡ stands (pickOf (e .op) (e .words) x t)
+    unfolding nextChoice stands pickOf standing lived when
+    pick-is code zero f m o h = rw f
+    pick-is code (suc j) f m o h =
+        let p : x .top - 1 ≡ j = omega arith in
+        let q : suc j - 1 ≡ j = omega arith in
+        let u : x .top ≡ 0 → ⊥ = λ z. omega arith in
+        rw (ne-eqb (x .top) 0 u, p) (choose-is j (code j) (m j refl) (rw q at (o (λ z. omega arith))) (omega arith) f)

@@ -1,0 +1,5 @@
+-- The definitions that this layer cites.
+pub mod Run
+pub mod Valid
+pub mod Meaning
+pub mod Searched

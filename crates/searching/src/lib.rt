@@ -1,0 +1,255 @@
+// Document 01, section 4: "a run takes up states until none remain or the budget is used". The bindings are sixteen structs by value, beside the state.
+use holding::equality::equal;
+use holding::equality::is_sum;
+use holding::places::ends_of;
+use holding::places::places_of;
+use holding::places::whole;
+use holding::rows::Binding;
+use holding::rows::bind;
+use holding::rows::put_row;
+use holding::rows::row_size;
+use stepping::State;
+ghost use mathlib.Core.Path.{_≡_};
+ghost use Prim.Native.Nat.{_-_, _<_};
+ghost use lib.ListN.{length};
+ghost use Rattle.program.specs.Lines.{columns};
+ghost use Rattle.holding.specs.Places.{Target};
+ghost use Rattle.stepping.specs.Steps.{tables};
+ghost use Rattle.searching.specs.Run.{env, run, ended, endOf, taken, runOf, answerOf, matched};
+ghost use Rattle.searching.specs.Valid.{Given, Rows, Takes, Fine, Valid};
+ghost use Rattle.searching.specs.Searched.{Searched};
+
+// A number of a line, as an index.
+fn index(x: u8) -> usize
+    ensures { λ r. ⌜ r ≡ x ⌝ }
+{
+    x as usize
+}
+
+// The row of a state with no atom left, if it fits.
+fn finish(
+    mut x: State,
+    b: [Binding; 16],
+    n: usize,
+    s: &[i32],
+    ends: &[u16; 512],
+    base: &[u16; 512],
+    places: &[u16; 512],
+    room: &mut [i32],
+) -> State
+    requires { ⌜ Given (now s) (now ends) (now base) (now places) ⌝ ∗ ⌜ Rows (now s) b n x (now room) ⌝ }
+    ensures { λ r. ⌜ ended r (now (room .exit)) ≡ endOf (now (s .entry)) n x b (now (room .entry)) ⌝ }
+{
+    let size = row_size(s, ends, base, places, b, n);
+    let w = x.words;
+    x.steps = x.steps + 1;
+    if room.len() - w < size {
+        x.live = 3;
+        return x;
+    }
+    x.words = put_row(s, ends, base, places, b, n, room, w);
+    x.rows = x.rows + 1;
+    x.live = 2;
+    x
+}
+
+// A state is taken up: its row, or a step.
+fn take(
+    x: State,
+    o: u8,
+    q: bool,
+    b: [Binding; 16],
+    n: usize,
+    s: &[i32],
+    ends: &[u16; 512],
+    base: &[u16; 512],
+    places: &[u16; 512],
+    op: &[u8; 390],
+    from: &[u16; 390],
+    con: &[i32; 390],
+    ats: &mut [u16; 390],
+    wholes: &mut [u64; 390],
+    lefts: &mut [u64; 390],
+    lows: &mut [u16; 390],
+    backs: &[u64; 390],
+    room: &mut [i32],
+) -> State
+    requires { ⌜ Given (now s) (now ends) (now base) (now places) ⌝ ∗ ⌜ Takes o (now s) (now from) b n x (now room) ⌝ }
+    ensures { λ r. ⌜ run r (tables (now (ats .exit)) (now (wholes .exit)) (now (lefts .exit)) (now (lows .exit)) (now (backs .entry))) b (now (room .exit)) ≡ taken o q (now (op .entry)) (now (from .entry)) (now (con .entry)) (now (s .entry)) n (run x (tables (now (ats .entry)) (now (wholes .entry)) (now (lefts .entry)) (now (lows .entry)) (now (backs .entry))) b (now (room .entry))) ⌝ }
+{
+    if o == 0 {
+        return finish(x, b, n, s, ends, base, places, room);
+    }
+    x.step(q, s, op, from, con, ats, wholes, lefts, lows, backs)
+}
+
+pub struct Found {
+    pub state: State,
+    pub binds: [Binding; 16],
+}
+
+// The run: states are taken up while the budget lasts, and the next choice is taken wherever no state stands.
+pub fn advance(
+    first: State,
+    given: [Binding; 16],
+    budget: u64,
+    n: usize,
+    mt: &[i32],
+    s: &[i32],
+    ends: &[u16; 512],
+    base: &[u16; 512],
+    places: &[u16; 512],
+    op: &[u8; 390],
+    from: &[u16; 390],
+    arg: &[u8; 390],
+    mat: &[u8; 390],
+    con: &[i32; 390],
+    ats: &mut [u16; 390],
+    wholes: &mut [u64; 390],
+    lefts: &mut [u64; 390],
+    lows: &mut [u16; 390],
+    backs: &mut [u64; 390],
+    room: &mut [i32],
+) -> Found
+    requires { ⌜ Given (now s) (now ends) (now base) (now places) ⌝ ∗ ⌜ Fine (env (now op) (now from) (now arg) (now mat) (now con) (now mt) (now s) n) ⌝ ∗ ⌜ Valid (env (now op) (now from) (now arg) (now mat) (now con) (now mt) (now s) n) (run first (tables (now ats) (now wholes) (now lefts) (now lows) (now backs)) given (now room)) ⌝ }
+    ensures { λ r. ⌜ run (r .state) (tables (now (ats .exit)) (now (wholes .exit)) (now (lefts .exit)) (now (lows .exit)) (now (backs .exit))) (r .binds) (now (room .exit)) ≡ runOf (env (now (op .entry)) (now (from .entry)) (now (arg .entry)) (now (mat .entry)) (now (con .entry)) (now (mt .entry)) (now (s .entry)) n) (budget - first .steps) (run first (tables (now (ats .entry)) (now (wholes .entry)) (now (lefts .entry)) (now (lows .entry)) (now (backs .entry))) given (now (room .entry))) ⌝ }
+{
+    let mut x = first;
+    let mut b = given;
+    while x.live == 1 {
+        let steps = x.steps;
+        if budget <= steps {
+            return Found { state: x, binds: b };
+        }
+        let pc = x.pc;
+        let at = x.at;
+        let m = x.marks;
+        let o = op[pc];
+        let v = index(arg[pc]);
+        let mut q = false;
+        if o == 3 {
+            b = bind(b, v, Binding { at: at, marks: m });
+        } else if o == 5 {
+            let y = b[v];
+            let g = y.at;
+            let c = con[pc];
+            q = is_sum(s, g, c, at);
+        } else if o == 6 {
+            let y = b[v];
+            let g = y.at;
+            let k = y.marks;
+            let i = index(mat[pc]);
+            q = equal(mt, i, s, base, places, g, k, at, m);
+        }
+        x = take(
+            x,
+            o,
+            q,
+            b,
+            n,
+            s,
+            ends,
+            base,
+            places,
+            op,
+            from,
+            con,
+            ats,
+            wholes,
+            lefts,
+            lows,
+            backs,
+            room,
+        );
+        x = x.settle(s, base, places, op, ats, wholes, lefts, lows, backs);
+    }
+    Found { state: x, binds: b }
+}
+
+pub struct Report {
+    pub answer: u32,
+    pub rows: u64,
+    pub steps: u64,
+    pub words: usize,
+}
+
+// The answer: 8 full, 0 done, 7 budget.
+fn answer_of(live: u64) -> u32
+    ensures { λ r. ⌜ r ≡ answerOf live ⌝ }
+{
+    if live == 3 {
+        return 8;
+    }
+    if live == 0 {
+        return 0;
+    }
+    7
+}
+
+// The whole run of a program on a target, from its first state.
+pub fn search(
+    budget: u32,
+    n: usize,
+    mt: &[i32],
+    s: &[i32],
+    op: &[u8; 390],
+    from: &[u16; 390],
+    arg: &[u8; 390],
+    mat: &[u8; 390],
+    con: &[i32; 390],
+    room: &mut [i32],
+) -> Report
+    requires { ⌜ Target (now s) ⌝ ∗ ⌜ 0 < length (now s) ⌝ ∗ ⌜ Fine (env (now op) (now from) (now arg) (now mat) (now con) (now mt) (now s) n) ⌝ }
+    ensures { λ r. ⌜ Searched (env (now (op .entry)) (now (from .entry)) (now (arg .entry)) (now (mat .entry)) (now (con .entry)) (now (mt .entry)) (now (s .entry)) n) budget (now (room .entry)) (matched (r .answer) (r .rows) (r .steps) (r .words) (now (room .exit))) ⌝ }
+{
+    let mut ends = [0u16; 512];
+    let mut base = [0u16; 512];
+    let mut places = [0u16; 512];
+    ends_of(s, &mut ends);
+    places_of(s, &ends, &mut base, &mut places);
+    let mut ats = [0u16; 390];
+    let mut wholes = [0u64; 390];
+    let mut lefts = [0u64; 390];
+    let mut lows = [0u16; 390];
+    let mut backs = [0u64; 390];
+    let given = [Binding { at: 0, marks: 0 }; 16];
+    let first = State {
+        pc: 0,
+        at: 0,
+        marks: whole(s, 0),
+        top: 0,
+        live: 1,
+        rows: 0,
+        steps: 0,
+        words: 0,
+    };
+    let found = advance(
+        first,
+        given,
+        budget as u64,
+        n,
+        mt,
+        s,
+        &ends,
+        &base,
+        &places,
+        op,
+        from,
+        arg,
+        mat,
+        con,
+        &mut ats,
+        &mut wholes,
+        &mut lefts,
+        &mut lows,
+        &mut backs,
+        room,
+    );
+    let x = found.state;
+    Report {
+        answer: answer_of(x.live),
+        rows: x.rows,
+        steps: x.steps,
+        words: x.words,
+    }
+}

@@ -1,0 +1,91 @@
+-- Match's answer by its tests, as the code asks for it. Assumes nothing.
+use Prim.Native.Nat.{ℕ, zero, suc, _≤_, _<_}
+use native.Mathlib.Omega.{arith}
+use mathlib.Core.Path.{_≡_, refl, sym, ap, _∙_}
+use mathlib.Core.List.{List}
+use lib.ListN.{length, replicate}
+use lib.IntN.{ℤ, pos}
+use Rattle.rules.specs.Forms.{Matcher, Value}
+use Rattle.rules.specs.Reading.{Verdict, ok, fault, readMatcher}
+use Rattle.rules.specs.Services.{Judged, accepted, refused, test, Rule, ruleOf, targetOf, turnedAway, matchTarget, matchRule, match}
+use Rattle.rules.specs.Services as paper
+use Rattle.promises.specs.Faults.{rule-accepted, Sane, sane-exactly}
+use Rattle.program.specs.Accepted.{matcher-short, pattern-short}
+use Rattle.program.specs.Lines.{columns, linesOf, variablesIn, laid}
+use Rattle.program.specs.Columns.{Holds, compiled-zeros}
+use Rattle.holding.specs.Places.{Target}
+use Rattle.searching.specs.Run.{env}
+use Rattle.searching.specs.Valid.{Fine}
+use Rattle.searching.specs.Searched.{Searched}
+use Rattle.searching.proofs.Accepted.{accepted-target, accepted-some, accepted-fine, accepted-match}
+use Rattle.reading.specs.Tests.{judgement, targetUnder}
+use Rattle.reading.specs.declared.refusal.Judgement.{Judgement}
+use Rattle.reading.specs.declared.refusal.Judgement.the-variants.{Accepted, Refused}
+use Rattle.services.specs.Matches.{Ready}
+
+-- ---- What a judgement says.
+
+was-accepted : {A : Type 0} (j : Judged A) (x : Judgement) → x ≡ judgement j → x ≡ Accepted → (a : A) × (j ≡ accepted a)
+unfolding judgement
+was-accepted (accepted a) x p q = (a, refl)
+was-accepted (refused a i) x p q = let z : _≡_ {A = ℕ} 0 1 = cc in absurd (omega arith)
+
+was-refused : {A : Type 0} (j : Judged A) (x : Judgement) (a i : ℕ) → x ≡ judgement j → x ≡ Refused a i → j ≡ refused a i
+unfolding judgement
+was-refused (accepted b) x a i p q = let z : _≡_ {A = ℕ} 0 1 = cc in absurd (omega arith)
+was-refused (refused b k) x a i p q = let e : a ≡ b = cc in let f : i ≡ k = cc in rw (e, f)
+
+-- The tests 5 and 6 are those under the rule's matcher.
+under : (ms ps ts : List ℤ) (r : Rule) → ruleOf ms ps ≡ accepted r → targetUnder ms ts ≡ targetOf (r .matcher) ts
+unfolding targetUnder test
+under ms ps ts r e = let m = rule-accepted ms ps r .0 e .matcher in rw m
+
+-- ---- The answers 1 to 6.
+
+module _ (ms ps ts : List ℤ) (budget : ℕ) (room : List ℤ) (x : Judgement) (p : x ≡ judgement (ruleOf ms ps)) where
+  pub rule-away : (a i : ℕ) → x ≡ Refused a i → turnedAway a i room ≡ match ms ps ts budget room
+  unfolding match
+  rule-away a i q = sym (ap (matchRule budget room ts) (was-refused (ruleOf ms ps) x a i p q))
+
+  module _ (ok : x ≡ Accepted) (y : Judgement) (k : y ≡ judgement (targetUnder ms ts)) where
+    pub target-away : (a i : ℕ) → y ≡ Refused a i → turnedAway a i room ≡ match ms ps ts budget room
+    unfolding match matchRule
+    target-away a i q =
+        let r = was-accepted (ruleOf ms ps) x p ok in
+        let t = was-refused (targetOf (r .0 .matcher) ts) y a i (k ∙ ap judgement (under ms ps ts (r .0) (r .1))) q in
+        sym (ap (matchRule budget room ts) (r .1) ∙ ap (matchTarget budget room (r .0)) t)
+
+pub both-ready : (ms ps ts : List ℤ) (x y : Judgement) → x ≡ judgement (ruleOf ms ps) → x ≡ Accepted → y ≡ judgement (targetUnder ms ts) → y ≡ Accepted → Ready ms ps ts
+both-ready ms ps ts x y p q k l =
+    let r = was-accepted (ruleOf ms ps) x p q in
+    let v = was-accepted (targetOf (r .0 .matcher) ts) y (k ∙ ap judgement (under ms ps ts (r .0) (r .1))) l in
+    record { rule = r .0; value = v .0; rule-is = r .1; value-is = v .1 }
+
+-- ---- Input that is accepted.
+
+pub ready-sane : {ms ps ts : List ℤ} (g : Ready ms ps ts) → Sane ms ps ts (g .rule) (g .value)
+ready-sane {ms} {ps} {ts} g = sane-exactly ms ps ts (g .rule) (g .value) .0 (g .rule-is, g .value-is)
+
+pub matcher-few : (ms ps ts : List ℤ) → Ready ms ps ts → length ms < 256
+matcher-few ms ps ts g = let h = matcher-short ms ps (g .rule) (g .rule-is) in omega arith
+
+pub pattern-few : (ms ps ts : List ℤ) → Ready ms ps ts → length ps ≤ 256
+pattern-few ms ps ts g = pattern-short ms ps (g .rule) (g .rule-is)
+
+pub ready-target : (ms ps ts : List ℤ) → Ready ms ps ts → Target ts
+ready-target ms ps ts g = accepted-target ms ps ts (g .rule) (g .value) (ready-sane g)
+
+pub ready-some : (ms ps ts : List ℤ) → Ready ms ps ts → 0 < length ts
+ready-some ms ps ts g = accepted-some ms ps ts (g .rule) (g .value) (ready-sane g)
+
+-- The compiled rule, in arrays that held zeros.
+module _ (ms ps ts : List ℤ) (n : ℕ) (op from arg mat : List ℕ) (con : List ℤ) (g : Ready ms ps ts) (vars : n ≡ variablesIn (linesOf ms ps))
+    (is : columns op from arg mat con ≡ laid 0 (linesOf ms ps) (columns (replicate 390 0) (replicate 390 0) (replicate 390 0) (replicate 390 0) (replicate 390 (pos 0)))) where
+  holds : Holds ms (g .rule) n (columns op from arg mat con)
+  holds = compiled-zeros ms ps (g .rule) (g .rule-is) n (columns op from arg mat con) vars is
+
+  pub ready-fine : Fine (env op from arg mat con ms ts n)
+  ready-fine = accepted-fine ms ts (g .rule) n op from arg mat con holds
+
+  pub ready-match : (budget : ℕ) (room : List ℤ) (out : paper.Matched) → Searched (env op from arg mat con ms ts n) budget room out → out ≡ match ms ps ts budget room
+  ready-match budget room out s = accepted-match ms ts (g .rule) n op from arg mat con holds ps (g .value) (ready-sane g) budget room out s

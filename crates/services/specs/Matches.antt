@@ -1,0 +1,18 @@
+-- What match's answer stands for, and input that none of the tests 1 to 6 refuses.
+use mathlib.Core.Path.{_≡_}
+use mathlib.Core.List.{List}
+use lib.IntN.{ℤ}
+use Rattle.rules.specs.Forms.{Value}
+use Rattle.rules.specs.Services.{accepted, Rule, ruleOf, targetOf}
+use Rattle.rules.specs.Services as paper
+use Rattle.services.specs.declared.matching.Matched.{Matched}
+
+-- Document 01's five numbers, and what the room holds.
+unfoldable pub told : Matched → List ℤ → paper.Matched
+told r room = record { answer = r .answer; place = r .place; rows = r .rows; steps = r .steps; words = r .words; room = room }
+
+pub record Ready (ms ps ts : List ℤ) : Type 0 where
+  pub rule : Rule
+  pub value : Value
+  pub rule-is : ruleOf ms ps ≡ accepted rule
+  pub value-is : targetOf (rule .matcher) ts ≡ accepted value

@@ -1,0 +1,4 @@
+// The services of document 01.
+pub mod matching;
+pub mod review;
+pub mod tally;

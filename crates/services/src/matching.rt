@@ -1,0 +1,94 @@
+// The service match: a rule's rows on a target, written into a lent room.
+use program::compile;
+use reading::refusal::Judgement;
+use reading::refusal::rule_refused;
+use reading::refusal::target_refused;
+use searching::search;
+ghost use mathlib.Core.Path.{_≡_};
+ghost use Rattle.rules.specs.Services.{match};
+ghost use Rattle.services.specs.Matches.{Ready, told};
+
+pub struct Matched {
+    pub answer: u32,
+    pub place: usize,
+    pub rows: u64,
+    pub steps: u64,
+    pub words: usize,
+}
+
+// The run of a rule and a target that were accepted.
+fn carry_out(
+    matcher: &[i32],
+    pattern: &[i32],
+    target: &[i32],
+    budget: u32,
+    room: &mut [i32],
+) -> Matched
+    requires { ⌜ Ready (now matcher) (now pattern) (now target) ⌝ }
+    ensures { λ r. ⌜ told r (now (room .exit)) ≡ match (now (matcher .entry)) (now (pattern .entry)) (now (target .entry)) budget (now (room .entry)) ⌝ }
+{
+    let mut op = [0u8; 390];
+    let mut from = [0u16; 390];
+    let mut arg = [0u8; 390];
+    let mut mat = [0u8; 390];
+    let mut con = [0i32; 390];
+    let n = compile(
+        matcher,
+        pattern,
+        &mut op,
+        &mut from,
+        &mut arg,
+        &mut mat,
+        &mut con,
+    );
+    let r = search(
+        budget,
+        n,
+        matcher,
+        target,
+        &op,
+        &from,
+        &arg,
+        &mat,
+        &con,
+        room,
+    );
+    Matched {
+        answer: r.answer,
+        place: 0,
+        rows: r.rows,
+        steps: r.steps,
+        words: r.words,
+    }
+}
+
+// Match, for every input: answers 1 to 6 leave the room as it was.
+pub fn match_units(
+    matcher: &[i32],
+    pattern: &[i32],
+    target: &[i32],
+    budget: u32,
+    room: &mut [i32],
+) -> Matched
+    ensures { λ r. ⌜ told r (now (room .exit)) ≡ match (now (matcher .entry)) (now (pattern .entry)) (now (target .entry)) budget (now (room .entry)) ⌝ }
+{
+    if let Judgement::Refused(a, i) = rule_refused(matcher, pattern) {
+        return Matched {
+            answer: a,
+            place: i,
+            rows: 0,
+            steps: 0,
+            words: 0,
+        };
+    }
+    if let Judgement::Refused(a, i) = target_refused(matcher, target) {
+        return Matched {
+            answer: a,
+            place: i,
+            rows: 0,
+            steps: 0,
+            words: 0,
+        };
+    }
+    carry_out(matcher, pattern, target, budget, room)
+}

@@ -1,0 +1,91 @@
+// The service review: the worst count of steps of a rule, for a largest collection.
+use super::tally::Tally;
+use super::tally::tallied;
+use program::compile;
+use reading::refusal::Judgement;
+use reading::refusal::rule_refused;
+use words::tag_of;
+ghost use mathlib.Core.Path.{_≡_};
+ghost use Prim.Native.Nat.{_≤_};
+ghost use Rattle.rules.specs.Services.{ruleOf, reviewRule, review};
+ghost use Rattle.services.specs.Reviews.{Sound, countUnder, reviewed};
+
+pub struct Reviewed {
+    pub answer: u32,
+    pub place: usize,
+    pub count: u64,
+}
+
+pub const CAP: u32 = 9;
+
+pub const TOO_BIG: u32 = 10;
+
+// A tag as a wide number.
+fn wide(x: u32) -> u64
+    ensures { λ r. ⌜ r ≡ x ⌝ }
+{
+    x as u64
+}
+
+// The count of a rule that was accepted.
+fn count_of(matcher: &[i32], pattern: &[i32], cap: u64) -> Tally
+    requires { ⌜ Sound (ruleOf (now matcher) (now pattern)) ⌝ ∗ ⌜ cap ≤ 64 ⌝ }
+    ensures { λ r. ⌜ r ≡ countUnder cap (ruleOf (now (matcher .entry)) (now (pattern .entry))) ⌝ }
+{
+    let mut op = [0u8; 390];
+    let mut from = [0u16; 390];
+    let mut arg = [0u8; 390];
+    let mut mat = [0u8; 390];
+    let mut con = [0i32; 390];
+    compile(
+        matcher,
+        pattern,
+        &mut op,
+        &mut from,
+        &mut arg,
+        &mut mat,
+        &mut con,
+    );
+    tallied(&op, cap)
+}
+
+// Tests 9 and 10, for a rule that was accepted.
+fn of_rule(matcher: &[i32], pattern: &[i32], cap: i32) -> Reviewed
+    requires { ⌜ Sound (ruleOf (now matcher) (now pattern)) ⌝ }
+    ensures { λ r. ⌜ reviewed r ≡ reviewRule cap (ruleOf (now (matcher .entry)) (now (pattern .entry))) ⌝ }
+{
+    let most = tag_of(cap);
+    if 64 < most {
+        return Reviewed {
+            answer: CAP,
+            place: 0,
+            count: 0,
+        };
+    }
+    match count_of(matcher, pattern, wide(most)) {
+        Tally::Count(n) => Reviewed {
+            answer: 0,
+            place: 0,
+            count: n,
+        },
+        Tally::TooBig => Reviewed {
+            answer: TOO_BIG,
+            place: 0,
+            count: 0,
+        },
+    }
+}
+
+// Review, for every input.
+pub fn review(matcher: &[i32], pattern: &[i32], cap: i32) -> Reviewed
+    ensures { λ r. ⌜ reviewed r ≡ review (now (matcher .entry)) (now (pattern .entry)) cap ⌝ }
+{
+    match rule_refused(matcher, pattern) {
+        Judgement::Refused(a, i) => Reviewed {
+            answer: a,
+            place: i,
+            count: 0,
+        },
+        Judgement::Accepted => of_rule(matcher, pattern, cap),
+    }
+}

@@ -1,0 +1,44 @@
+// Review's count, from the lines of a rule's program.
+ghost use mathlib.Core.Path.{_≡_};
+ghost use Prim.Native.Nat.{_≤_, _+_};
+ghost use Rattle.services.specs.Tally.{factorOf, sumFrom, within};
+
+pub enum Tally {
+    Count(u64),
+    TooBig,
+}
+
+// The factor of a line.
+fn factor(o: u8, cap: u64) -> u64
+    requires { ⌜ cap ≤ 64 ⌝ }
+    ensures { λ r. ⌜ r ≡ factorOf cap o ⌝ }
+{
+    match o {
+        9 => cap,
+        10 => cap + 1,
+        _ => 1,
+    }
+}
+
+// The count for a largest collection of `cap` elements. The sum never falls, so the first sum that is too big decides.
+pub fn tallied(op: &[u8; 390], cap: u64) -> Tally
+    requires { ⌜ cap ≤ 64 ⌝ }
+    ensures { λ r. ⌜ r ≡ within (sumFrom cap (now (op .entry)) 1 0 390) ⌝ }
+{
+    let mut total: u64 = 0;
+    let mut earlier: u64 = 1;
+    let mut pc: usize = 0;
+    while pc < 390 {
+        let o = op[pc];
+        total += earlier;
+        if 4294967295 < total {
+            return Tally::TooBig;
+        }
+        if o == 0 {
+            return Tally::Count(total);
+        }
+        earlier *= factor(o, cap);
+        pc += 1;
+    }
+    Tally::Count(total)
+}
