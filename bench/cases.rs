@@ -104,7 +104,7 @@ pub fn file(services: &Services, path: &str, count: &mut Count) {
     let bytes = std::fs::read(path).unwrap_or_else(|e| panic!("{path}: {e}"));
     match Path::new(path).file_name().and_then(|name| name.to_str()) {
         Some("published.txt") => published(services, std::str::from_utf8(&bytes).unwrap(), count),
-        Some("review.txt") => {
+        Some(name) if name.ends_with("review.txt") => {
             for (input, expected) in blocks(&bytes) {
                 count.see(path, &input, &expected, &review(services, &input));
             }

@@ -11,6 +11,9 @@ use lib.IntN.{ℤ, pos, negℤ}
 use Rattle.text.specs.Decimal.{newline, lineOf}
 use Rattle.text.specs.Rows.{cutRows, lines}
 use Rattle.text.specs.declared.rows.Rest.{Rest}
+use Rattle.text.specs.declared.Printed.{Printed}
+use Rattle.text.specs.declared.Printed.the-variants as Printed
+use Rattle.text.specs.Printed.{printed}
 use Rattle.text.specs.Question.{Limits, Lines, Question, wordsOf}
 use Rattle.text.specs.declared.number.Digits.{Digits}
 use Rattle.text.specs.declared.number.Signed.{Signed}
@@ -120,3 +123,12 @@ pub record Text (old new : List ℕ) (r : Rest) (text : List ℕ) : Type 0 where
   pub whole : take (r .at) new ++ replicate (r .lines) newline ≡ text
   pub kept : drop (r .at) new ≡ drop (r .at) old
   pub within : r .at ≤ length new
+
+unfoldable pub zeroWords : ℕ → List ℤ
+zeroWords n = replicate n (pos 0)
+
+-- What the whole library gives for an input.
+unfoldable pub Answer : (input old new : List ℕ) → Printed → Type 0
+unfolding printed
+Answer input old new (Printed.Text at lines) = (98304 ≤ length old) × Text old new (record { at = at; lines = lines }) (printed input)
+Answer input old new Printed.Short = (length old < 98304) × (new ≡ old)

@@ -1,7 +1,100 @@
-// The trial program's text: what it reads, and what it prints.
+// The trial program's text: from its input to what it prints.
 mod line;
 mod number;
 mod print;
 mod question;
 mod report;
 mod rows;
+
+use print::wide;
+use question::Asked;
+use question::read_input;
+use report::put_report;
+use report::put_unreadable;
+use report::values_of;
+use rows::Rest;
+use services::matching::match_units;
+ghost use mathlib.Core.Path.{_≡_};
+ghost use Prim.Native.Nat.{_≤_};
+ghost use lib.ListN.{length};
+ghost use Rattle.rules.specs.Services.{match};
+ghost use Rattle.text.specs.Printed.{variablesOf, report};
+ghost use Rattle.text.specs.Meaning.{Text, Answer, zeroWords};
+
+// How many bytes were written, and how many empty lines follow them; or nothing was written, since there are too few bytes for it.
+pub enum Printed {
+    Text(usize, u64),
+    Short,
+}
+
+// One question to match, printed.
+fn answered(m: &[i32], p: &[i32], t: &[i32], budget: u32, room: &mut [i32], out: &mut [u8]) -> Rest
+    requires { ⌜ length (now room) ≤ 4096 ⌝ }
+    requires { ⌜ 98304 ≤ length (now out) ⌝ }
+    ensures { λ r. ⌜ Text (now (out .entry)) (now (out .exit)) r (report (variablesOf (now (p .entry))) (match (now (m .entry)) (now (p .entry)) (now (t .entry)) budget (now (room .entry)))) ⌝ }
+{
+    let r = match_units(m, p, t, budget, room);
+    let n = r.words;
+    put_report(
+        out,
+        wide(r.answer),
+        r.place as u64,
+        r.rows,
+        r.steps,
+        n as u64,
+        &room[..n],
+        values_of(p),
+    )
+}
+
+// A table for the words of a line.
+fn table() -> [i32; 2000]
+    ensures { λ r. ⌜ 2000 ≡ length r ⌝ }
+{
+    [0; 2000]
+}
+
+// A room of zeros.
+fn zeros() -> [i32; 4096]
+    ensures { λ r. ⌜ r ≡ zeroWords 4096 ⌝ }
+{
+    [0; 4096]
+}
+
+fn text_of(r: Rest) -> Printed
+    ensures { λ p. ⌜ p ≡ Printed.Text (r .at) (r .lines) ⌝ }
+{
+    Printed::Text(r.at, r.lines)
+}
+
+// What the trial program prints for an input.
+pub fn answer(input: &[u8], out: &mut [u8]) -> Printed
+    ensures { λ r. ⌜ Answer (now (input .entry)) (now (out .entry)) (now (out .exit)) r ⌝ }
+{
+    if out.len() < 98304 {
+        return Printed::Short;
+    }
+    let mut m = table();
+    let mut p = table();
+    let mut t = table();
+    match read_input(input, &mut m, &mut p, &mut t) {
+        Asked::Other => text_of(put_unreadable(out)),
+        Asked::Of {
+            matcher,
+            pattern,
+            target,
+            budget,
+            room,
+        } => {
+            let mut words = zeros();
+            text_of(answered(
+                &m[..matcher],
+                &p[..pattern],
+                &t[..target],
+                budget,
+                &mut words[..room],
+                out,
+            ))
+        }
+    }
+}
