@@ -15,9 +15,9 @@ use Rattle.rules.specs.Services as paper
 use Rattle.services.specs.Matches.{told}
 use Rattle.services.specs.declared.matching.Matched.{Matched}
 use Rattle.text.specs.Decimal.{lineOf}
-use Rattle.text.specs.Rows.{cutRows, lines}
+use Rattle.text.specs.Rows.{cutRows, emptyRows, lines}
 use Rattle.text.specs.Question.{Question, asked}
-use Rattle.text.specs.Printed.{variablesOf, firstLine, report, matched, unreadable, answerTo, printed}
+use Rattle.text.specs.Printed.{variablesOf, firstLine, report, matched, unreadable, answerTo, printed, emptyReport, emptyTo, emptyLines}
 use Rattle.text.specs.Meaning.{Text, fiveLine, ofAsked, Few, zeroWords, Answer}
 use Rattle.text.specs.declared.rows.Rest.{Rest}
 use Rattle.text.specs.declared.question.Asked.{Asked}
@@ -47,6 +47,10 @@ words-in : (ms ps ts : List ℤ) (budget : ℕ) (room : List ℤ) → WordsIn ro
 unfolding match
 words-in ms ps ts budget room = words-rule budget room ts (ruleOf ms ps)
 
+empty-is : (r : Matched) (new : List ℤ) (values : ℕ) → emptyReport values (told r new) ≡ emptyRows values (r .rows) (take (r .words) new)
+unfolding emptyReport told
+empty-is r new values = refl
+
 report-is : (r : Matched) (new : List ℤ) (values : ℕ)
     → report values (told r new) ≡ fiveLine (r .answer) (r .place) (r .rows) (r .steps) (r .words) ++ lines (cutRows values (r .rows) (take (r .words) new))
 unfolding report firstLine fiveLine told
@@ -72,7 +76,11 @@ module _ (ms ps ts : List ℤ) (budget : ℕ) (room new : List ℤ) (r : Matched
       → Text old out rest (report (variablesOf ps) (match ms ps ts budget room))
   as-report old out rest values a b c d e ha hb hc hd he hv t = rw (← q, report-is r new (variablesOf ps)) (rw (ha, hb, hc, hd, he, hv) at t)
 
-pub ruleset answered-rules = (so-many, counted, few-words, as-report, needs)
+  pub as-empty : (values n : ℕ) → values ≡ variablesOf ps → n ≡ emptyRows values (r .rows) (take (r .words) new)
+      → n ≡ emptyReport (variablesOf ps) (match ms ps ts budget room)
+  as-empty values n hv h = rw (← q, empty-is r new (variablesOf ps)) (rw hv at h)
+
+pub ruleset answered-rules = (so-many, counted, few-words, as-report, as-empty, needs)
 
 -- ---- The whole way.
 
@@ -126,10 +134,10 @@ zeros-taken (suc n) zero h = absurd (omega arith)
 zeros-taken (suc n) (suc k) h = ap (λ (l : List ℤ). pos 0 ∷ l) (zeros-taken n k (omega arith))
 
 -- What is printed, and where it stands.
-stands : (input old new : List ℕ) (rest : Rest) (x : Printed) → 98304 ≤ length old → x ≡ Printed.Text (rest .at) (rest .lines) → Text old new rest (printed input)
-    → Answer input old new x
+stands : (input old new : List ℕ) (rest : Rest) (x : Printed) → 98304 ≤ length old → x ≡ Printed.Text (rest .at) (rest .lines)
+    → rest .lines ≡ emptyLines input → Text old new rest (printed input) → Answer input old new x
 unfolding Answer
-stands input old new rest x h e t = rw e (h, t)
+stands input old new rest x h e l t = rw e (h, l, t)
 
 asking : (ms ps ts : List ℤ) (budget room : ℕ) → Question
 asking ms ps ts budget room = record { matcher = ms; pattern = ps; target = ts; limits = record { budget = budget; room = room } }
@@ -143,18 +151,26 @@ answers-to : (input : List ℕ) (ms ps ts : List ℤ) (budget room : ℕ) → as
 unfolding printed answerTo matched zeroWords asking
 answers-to input ms ps ts budget room e = rw e
 
+empty-to : (input : List ℕ) (ms ps ts : List ℤ) (budget room : ℕ) → asked input ≡ some (asking ms ps ts budget room)
+    → emptyLines input ≡ emptyReport (variablesOf ps) (match ms ps ts budget (zeroWords room))
+unfolding emptyLines emptyTo matched zeroWords asking
+empty-to input ms ps ts budget room e = rw e
+
 module _ (input old new : List ℕ) (rest : Rest) (x : Printed) (h : 98304 ≤ length old) (y : x ≡ Printed.Text (rest .at) (rest .lines))
     (r : Asked) (m p t : List ℤ) (q : ofAsked r m p t ≡ asked input) where
-  pub not-read : r ≡ Asked.Other → Text old new rest unreadable → Answer input old new x
-  unfolding ofAsked printed answerTo
-  not-read e w = stands input old new rest x h y (rw (← q, e) w)
+  pub not-read : r ≡ Asked.Other → Text old new rest unreadable → rest .lines ≡ 0 → Answer input old new x
+  unfolding ofAsked printed answerTo emptyLines emptyTo
+  not-read e w l = stands input old new rest x h y (rw (← q, e) l) (rw (← q, e) w)
 
   pub was-read : (a b c d e : ℕ) (room : List ℤ) → r ≡ Asked.Of a b c d e → Few r → room ≡ zeroWords 4096
       → Text old new rest (report (variablesOf (take b p)) (match (take a m) (take b p) (take c t) d (take e room)))
+      → rest .lines ≡ emptyReport (variablesOf (take b p)) (match (take a m) (take b p) (take c t) d (take e room))
       → Answer input old new x
-  was-read a b c d e room o f z w =
+  was-read a b c d e room o f z w l =
       let k = each r f a b c d e o .3 in
-      let n = answers-to input (take a m) (take b p) (take c t) d e (sym q ∙ was-asked r m p t a b c d e o) in
-      stands input old new rest x h y (rw (n, ← zeros-taken e 4096 k, ← z) w)
+      let i = sym q ∙ was-asked r m p t a b c d e o in
+      let n = answers-to input (take a m) (take b p) (take c t) d e i in
+      let j = empty-to input (take a m) (take b p) (take c t) d e i in
+      stands input old new rest x h y (rw (j, ← zeros-taken e 4096 k, ← z) l) (rw (n, ← zeros-taken e 4096 k, ← z) w)
 
 pub ruleset answer-rules = (too-short, matcher-in, pattern-in, target-in, matcher-count, pattern-count, target-count, room-in, room-count, room-few, not-read, was-read, needs)

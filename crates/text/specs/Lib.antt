@@ -6,3 +6,4 @@ pub mod Printed
 pub mod Example
 -- What the code's own answers stand for.
 pub mod Meaning
+pub mod Unique

@@ -9,11 +9,11 @@ use lib.ListN.{length, take, drop, replicate}
 use lib.Seq.{sets}
 use lib.IntN.{ℤ, pos, negℤ}
 use Rattle.text.specs.Decimal.{newline, lineOf}
-use Rattle.text.specs.Rows.{cutRows, lines}
+use Rattle.text.specs.Rows.{cutRows, emptyRows, lines}
 use Rattle.text.specs.declared.rows.Rest.{Rest}
 use Rattle.text.specs.declared.Printed.{Printed}
 use Rattle.text.specs.declared.Printed.the-variants as Printed
-use Rattle.text.specs.Printed.{printed}
+use Rattle.text.specs.Printed.{printed, emptyLines}
 use Rattle.text.specs.Question.{Limits, Lines, Question, wordsOf}
 use Rattle.text.specs.declared.number.Digits.{Digits}
 use Rattle.text.specs.declared.number.Signed.{Signed}
@@ -115,6 +115,7 @@ fiveLine a b c d e = lineOf (pos a ∷ pos b ∷ pos c ∷ pos d ∷ pos e ∷ [
 pub record WroteRows (old new : List ℕ) (at : ℕ) (r : Rest) (values rows : ℕ) (ws : List ℤ) : Type 0 where
   pub text : take (r .at) new ++ replicate (r .lines) newline ≡ take at old ++ lines (cutRows values rows ws)
   pub kept : drop (r .at) new ≡ drop (r .at) old
+  pub empty : r .lines ≡ emptyRows values rows ws
   pub from : at ≤ r .at
   pub within : r .at ≤ at + 22 * length ws
 
@@ -129,6 +130,7 @@ zeroWords n = replicate n (pos 0)
 
 -- What the whole library gives for an input.
 unfoldable pub Answer : (input old new : List ℕ) → Printed → Type 0
-unfolding printed
-Answer input old new (Printed.Text at lines) = (98304 ≤ length old) × Text old new (record { at = at; lines = lines }) (printed input)
+unfolding printed emptyLines
+Answer input old new (Printed.Text at lines) =
+    (98304 ≤ length old) × (lines ≡ emptyLines input) × Text old new (record { at = at; lines = lines }) (printed input)
 Answer input old new Printed.Short = (length old < 98304) × (new ≡ old)

@@ -9,7 +9,7 @@ use Rattle.rules.specs.Variables.{variables}
 use Rattle.rules.specs.Services.{Matched, match}
 use Rattle.text.specs.Decimal.{newline, lineOf}
 use Rattle.text.specs.Question.{Question, asked}
-use Rattle.text.specs.Rows.{cutRows, lines}
+use Rattle.text.specs.Rows.{cutRows, emptyRows, lines}
 
 unfoldable pub orZero : Verdict ℕ → ℕ
 orZero (ok n) = n
@@ -47,3 +47,17 @@ answerTo (some q) = report (variablesOf (q .pattern)) (matched q)
 unfoldable pub printed : List ℕ → List ℕ
 unfolding asked answerTo
 printed bytes = answerTo (asked bytes)
+
+-- How many empty lines stand at the end of it, as rows of no words: there may be more of them than bytes in any memory, so that they are counted.
+unfoldable pub emptyReport : (values : ℕ) → Matched → ℕ
+unfolding emptyRows
+emptyReport values m = emptyRows values (m .rows) (take (m .words) (m .room))
+
+unfoldable pub emptyTo : Option Question → ℕ
+unfolding emptyReport variablesOf matched
+emptyTo none = 0
+emptyTo (some q) = emptyReport (variablesOf (q .pattern)) (matched q)
+
+unfoldable pub emptyLines : List ℕ → ℕ
+unfolding asked emptyTo
+emptyLines bytes = emptyTo (asked bytes)

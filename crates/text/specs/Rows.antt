@@ -3,6 +3,7 @@ use Prim.Native.Nat.{ℕ, zero, suc, _+_}
 use mathlib.Core.Bool.{cond}
 use mathlib.Core.List.{List, [], _∷_, _++_}
 use lib.ListN.{take, drop}
+use lib.Dec.{eqb}
 use lib.IntN.{ℤ, pos, negsuc}
 use Rattle.rules.specs.Numbers.{same}
 use Rattle.text.specs.Decimal.{lineOf}
@@ -29,6 +30,12 @@ unfoldable pub cutRows : (values rows : ℕ) → List ℤ → List (List ℤ)
 unfolding extent
 cutRows values zero ws = []
 cutRows values (suc rows) ws = take (extent values ws) ws ∷ cutRows values rows (drop (extent values ws) ws)
+
+-- How many rows without words stand at the end: from the first on, all are such.
+unfoldable pub emptyRows : (values rows : ℕ) → List ℤ → ℕ
+unfolding extent
+emptyRows values zero ws = 0
+emptyRows values (suc rows) ws = cond (eqb (extent values ws) 0) (suc rows) (emptyRows values rows (drop (extent values ws) ws))
 
 unfoldable pub lines : List (List ℤ) → List ℕ
 unfolding lineOf

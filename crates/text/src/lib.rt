@@ -18,7 +18,7 @@ ghost use mathlib.Core.Path.{_≡_};
 ghost use Prim.Native.Nat.{_≤_};
 ghost use lib.ListN.{length};
 ghost use Rattle.rules.specs.Services.{match};
-ghost use Rattle.text.specs.Printed.{variablesOf, report};
+ghost use Rattle.text.specs.Printed.{variablesOf, report, emptyReport};
 ghost use Rattle.text.specs.Meaning.{Text, Answer, zeroWords};
 
 // How many bytes were written, and how many empty lines follow them; or nothing was written, since there are too few bytes for it.
@@ -32,6 +32,7 @@ fn answered(m: &[i32], p: &[i32], t: &[i32], budget: u32, room: &mut [i32], out:
     requires { ⌜ length (now room) ≤ 4096 ⌝ }
     requires { ⌜ 98304 ≤ length (now out) ⌝ }
     ensures { λ r. ⌜ Text (now (out .entry)) (now (out .exit)) r (report (variablesOf (now (p .entry))) (match (now (m .entry)) (now (p .entry)) (now (t .entry)) budget (now (room .entry)))) ⌝ }
+    ensures { λ r. ⌜ r .lines ≡ emptyReport (variablesOf (now (p .entry))) (match (now (m .entry)) (now (p .entry)) (now (t .entry)) budget (now (room .entry))) ⌝ }
 {
     let r = match_units(m, p, t, budget, room);
     let n = r.words;

@@ -8,7 +8,7 @@ ghost use mathlib.Core.Path.{_≡_};
 ghost use mathlib.Core.List.{_++_};
 ghost use Prim.Native.Nat.{_≤_};
 ghost use lib.ListN.{length};
-ghost use Rattle.text.specs.Rows.{cutRows, lines};
+ghost use Rattle.text.specs.Rows.{cutRows, emptyRows, lines};
 ghost use Rattle.text.specs.Printed.{variablesOf, unreadable};
 ghost use Rattle.text.specs.Meaning.{fiveLine, Text};
 
@@ -26,6 +26,7 @@ pub(crate) fn values_of(p: &[i32]) -> u32
 pub(crate) fn put_unreadable(out: &mut [u8]) -> Rest
     requires { ⌜ 98304 ≤ length (now out) ⌝ }
     ensures { λ r. ⌜ Text (now (out .entry)) (now (out .exit)) r unreadable ⌝ }
+    ensures { λ r. ⌜ r .lines ≡ 0 ⌝ }
 {
     out[0] = b'u';
     out[1] = b'n';
@@ -55,6 +56,7 @@ pub(crate) fn put_report(
     requires { ⌜ 98304 ≤ length (now out) ⌝ }
     requires { ⌜ length (now ws) ≤ 4096 ⌝ }
     ensures { λ r. ⌜ Text (now (out .entry)) (now (out .exit)) r (fiveLine answer place rows steps words ++ lines (cutRows values rows (now (ws .entry)))) ⌝ }
+    ensures { λ r. ⌜ r .lines ≡ emptyRows values rows (now (ws .entry)) ⌝ }
 {
     let at = put_first(out, answer, place, rows, steps, words);
     put_rows(ws, values, rows, out, at)

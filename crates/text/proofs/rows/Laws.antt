@@ -16,7 +16,7 @@ use mir.Facts.{toZ-ofZ}
 use Rattle.rules.specs.Numbers.{same}
 use Rattle.words.specs.Words.{tagZ}
 use Rattle.text.specs.Decimal.{lineOf}
-use Rattle.text.specs.Rows.{natOf, inside, extent, cutRows, lines}
+use Rattle.text.specs.Rows.{natOf, inside, extent, cutRows, emptyRows, lines}
 use Rattle.text.specs.Meaning.{Wrote, WroteRows}
 use Rattle.text.specs.declared.rows.Rest.{Rest}
 use Rattle.text.proofs.Written.{Going, going-all, going-on}
@@ -117,6 +117,16 @@ unfolding cutRows lines
 next-row values zero e ws h q = absurd (omega arith)
 next-row values (suc left) e ws h q = let p : suc left - 1 ≡ left = omega arith in rw (p, ← q)
 
+empty-here : (values left e : ℕ) (ws : List ℤ) → 0 < left → e ≡ extent values ws → e ≡ 0 → emptyRows values left ws ≡ left
+unfolding emptyRows
+empty-here values zero e ws h q z = absurd (omega arith)
+empty-here values (suc left) e ws h q z = rw (eq-eqb (extent values ws) 0 (sym q ∙ z))
+
+empty-later : (values left e : ℕ) (ws : List ℤ) → 0 < left → e ≡ extent values ws → (e ≡ 0 → ⊥) → emptyRows values left ws ≡ emptyRows values (left - 1) (drop e ws)
+unfolding emptyRows
+empty-later values zero e ws h q z = absurd (omega arith)
+empty-later values (suc left) e ws h q z = let p : suc left - 1 ≡ left = omega arith in rw (ne-eqb (extent values ws) 0 (λ y. z (q ∙ y)), p, ← q)
+
 -- The words behind an index.
 behind : (ws : List ℤ) (from : ℕ) → from ≤ length ws → take (length ws - from) (drop from ws) ≡ drop from ws
 behind ws from h = let d = length-drop from ws in take-all (length ws - from) (drop from ws) (omega arith)
@@ -146,31 +156,41 @@ pub part-few : (ws : List ℤ) (from : ℕ) → from ≤ length ws → length ws
 part-few ws from l h = let d = length-drop from ws in rw (behind ws from l) (omega arith)
 
 -- The rows that are left, from an index on.
-unfoldable pub Rows : (values rows : ℕ) (ws : List ℤ) (old : List ℕ) (at : ℕ) (out : List ℕ) (o from left : ℕ) → Type 0
-Rows values rows ws old at out o from left = Going old at (lines (cutRows values rows ws)) out o (lines (cutRows values left (drop from ws)))
+pub record Rows (values rows : ℕ) (ws : List ℤ) (old : List ℕ) (at : ℕ) (out : List ℕ) (o from left : ℕ) : Type 0 where
+  pub going : Going old at (lines (cutRows values rows ws)) out o (lines (cutRows values left (drop from ws)))
+  pub empty : emptyRows values rows ws ≡ emptyRows values left (drop from ws)
 
 pub rows-all : (values rows : ℕ) (ws : List ℤ) (old : List ℕ) (at : ℕ) → Rows values rows ws old at old at 0 rows
-unfolding Rows
-rows-all values rows ws old at = going-all old at (lines (cutRows values rows ws))
+rows-all values rows ws old at = record { going = going-all old at (lines (cutRows values rows ws)); empty = refl }
 
 module _ (values rows : ℕ) (ws : List ℤ) (old : List ℕ) (at : ℕ) (out : List ℕ) (o from left : ℕ) (g : Rows values rows ws old at out o from left) where
   pub rows-long : length out ≡ length old
-  unfolding Rows
-  rows-long = g .long
+  rows-long = g .going .long
 
   module _ (s : from ≤ length ws) (b : o + 22 * (length ws - from) ≤ at + 22 * length ws) (f : at ≤ o) where
     pub rows-done : left ≤ 0 → WroteRows old out at (record { at = o; lines = left }) values rows ws
-    unfolding Rows cutRows lines
+    unfolding cutRows emptyRows lines
     rows-done h =
         let z : left ≡ 0 = omega arith in
-        record { text = rw z (rw z at (g .whole)); kept = g .kept; from = f; within = omega arith }
+        record {
+          text = rw z (rw z at (g .going .whole));
+          kept = g .going .kept;
+          empty = z ∙ sym (rw z at (g .empty));
+          from = f;
+          within = omega arith;
+        }
 
-    pub rows-empty : (e : ℕ) → e ≡ extent values (take (length ws - from) (drop from ws)) → e ≡ 0
+    pub rows-empty : (e : ℕ) → 0 < left → e ≡ extent values (take (length ws - from) (drop from ws)) → e ≡ 0
         → WroteRows old out at (record { at = o; lines = left }) values rows ws
-    unfolding Rows
-    rows-empty e q z =
-        let y : extent values (drop from ws) ≡ 0 = rw (behind ws from s) at (sym q ∙ z) in
-        record { text = rw (← empty-rows values left (drop from ws) y) (g .whole); kept = g .kept; from = f; within = omega arith }
+    rows-empty e h q z =
+        let x : e ≡ extent values (drop from ws) = rw (behind ws from s) at q in
+        record {
+          text = rw (← empty-rows values left (drop from ws) (sym x ∙ z)) (g .going .whole);
+          kept = g .going .kept;
+          empty = sym (g .empty ∙ empty-here values left e (drop from ws) h x z);
+          from = f;
+          within = omega arith;
+        }
 
     module _ (e r : ℕ) (m : List ℕ) (q : e ≡ extent values (take (length ws - from) (drop from ws)))
         (k : e ≤ length (take (length ws - from) (drop from ws))) (z : e ≡ 0 → ⊥)
@@ -185,15 +205,17 @@ module _ (values rows : ℕ) (ws : List ℤ) (old : List ℕ) (at : ℕ) (out : 
       rows-from = let c = w .ends in omega arith
 
       pub rows-turn : 0 < left → at + 22 * length ws ≤ length old → Rows values rows ws old at m r (from + e) (left - 1)
-      unfolding Rows
       rows-turn h t =
           let a = short in
           let d = row-in ws from e s k in
-          let l = g .long in
+          let l = g .going .long in
           let y : e ≡ extent values (drop from ws) = rw (behind ws from s) at q in
           let v : from + e - from ≡ e = omega arith in
           let n = next-row values left e (drop from ws) h y in
           let c : lines (cutRows values left (drop from ws)) ≡ lineOf (take (from + e - from) (drop from ws)) ++ lines (cutRows values (left - 1) (drop (from + e) ws)) = rw (v, ← drop-drop e from ws) n in
-          going-on old at (lines (cutRows values rows ws)) out m (lineOf (take (from + e - from) (drop from ws))) _ _ o r g w (omega arith) c
+          record {
+            going = going-on old at (lines (cutRows values rows ws)) out m (lineOf (take (from + e - from) (drop from ws))) _ _ o r (g .going) w (omega arith) c;
+            empty = g .empty ∙ empty-later values left e (drop from ws) h y z ∙ ap (emptyRows values (left - 1)) (drop-drop e from ws);
+          }
 
 pub ruleset rows-rules = (rows-all, rows-long, rows-done, rows-empty, rows-room, rows-from, rows-turn, row-in, row-fits, some-words, row-room, part-few, needs)
