@@ -122,7 +122,8 @@ module _ (e : Env) (g : Target (e .words)) (fine : Fine e) (m : Matcher) (p : Pa
       stood : standing (e .words) g (r .state) (r .tables) (r .binds) ≡ some (confOf (e .words) g (r .state) (r .tables) (r .binds))
       stood = rw l
 
-  stands-next : (room : List ℤ) (r : Run) → Stands room r → r .state .live ≡ 1 → Stands room (settled e (takeOf e r))
+  -- A state taken up: the run stands for what follows it, and then the rest.
+  pub stands-next : (room : List ℤ) (r : Run) → Stands room r → r .state .live ≡ 1 → Stands room (settled e (takeOf e r))
   stands-next room r s l = record {
     valid = settle-keeps e fine g (takeOf e r) (take-keeps e fine g r (s .valid) l);
     phase = phase-next e r (s .valid .room);
