@@ -1,8 +1,7 @@
 -- The whole machine with its counts, and that n steps of it give what a run with budget n gives, at every budget and room.
-use Prim.Native.Nat.{ℕ, zero, suc, _+_, _-_, _≤_, _<_}
-use native.Mathlib.Nat.{zero-add}
+use Prim.Native.Nat.{ℕ, zero, suc, _+_, _-_}
 use native.Mathlib.Omega.{arith}
-use mathlib.Core.Path.{_≡_, refl, sym, ap, _∙_}
+use mathlib.Core.Path.{_≡_, refl, _∙_}
 use mathlib.Core.Bool.{Bool, true, false}
 use mathlib.Core.Option.{Option, none, some}
 use mathlib.Core.List.{List, [], _∷_, _++_}
@@ -11,12 +10,12 @@ use lib.Dec.{leb}
 use lib.IntN.{ℤ}
 use Rattle.rules.specs.Forms.{Matcher, words}
 use Rattle.rules.specs.Equality.{Bindings}
-use Rattle.rules.specs.Search.{Atom, atom, State, state, row, Run, run}
+use Rattle.rules.specs.Search.{State, row, Run, run}
 use Rattle.engine.specs.Machine.{Machine, passing, writing, filling, stepOn, once, times, answerBy, told, opened, run-steps}
-use Rattle.program.specs.Points.{Instr, strip, drop, bind, test, split, end, Point, point, finish, known, follow, Follows, strips, drops, binds, tests, splits, ends}
+use Rattle.program.specs.Points.{Instr, strip, drop, bind, test, split, end, Point, follow, Follows, strips, drops, binds, tests, splits, ends}
 use Rattle.engine.specs.Held.{Data}
 use Rattle.engine.specs.Engine.{Conf, exec, settle}
-use Rattle.engine.specs.Rep.{Bound, bound-none, bound, At, at, done, Chain, Rep, over-all, live}
+use Rattle.engine.specs.Rep.{Bound, bound-none, bound, At, at, done, Rep, over-all, live}
 use Rattle.engine.specs.Sim.{step-rep}
 
 pub record Engine (D : Data) : Type 0 where

@@ -1,16 +1,9 @@
 -- The machine: what it holds, and one step. (`code` is the program, an instruction for each place.)
-use Prim.Native.Nat.{ℕ, zero, suc, _+_, _-_, _≤_, _<_}
-use native.Mathlib.Omega.{arith}
-use mathlib.Core.Path.{_≡_, refl, sym, ap, _∙_}
+use Prim.Native.Nat.{ℕ, zero, suc}
 use mathlib.Core.Bool.{Bool, true, false}
 use mathlib.Core.Option.{Option, none, some}
-use mathlib.Core.List.{List, [], _∷_, _++_}
-use lib.ListN.{length}
-use lib.Dec.{leb, eqb}
-use lib.IntN.{ℤ}
-use Rattle.rules.specs.Forms.{Matcher, Value}
-use Rattle.rules.specs.Search.{Run}
-use Rattle.program.specs.Points.{Kind, Test, asConstant, asValue, asNil, Instr, strip, drop, bind, test, split, end}
+use lib.Dec.{eqb}
+use Rattle.program.specs.Points.{Test, asConstant, asValue, asNil, Instr, strip, drop, bind, test, split, end}
 use Rattle.engine.specs.Held.{Picked, Data}
 
 -- A table with the entry i changed.

@@ -1,5 +1,4 @@
 -- What the search machine asks of held values: each operation with one law that ties it to document 01's definitions.
-use Prim.Native.Nat.{ℕ}
 use mathlib.Core.Path.{_≡_}
 use mathlib.Core.Bool.{Bool, true}
 use mathlib.Core.Option.{Option, none, some}

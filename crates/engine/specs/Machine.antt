@@ -1,7 +1,7 @@
 -- The run as a machine that is stepped: what a program holds between two steps, one step, and that n steps give what `run n` gives. Since steps
--- compose, a run that is advanced in portions gives what one run with their sum gives (change request 8).
+-- compose, a run that is advanced in portions gives what one run with their sum gives.
 use Prim.Native.Nat.{ℕ, zero, suc, _+_, _-_}
-use native.Mathlib.Nat.{zero-add, suc-add, add-suc, add-zero, add-assoc}
+use native.Mathlib.Nat.{zero-add, suc-add, add-zero}
 use native.Mathlib.Omega.{arith}
 use mathlib.Core.Path.{_≡_, refl, sym, ap, _∙_}
 use mathlib.Core.Bool.{Bool, true, false}
@@ -9,8 +9,7 @@ use mathlib.Core.List.{List, [], _∷_, _++_, append-nil, append-assoc}
 use lib.ListN.{length}
 use lib.Dec.{leb}
 use lib.IntN.{ℤ}
-use Rattle.rules.specs.Equality.{Bindings}
-use Rattle.rules.specs.Search.{Atom, atom, State, state, after, row, Run, stopped, step, rowStep, run, start}
+use Rattle.rules.specs.Search.{atom, State, state, after, row, Run, stopped, step, rowStep, run}
 
 -- The waiting states, the free words, the rows, steps and words so far; `full` is set by a row that does not fit.
 pub record Machine : Type 0 where

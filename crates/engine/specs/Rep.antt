@@ -1,13 +1,12 @@
 -- Which waiting states a configuration of the machine stands for.
-use Prim.Native.Nat.{ℕ, zero, suc, _+_, _-_, _≤_, _<_}
+use Prim.Native.Nat.{ℕ, suc, _+_, _-_, _≤_, _<_}
 use native.Mathlib.Omega.{arith}
-use mathlib.Core.Path.{_≡_, refl, sym, ap, _∙_}
+use mathlib.Core.Path.{_≡_, refl}
 use mathlib.Core.Bool.{Bool, true, false}
 use mathlib.Core.Option.{Option, none, some}
 use mathlib.Core.List.{List, [], _∷_, _++_, map}
 use lib.ListN.{length}
-use lib.Dec.{leb, eqb, T, eqb→eq, eqb-refl}
-use lib.IntN.{ℤ}
+use lib.Dec.{eqb, T, eqb→eq, eqb-refl}
 use Rattle.rules.specs.Forms.{Matcher, Pattern, Value}
 use Rattle.rules.specs.Equality.{Bindings}
 use Rattle.rules.specs.Search.{Halves, Atom, atom, State, state}

@@ -8,15 +8,15 @@ use mathlib.Core.Option.{Option, none, some}
 use mathlib.Core.List.{List, [], _∷_, _++_, map}
 use lib.ListN.{length, getElem?, length-append}
 use lib.IntN.{ℤ, pos}
-use Rattle.rules.specs.Forms.{Matcher, something, Pattern, wildcard, variable, Value}
+use Rattle.rules.specs.Forms.{Matcher, something, Pattern, Value}
 use Rattle.rules.specs.Reading.{entry}
 use Rattle.rules.specs.Equality.{Bindings, equal, isValue, raised}
-use Rattle.rules.specs.Search.{Halves, Atom, atom, State, state, isSomething, dropIf, after}
-use Rattle.program.specs.Points.{Kind, over, firstBy, whole, halves, branch, after-whole, Test, asConstant, asValue, asNil, tested, testBy, passes, Sound, after-test}
-use Rattle.program.specs.Points.{Instr, strip, drop, bind, test, split, end, Item, item, Point, point, finish, enter, from, known}
-use Rattle.program.specs.Points.{follow, Follows, Loose, after-loose, strips, drops, binds, tests, splits, ends}
-use Rattle.engine.specs.Held.{Data, Picked, Opened}
-use Rattle.engine.specs.Engine.{put, Slot, Conf, Turn, on, back, check, next, pushed, opening, exec, slotAfter, topAfter, chosen, choose, nextChoice, settle}
+use Rattle.rules.specs.Search.{Halves, Atom, State, state, isSomething, dropIf, after}
+use Rattle.program.specs.Points.{Kind, over, firstBy, halves, branch, after-whole, Test, asConstant, asValue, asNil, testBy, passes, Sound, after-test}
+use Rattle.program.specs.Points.{Instr, bind, split, Item, item, Point, point, finish, enter, from, known}
+use Rattle.program.specs.Points.{follow, Follows, after-loose, strips, drops, binds, tests, splits, ends}
+use Rattle.engine.specs.Held.{Data, Opened}
+use Rattle.engine.specs.Engine.{put, Conf, Turn, on, back, check, next, pushed, opening, exec, slotAfter, topAfter, chosen, choose, nextChoice, settle}
 use Rattle.engine.specs.Rep.{Waits, waits-none, waits, Bound, bound-none, bound, At, at, done, Chain, shut, open-at, Rep, over-all, live, put-same, put-below, waits-agree, bound-agree, chain-agree}
 
 isValue-at : (m : Matcher) (e : Bindings) (x : ℕ) (c : ℤ) (v w : Value) → getElem? e x ≡ some w → isValue m e (pos x) c v ≡ equal m (raised c w) v

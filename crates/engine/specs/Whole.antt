@@ -5,23 +5,23 @@ use native.Mathlib.Omega.{arith}
 use mathlib.Core.Path.{_≡_, refl, sym, ap, _∙_, fun-ext}
 use mathlib.Core.Bool.{Bool, true, false}
 use mathlib.Core.Option.{Option, none, some}
-use mathlib.Core.List.{List, [], _∷_, _++_}
+use mathlib.Core.List.{List, [], _∷_}
 use lib.ListN.{length, getD, set}
 use lib.Seq.{getD-set-same, getD-set-other}
 use lib.Dec.{eqb, eqb→eq, eqb-refl, T}
-use lib.IntN.{ℤ, pos, negsuc}
+use lib.IntN.{ℤ}
 use Rattle.rules.specs.Forms.{Matcher, Pattern, Value}
-use Rattle.rules.specs.Reading.{Verdict, ok}
+use Rattle.rules.specs.Reading.{ok}
 use Rattle.rules.specs.Fit.{fits}
 use Rattle.rules.specs.Search.{State, run, start}
 use Rattle.engine.specs.Machine.{opened}
-use Rattle.program.specs.Points.{Instr, Item, item, Point, point, finish, beyond, enter, known}
+use Rattle.program.specs.Points.{Instr, Point, known}
 use Rattle.engine.specs.Held.{Data}
 use Rattle.engine.specs.Engine.{Slot, Conf, put}
 use Rattle.engine.specs.Rep.{waits-none, bound-none, At, at, done, shut, Rep, live}
 use Rattle.engine.specs.Drive.{Engine, advance, turn, turns, reports, Same, running, engine-runs}
 use Rattle.program.specs.Length.{instrs, instrsAll, toCome, in-range, all-some}
-use Rattle.program.specs.Program.{program, pointAt, program-follows, followOf}
+use Rattle.program.specs.Program.{program, pointAt, program-follows}
 
 -- The engine before the first step. The slots and the entries for bindings may hold anything.
 unfoldable pub fresh : (D : Data) → D .Held → (ℕ → Slot D) → (ℕ → D .Held) → ℕ → Engine D

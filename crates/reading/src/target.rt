@@ -1,4 +1,3 @@
-// LEAD, 06:15: STOP HERE. Read /work/h/reading/NOTE-FROM-LEAD.md: tests 5 and 6 are being written in /work/h/target by another helper. Remove this file, write the chain of tests 1 to 4 (rule_of), commit and report.
 // Test 5: the words are one whole target in the limits. Collections are read by recursion, the remaining depth falling at each call.
 use super::Tested;
 use super::rest;

@@ -1,5 +1,5 @@
 -- For input that is accepted: the compiler's arrays are fine, the target stands, and a search of them tells what `match` is.
-use Prim.Native.Nat.{ℕ, _≤_, _<_}
+use Prim.Native.Nat.{ℕ, _<_}
 use native.Mathlib.Omega.{arith}
 use mathlib.Core.Path.{_≡_, sym, ap, _∙_}
 use mathlib.Core.List.{List}

@@ -1,21 +1,17 @@
 -- A run before its first state is valid, and the search from there is document 01's; the compiler's arrays are fine.
-use Prim.Native.Nat.{ℕ, zero, suc, _+_, _-_, _^_, _≤_, _<_}
+use Prim.Native.Nat.{ℕ, _-_, _<_}
 use native.Mathlib.Omega.{arith}
 use mathlib.Core.Path.{_≡_, refl, sym, ap, _∙_, subst}
-use mathlib.Core.List.{List, []}
+use mathlib.Core.List.{List}
 use lib.ListN.{length, getD, replicate, length-replicate, getD-replicate}
 use lib.Pow.{pow-pos}
 use lib.IntN.{ℤ}
-use Rattle.rules.specs.Forms.{Matcher, Value}
-use Rattle.rules.specs.Reading.{ok, readTarget}
-use Rattle.rules.specs.Fit.{fits, fitsValue}
-use Rattle.rules.specs.Services.{Rule}
-use Rattle.program.specs.Columns.{lineIn, Holds}
-use Rattle.program.specs.Lines.{columns}
+use Rattle.rules.specs.Fit.{fits}
+use Rattle.program.specs.Columns.{lineIn}
 use Rattle.holding.specs.Places.{Target, Tag, countAt}
 use Rattle.holding.specs.Held.{Held, wholeAt}
 use Rattle.holding.specs.Row.{nothing}
-use Rattle.stepping.specs.Steps.{tables, Picks}
+use Rattle.stepping.specs.Steps.{tables}
 use Rattle.tying.proofs.Instance.{target-is}
 use Rattle.searching.specs.Run.{Env, Run, run, lineAt, runOf, opening, answerOf, matched, told}
 use Rattle.searching.specs.Valid.{Fine, Valid}

@@ -1,15 +1,15 @@
 -- What a state taken up and a choice taken do to the counts, the room and the words written.
-use Prim.Native.Nat.{ℕ, zero, suc, _+_, _-_, _≤_, _<_}
+use Prim.Native.Nat.{ℕ, _+_, _-_, _≤_}
 use native.Mathlib.Omega.{arith}
-use mathlib.Core.Path.{_≡_, refl, ap, _∙_}
+use mathlib.Core.Path.{_≡_, refl, ap}
 use mathlib.Core.Logic.{_⊎_, inl, inr}
-use mathlib.Core.Bool.{Bool, true, false}
+use mathlib.Core.Bool.{Bool}
 use mathlib.Core.List.{List}
 use lib.ListN.{length, getD, drop}
 use lib.Dec.{eqb, ltb}
 use lib.Count.{trailingZeros}
 use lib.IntN.{ℤ, pos}
-use borrow.Author.Tests.{eqb-true, eqb-false, ltb-false}
+use borrow.Author.Tests.{eqb-false, ltb-false}
 use Rattle.rules.specs.Search.{row}
 use Rattle.marks.specs.Marks.{clear}
 use Rattle.holding.specs.Places.{elementAt}
@@ -18,7 +18,8 @@ use Rattle.holding.specs.Row.{bound}
 use Rattle.stepping.specs.declared.State.{State}
 use Rattle.stepping.specs.Steps.{when, Tables, Turned, turned, counted, moved, lived, topped, dropped, pushed, pushedIn, passesOf, noneOf, opensOf, splitOf, stepBy, stepOf, topLeft, longerOf, joinOf, joinBy, consOf, consBy, pickOf}
 use Rattle.searching.specs.Run.{Env, Run, run, Ended, ended, filled, wrote, endBy, endOf, afterTurn, afterEnd, takeEnd, takeBind, takeStep, takeOf, asked, settled}
-use Rattle.searching.proofs.Room.{put-long, put-after}
+use Rattle.holding.proofs.Room.{length-put}
+use Rattle.searching.proofs.Room.{put-after}
 use Rattle.searching.proofs.Keeps.{when-if}
 
 -- A state with an atom left: one step more, and a state stands or the next choice is to be taken.
@@ -161,7 +162,7 @@ end-takes r ws h = when-if (λ (u : Ended). Takes r (run (u .state) (r .tables) 
       rows = omega arith;
       live = inr (inl refl);
       more = omega arith;
-      long = put-long (r .room) (r .state .words) ws;
+      long = length-put (r .room) (r .state .words) ws;
       after = put-after (r .room) (r .state .words) ws (omega arith);
     })
 

@@ -2,17 +2,17 @@
 use mathlib.Core.Path.{_≡_, refl, sym, _∙_, ap, subst}
 use mathlib.Core.Bool.{Bool, true, false}
 use mathlib.Core.List.{List}
-use Prim.Native.Nat.{ℕ, zero, suc, _+_, _-_, _*_, _^_, _<_, _≤_}
+use Prim.Native.Nat.{ℕ, suc, _+_, _-_, _*_, _^_, _<_, _≤_}
 use native.Mathlib.Omega.{arith}
 use borrow.Author.Needs.{needs}
 use borrow.Author.Tests.{eq-eqb, ne-eqb, lt-ltb, le-ltb, eqb-true, eqb-false}
 use lib.ListN.{length, getD, set}
-use lib.Dec.{eqb, ltb}
+use lib.Dec.{eqb}
 use lib.IntN.{ℤ, pos}
 use mir.Syntax.{w64}
 use mir.Val.{Fits}
 use Rattle.rules.specs.Search.{row}
-use Rattle.holding.specs.Places.{Target, Tag}
+use Rattle.holding.specs.Places.{Target}
 use Rattle.holding.specs.Tables.{Ends, Places}
 use Rattle.holding.specs.Held.{Held, put}
 use Rattle.holding.specs.Row.{bound, Bound, nothing}
@@ -20,14 +20,14 @@ use Rattle.holding.specs.Equality.{equalAt, isSum}
 use Rattle.holding.specs.declared.rows.Binding.{Binding}
 use Rattle.holding.proofs.Elements.{second}
 use Rattle.stepping.specs.declared.State.{State}
-use Rattle.stepping.specs.Steps.{when, Tables, Turned, tables, turned, counted, dropped, stepBy, stepOf, passesOf, pickOf, settleOf, Steps, Picks, PicksIf}
+use Rattle.stepping.specs.Steps.{when, Tables, Turned, tables, turned, counted, dropped, stepBy, stepOf, passesOf, pickOf, settleOf, Steps, PicksIf}
 use Rattle.searching.specs.Run.{Env, Run, run, Ended, ended, filled, wrote, endBy, endOf, askOf, boundAt, asked, afterTurn, afterEnd, takeEnd, takeBind, takeStep, takeOf, taken, settled, runOf}
 use Rattle.searching.specs.Valid.{Fine, Valid, Given, Rows, Takes}
-use Rattle.searching.proofs.Keeps.{when-if, take-keeps, settle-keeps}
+use Rattle.searching.proofs.Keeps.{take-keeps}
+use Rattle.searching.proofs.Settles.{settle-keeps}
 use Rattle.searching.proofs.Counts.{settled-is, takes-is}
 use Rattle.searching.proofs.Whole.{run-over, run-more}
 use Rattle.searching.proofs.Runs.{top-bound}
-use Rattle.stepping.proofs.Laws.{cases}
 
 -- ---- The row.
 

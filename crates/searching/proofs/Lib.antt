@@ -1,5 +1,6 @@
 pub mod Room
 pub mod Keeps
+pub mod Settles
 pub mod Turns
 pub mod Counts
 pub mod Runs

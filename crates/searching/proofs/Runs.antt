@@ -1,19 +1,18 @@
 -- The run on numbers and lists is the engine's, turn by turn.
 use Prim.Native.Nat.{ℕ, zero, suc, _+_, _-_, _≤_, _<_}
-use native.Mathlib.Nat.{add-suc, suc-add, zero-add, add-zero}
 use native.Mathlib.Numerals.{add-one}
 use native.Mathlib.Omega.{arith}
-use mathlib.Core.Path.{_≡_, refl, sym, ap, _∙_, subst}
+use mathlib.Core.Path.{_≡_, refl, sym, ap, _∙_}
 use mathlib.Core.Logic.{_⊎_, inl, inr}
 use mathlib.Core.Bool.{Bool, true, false}
-use mathlib.Core.Option.{Option, none, some}
-use mathlib.Core.List.{List, [], _∷_, _++_, map}
-use lib.ListN.{length, getD, take, drop, length-append}
-use lib.Seq.{sets-eq, drop-cons, take-at, drop-at, length-sets, length-take-le}
+use mathlib.Core.Option.{Option, some}
+use mathlib.Core.List.{List, _++_, map}
+use lib.ListN.{length, getD, take, drop}
+use lib.Seq.{drop-cons}
 use lib.Dec.{eqb, leb, ltb}
 use lib.IntN.{ℤ}
-use borrow.Author.Tests.{eqb-true, eqb-false, ltb-true, ltb-false, eq-eqb, ne-eqb, le-leb, lt-leb}
-use Rattle.rules.specs.Forms.{Matcher, Pattern, Value, words}
+use borrow.Author.Tests.{eqb-true, eqb-false, ltb-true, ltb-false, le-leb, lt-leb}
+use Rattle.rules.specs.Forms.{words}
 use Rattle.rules.specs.Search.{row}
 use Rattle.program.specs.Points.{Instr, bind, end}
 use Rattle.program.specs.Meaning.{Means, means-end, means-strip, means-drop, means-bind, means-constant, means-integer, means-value, means-nil, means-list, means-multiset, means-join}
@@ -26,17 +25,18 @@ use Rattle.holding.specs.Held.{put}
 use Rattle.holding.specs.Row.{holds, bound, nothing}
 use Rattle.holding.specs.declared.rows.Binding.{Binding}
 use Rattle.stepping.specs.declared.State.{State}
-use Rattle.stepping.specs.Steps.{when, Tables, stepOf, pickOf}
+use Rattle.stepping.specs.Steps.{when, Tables, pickOf}
 use Rattle.tying.proofs.Instance.{places}
 use Rattle.searching.specs.Run as numbers
 use Rattle.searching.specs.Run.{Env, Run, run, ended, endBy, endOf, lineAt, asked, afterTurn, afterEnd, takeEnd, takeBind, takeStep, takeOf, settled}
 use Rattle.searching.specs.Valid.{Fine, Valid}
-use Rattle.searching.specs.Meaning.{slotsOf, bindsOf, confOf, standing, engineOf}
-use Rattle.searching.proofs.Room.{put-long, put-before}
+use Rattle.searching.specs.Meaning.{bindsOf, confOf, standing, engineOf}
+use Rattle.holding.proofs.Room.{length-put}
+use Rattle.searching.proofs.Room.{put-before}
 use Rattle.searching.proofs.Keeps.{when-if, take-keeps}
 use Rattle.searching.proofs.Turns as choice
 use Rattle.searching.proofs.Turns.{asTurn, bind-turn, step-turn, pick-is}
-use Rattle.searching.proofs.Counts.{Took, step-took, bind-took, Settles, settled-is}
+use Rattle.searching.proofs.Counts.{Took, step-took, bind-took, settled-is}
 
 -- ---- The row.
 
@@ -126,7 +126,7 @@ module _ (e : Env) (g : Target (e .words)) where
       let r = run (numbers.wrote x (length ws)) t b (put room (x .words) ws) in
       let c = settled-is e r in
       engine-path (places (e .words) g) (settle-is code r v (inr refl) m)
-      (rw (c .room, c .words, put-long room (x .words) ws) (omega arith)) (sym (c .rows ∙ add-one (x .rows))) (sym (c .steps ∙ add-one (x .steps)))
+      (rw (c .room, c .words, length-put room (x .words) ws) (omega arith)) (sym (c .rows ∙ add-one (x .rows))) (sym (c .steps ∙ add-one (x .steps)))
       (rw (c .room, c .words) (sym (put-before room (x .words) ws h))) (sym (not-full (settled e r .state .live) (c .live)))
     where
       not-full : (n : ℕ) → (n ≡ 2) ⊎ ((n ≡ 0) ⊎ (n ≡ 1)) → eqb n 3 ≡ false

@@ -2,7 +2,7 @@
 use Prim.Native.Nat.{ℕ, zero, suc, _+_, _-_, _^_, _≤_, _<_}
 use native.Mathlib.Numerals.{add-one}
 use native.Mathlib.Omega.{arith}
-use mathlib.Core.Path.{_≡_, refl, sym, ap, _∙_, fun-ext, subst}
+use mathlib.Core.Path.{_≡_, refl, sym, ap, _∙_, fun-ext}
 use mathlib.Core.Bool.{Bool, true, false}
 use mathlib.Core.Option.{Option, none, some}
 use mathlib.Core.List.{List, _++_}
@@ -25,7 +25,7 @@ use Rattle.marks.specs.Marks.{clear}
 use Rattle.holding.specs.Places.{Target, elementAt}
 use Rattle.holding.specs.Held.{wholeAt}
 use Rattle.holding.specs.Row.{holds, nothing}
-use Rattle.holding.specs.Equality.{matcherAt, matcherOf, equalAt, isSum}
+use Rattle.holding.specs.Equality.{matcherAt, matcherOf, equalAt}
 use Rattle.holding.specs.declared.rows.Binding.{Binding}
 use Rattle.stepping.specs.declared.State.{State}
 use Rattle.stepping.specs.Steps as numbers

@@ -1,15 +1,14 @@
 -- The run on numbers and lists tells what document 01's run tells, at every budget and room.
-use Prim.Native.Nat.{ℕ, zero, suc, _+_, _-_, _≤_, _<_}
+use Prim.Native.Nat.{ℕ, zero, suc, _+_, _-_, _≤_}
 use native.Mathlib.Nat.{sub-zero}
 use native.Mathlib.Omega.{arith}
 use mathlib.Core.Path.{_≡_, refl, sym, ap, _∙_, subst}
 use mathlib.Core.Logic.{_⊎_, inl, inr, ⊎-elim}
-use mathlib.Core.Bool.{Bool, true, false}
-use mathlib.Core.Option.{Option, none, some}
+use mathlib.Core.Bool.{true, false}
+use mathlib.Core.Option.{none, some}
 use mathlib.Core.List.{List, [], _∷_, _++_}
 use lib.ListN.{length, take, drop, take-append-drop}
 use lib.Seq.{drop-drop, length-take-le}
-use lib.Dec.{eqb}
 use lib.IntN.{ℤ}
 use borrow.Author.Tests.{eq-eqb, ne-eqb}
 use Rattle.rules.specs.Forms.{Matcher, Pattern, Value}
@@ -23,7 +22,6 @@ use Rattle.program.specs.Program.{program, pointAt, program-follows}
 use Rattle.program.specs.Length.{instrs}
 use Rattle.program.specs.Meaning.{Means}
 use Rattle.engine.specs.Held.{Data}
-use Rattle.engine.specs.Engine.{Conf}
 use Rattle.engine.specs.Machine.{Machine, once, opened}
 use Rattle.engine.specs.Drive as drive
 use Rattle.engine.specs.Drive.{Engine, advance, turn, turns, verdict, reports, Same, same-waiting}
@@ -37,8 +35,9 @@ use Rattle.tying.proofs.Instance.{places}
 use Rattle.searching.specs.Run.{Env, Run, run, lineAt, takeOf, settled, runOf, opening, answerOf, matched, told}
 use Rattle.searching.specs.Valid.{Fine, Valid}
 use Rattle.searching.specs.Meaning.{slotsOf, bindsOf, confOf, standing, engineOf}
-use Rattle.searching.proofs.Keeps.{take-keeps, settle-keeps}
-use Rattle.searching.proofs.Counts.{Settles, settled-is, Takes, takes-is}
+use Rattle.searching.proofs.Keeps.{take-keeps}
+use Rattle.searching.proofs.Settles.{settle-keeps}
+use Rattle.searching.proofs.Counts.{settled-is, takes-is}
 use Rattle.searching.proofs.Runs.{turn-is}
 
 -- ---- Ended engines stay.

@@ -1,7 +1,7 @@
 -- Document 01, section 4, the run on numbers and lists as the code goes about it: the next choice is taken wherever no state stands, and states are
 -- taken up while the budget lasts.
 use Prim.Native.Nat.{ℕ, zero, suc, _+_, _-_}
-use mathlib.Core.Bool.{Bool, true, false}
+use mathlib.Core.Bool.{Bool, false}
 use mathlib.Core.List.{List}
 use lib.ListN.{length, getD, set}
 use lib.Dec.{eqb, ltb}

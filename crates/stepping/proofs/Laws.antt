@@ -2,17 +2,13 @@
 use mathlib.Core.Path.{_≡_, refl, sym, _∙_, ap}
 use mathlib.Core.Bool.{Bool, true, false}
 use mathlib.Core.List.{List}
-use Prim.Native.Nat.{ℕ, zero, suc, _+_, _-_, _^_, _<_, _≤_}
+use Prim.Native.Nat.{ℕ, _+_, _-_, _^_, _<_, _≤_}
 use native.Mathlib.Omega.{arith}
 use borrow.Author.Needs.{needs}
-use borrow.Author.Tests.{eq-eqb, ne-eqb, lt-ltb, le-ltb, eqb-true, eqb-false}
-use lib.ListN.{length, getD, set}
+use borrow.Author.Tests.{eq-eqb, ne-eqb, lt-ltb, le-ltb, eqb-false}
+use lib.ListN.{getD, set}
 use lib.Dec.{eqb, ltb}
-use lib.IntN.{ℤ, pos, negsuc}
-use lib.Signed.{mag}
-use mir.Syntax.{w32}
-use mir.Val.{ofZ, hbits}
-use Rattle.rules.specs.Numbers.{same}
+use lib.IntN.{ℤ}
 use lib.Count.{trailingZeros}
 use lib.Pow.{pow-mono}
 use Rattle.marks.specs.Marks.{clear}
@@ -20,8 +16,9 @@ use Rattle.marks.proofs.Places.{low-lt, low-digit, digit-below}
 use Rattle.holding.specs.Places.{Target, Tag, countAt, elementAt}
 use Rattle.holding.specs.Held.{wholeAt}
 use Rattle.holding.proofs.Elements.{element-tag}
+use Rattle.holding.proofs.Equal.{same-bits}
 use Rattle.stepping.specs.declared.State.{State}
-use Rattle.stepping.specs.Steps.{when, Tables, Turned, tables, turned, moved, dropped, pushed, pushedIn, noneOf, opensOf, splitOf, topped, topLeft, nowLeft, joinOf, joinBy, consOf, consBy, longerOf, Joins, Conses, Frame, Picks, PicksIf}
+use Rattle.stepping.specs.Steps.{when, Tables, tables, turned, moved, dropped, pushed, pushedIn, noneOf, opensOf, splitOf, topped, topLeft, nowLeft, joinOf, joinBy, consOf, consBy, longerOf, Joins, Conses, Picks, PicksIf}
 
 -- ---- One or the other.
 
@@ -59,21 +56,6 @@ turned-at r r′ t e = ap (λ x. turned x t) e
 pub ruleset cases = (when-eq, when-ne, when-lt, when-le, when-true, when-false, flag-false, turned-at, needs)
 
 -- ---- Words.
-
-eqb-alike : (x y a b : ℕ) → (x ≡ y → a ≡ b) → (a ≡ b → x ≡ y) → eqb x y ≡ eqb a b
-eqb-alike x y a b f g = go (eqb x y) refl
-  where
-    go : (t : Bool) → eqb x y ≡ t → t ≡ eqb a b
-    go true e = sym (eq-eqb a b (f (eqb-true x y e)))
-    go false e = sym (ne-eqb a b (λ z. eqb-false x y e (g z)))
-
--- Words are equal by their bits.
-pub same-bits : (x y : ℤ) → mag x < 2 ^ hbits w32 → mag y < 2 ^ hbits w32 → eqb (ofZ w32 x) (ofZ w32 y) ≡ same x y
-unfolding same
-same-bits (pos a) (pos b) f g = refl
-same-bits (pos a) (negsuc b) f g = ne-eqb a (2 ^ 32 - suc b) (λ z. omega arith)
-same-bits (negsuc a) (pos b) f g = ne-eqb (2 ^ 32 - suc a) b (λ z. omega arith)
-same-bits (negsuc a) (negsuc b) f g = eqb-alike (2 ^ 32 - suc a) (2 ^ 32 - suc b) a b (λ z. omega arith) (λ z. omega arith)
 
 pub ruleset word-rules = (same-bits, needs)
 

@@ -1,0 +1,146 @@
+-- A choice taken keeps a run valid.
+use Prim.Native.Nat.{ℕ, suc, _+_, _-_, _^_, _≤_, _<_}
+use native.Mathlib.Omega.{arith}
+use lib.Pow.{pow-mono}
+use mathlib.Core.Path.{_≡_, _∙_}
+use mathlib.Core.List.{List}
+use lib.ListN.{length, getD, set, length-set}
+use lib.Seq.{getD-set-same, getD-set-other}
+use lib.Dec.{eqb}
+use lib.Count.{trailingZeros}
+use lib.IntN.{ℤ}
+use borrow.Author.Tests.{eqb-true, eqb-false}
+use Rattle.marks.specs.Marks.{clear}
+use Rattle.marks.proofs.Places.{clear-le, clear-lt}
+use Rattle.holding.specs.Places.{Target, Tag, countAt, elementAt}
+use Rattle.holding.specs.Held.{Held, wholeAt}
+use Rattle.holding.proofs.Elements.{element-tag}
+use Rattle.holding.specs.declared.rows.Binding.{Binding}
+use Rattle.stepping.proofs.Laws.{low-there}
+use Rattle.stepping.specs.declared.State.{State}
+use Rattle.stepping.specs.Steps.{Tables, Turned, tables, moved, lived, topped, topLeft, nowLeft, longerOf, joinBy, joinOf, consBy, consOf, pickOf, Frame, Picks}
+use Rattle.searching.specs.Run.{Env, Run, run, afterTurn, settled}
+use Rattle.searching.specs.Valid.{Fine, Valid}
+use Rattle.searching.proofs.Keeps.{when-if, by-place, next-place, held-less, held-whole, low-le, frame-left}
+
+module _ (e : Env) (fine : Fine e) (g : Target (e .words)) where
+  module _ (x : State) (t : Tables) (b : List Binding) (room : List ℤ) (v : Valid e (run x t b room)) (two : x .live ≡ 2) where
+    none-keeps : x .top ≡ 0 → Valid e (run (lived x 0) t b room)
+    unfolding lived
+    none-keeps z = record {
+      place = v .place;
+      held = v .held;
+      frames = v .frames;
+      waits = record { held = λ j h n. v .waits .held j h (λ p q. absurd (omega arith)) };
+      binds = v .binds;
+      room = v .room;
+      counts = (let q = v .counts in omega arith);
+      long = v .long;
+    }
+
+    module _ (j : ℕ) (top : x .top ≡ suc j) (f : Frame (getD (e .op) j 0) (e .words) j (getD (t .ats) j 0) (getD (t .wholes) j 0) (getD (t .lefts) j 0)) where
+      choice-keeps : (at m back more : ℕ) → Held (e .words) at m → Held (e .words) (getD (t .ats) j 0) back
+          → ((more ≡ 0 → ⊥) → Frame (getD (e .op) j 0) (e .words) j (getD (t .ats) j 0) (getD (t .wholes) j 0) more)
+          → Valid e (run (topLeft more j (t .lows) (moved x (j + 1) at m)) (tables (t .ats) (t .wholes) (nowLeft more j (t .lefts)) (t .lows) (set (t .backs) j back)) b room)
+      unfolding topLeft nowLeft topped moved
+      choice-keeps at m back more h w p = when-if (λ (y : State). Valid e (run y new b room)) (eqb more 0) _ _
+          (λ z. open-at (getD (t .lows) j 0) (v .frames .below j (f .place))) (λ z. open-at (x .top) (v .frames .last))
+        where
+          new : Tables
+          new = tables (t .ats) (t .wholes) (nowLeft more j (t .lefts)) (t .lows) (set (t .backs) j back)
+
+          kept : (n : ℕ) → Picks (e .op) (e .words) n (t .ats) (t .wholes) (t .lefts) → Picks (e .op) (e .words) n (t .ats) (t .wholes) (nowLeft more j (t .lefts))
+          kept n k = record { frame = λ y. frame-left (e .op) (e .words) t (v .long) j (f .place) more (n - 1) p (k .frame y) }
+
+          longer : length (nowLeft more j (t .lefts)) ≡ 390
+          longer = when-if (λ (k : List ℕ). length k ≡ 390) (eqb more 0) _ _ (λ z. v .long .lefts) (λ z. length-set (t .lefts) j more ∙ v .long .lefts)
+
+          open-at : (n : ℕ) → Picks (e .op) (e .words) n (t .ats) (t .wholes) (t .lefts) → Valid e (run (topped (moved x (j + 1) at m) n) new b room)
+          open-at n k = record {
+            place = next-place (e .op) j (fine .last) (f .place) (λ z. let y = f .splits in absurd (omega arith));
+            held = h;
+            frames = record { last = kept n k; below = λ i y. kept (getD (t .lows) i 0) (v .frames .below i y) };
+            waits = record {
+              held = λ i y z. by-place _ j i
+                  (λ q. rw (q, getD-set-same (t .backs) j back 0 (let u = f .place in omega (arith, v .long .backs))) w)
+                  (λ q. rw (getD-set-other (t .backs) j i back 0 q) (v .waits .held i y (λ u o. q (omega arith))));
+            };
+            binds = v .binds;
+            room = v .room;
+            counts = (let q = v .counts in omega arith);
+            long = record {
+              ats = v .long .ats;
+              wholes = v .long .wholes;
+              lefts = longer;
+              lows = v .long .lows;
+              backs = length-set (t .backs) j back ∙ v .long .backs;
+            };
+          }
+
+      join-keeps : getD (e .op) j 0 ≡ 10 → Valid e (afterTurn (joinOf j x t) b room)
+      unfolding joinOf joinBy longerOf afterTurn
+      join-keeps z =
+          let w = f .within z in
+          choice-keeps (getD (t .ats) j 0) c (m - c) (longerOf c (m - c)) (held-less c (f .held) w) (held-less (m - c) (f .held) (omega arith))
+          (λ n. record {
+            place = f .place;
+            splits = f .splits;
+            held = f .held;
+            within = λ y. longer-le n w;
+            some = λ y. absurd (y z);
+            there = λ y. absurd (y z);
+          })
+        where
+          c : ℕ
+          c = getD (t .lefts) j 0
+
+          m : ℕ
+          m = getD (t .wholes) j 0
+
+          m-64 : m < 2 ^ 64
+          m-64 = let p = pow-mono (g .small (getD (t .ats) j 0) (f .held .tag)) in let h = f .held .marks in omega arith
+
+          longer-le : (longerOf c (m - c) ≡ 0 → ⊥) → c ≤ m → longerOf c (m - c) ≤ m
+          longer-le n w = when-if (λ (k : ℕ). k ≤ m) (eqb (m - c) 0) 0 _ (λ y. omega arith)
+              (λ y. let d = eqb-false (m - c) 0 y in let h : 0 < m - c = omega arith in let u = m-64 in let q = low-le (m - c) h (omega arith) in omega arith)
+
+      cons-keeps : (getD (e .op) j 0 ≡ 10 → ⊥) → Valid e (afterTurn (consOf (e .words) j x t) b room)
+      unfolding consOf consBy afterTurn
+      cons-keeps z = choice-keeps place (wholeAt (e .words) place) (clear k m) (clear k c) (held-whole place inside) (held-less (clear k m) (f .held) (clear-le k m))
+          (λ n. record {
+            place = f .place;
+            splits = f .splits;
+            held = f .held;
+            within = λ y. absurd (z y);
+            some = λ y. omega arith;
+            there = λ y. clear-lt (countAt (e .words) (getD (t .ats) j 0)) k c (f .there z);
+          })
+        where
+          c : ℕ
+          c = getD (t .lefts) j 0
+
+          m : ℕ
+          m = getD (t .wholes) j 0
+
+          k : ℕ
+          k = trailingZeros 64 c
+
+          place : ℕ
+          place = elementAt (e .words) (getD (t .ats) j 0) k
+
+          inside : Tag (e .words) place
+          inside = element-tag (e .words) (getD (t .ats) j 0) k g (f .held .tag)
+              (low-there (countAt (e .words) (getD (t .ats) j 0)) c (g .small (getD (t .ats) j 0) (f .held .tag)) (f .some z) (f .there z))
+
+    pick-keeps : Valid e (afterTurn (pickOf (e .op) (e .words) x t) b room)
+    unfolding pickOf afterTurn
+    pick-keeps = when-if at-turn (eqb (x .top) 0) _ _ (λ z. none-keeps (eqb-true _ _ z))
+        (λ z. let n = eqb-false (x .top) 0 z in let u : x .top ≡ suc (x .top - 1) = omega arith in let f = v .frames .last .frame n in
+        when-if at-turn (eqb (getD (e .op) (x .top - 1) 0) 10) _ _ (λ k. join-keeps (x .top - 1) u f (eqb-true _ _ k)) (λ k. cons-keeps (x .top - 1) u f (eqb-false _ _ k)))
+      where
+        at-turn : Turned → Type 0
+        at-turn u = Valid e (run (u .state) (u .tables) b room)
+
+  pub settle-keeps : (r : Run) → Valid e r → Valid e (settled e r)
+  unfolding settled
+  settle-keeps r v = when-if (Valid e) (eqb (r .state .live) 2) _ _ (λ z. pick-keeps (r .state) (r .tables) (r .binds) (r .room) v (eqb-true _ _ z)) (λ z. v)
