@@ -19,7 +19,7 @@ count-of l n h = sym (length-take-le n l h)
 
 pub in-text : (input old new : List ℕ) (r : Printed) (at lines : ℕ) → Answer input old new r → r ≡ Printed.Text at lines → at ≤ length new
 unfolding Answer
-in-text input old new r at lines a e = (rw e at a) .1 .within
+in-text input old new r at lines a e = (rw e at a) .2 .within
 
 module _ {A : Type 0} (l : List A) (i : ℕ) (x : A) where
   pub still-in : i < length l → i + 1 ≤ length (set l i x)

@@ -114,8 +114,22 @@ fn has(s: &[u8], from: usize, a: u64, b: u64, c: u64) -> bool {
     natural(s, j + 1) == c
 }
 
-// The case that starts at an index, with the three numbers at another.
-fn one(path: &[u8], s: &[u8], at: usize, from: usize, tally: Tally) -> Tally {
+// Tells a case that differs.
+fn tell_case(path: &[u8], s: &[u8], at: usize, from: usize, to: usize) {
+    if from < at {
+        return;
+    }
+    if to < from {
+        return;
+    }
+    if s.len() < to {
+        return;
+    }
+    tell(path, &s[at..from], &s[from..to], b"");
+}
+
+// The case that starts at an index, with the three numbers from another index to a third.
+fn one(path: &[u8], s: &[u8], at: usize, from: usize, to: usize, tally: Tally) -> Tally {
     let second = next_line(s, at);
     let third = next_line(s, second);
     let mut m = [0i32; 64];
@@ -125,9 +139,7 @@ fn one(path: &[u8], s: &[u8], at: usize, from: usize, tally: Tally) -> Tally {
     let r = review(&m[..i], &p[..j], word(s, third));
     let good = has(s, from, r.answer as u64, r.place as u64, r.count);
     if !good {
-        if at <= s.len() {
-            tell(path, &s[at..], b"", b"");
-        }
+        tell_case(path, s, at, from, to);
     }
     tally.seen(good)
 }
@@ -142,8 +154,9 @@ fn play_all(path: &[u8], s: &[u8], start: Tally) -> Tally {
             return tally;
         }
         let from = next_line(s, seek(s, at, b"=\n"));
-        tally = one(path, s, at, from, tally);
-        at = next_line(s, seek(s, from, b"--\n"));
+        let to = seek(s, from, b"--\n");
+        tally = one(path, s, at, from, to, tally);
+        at = next_line(s, to);
         left -= 1;
     }
     tally

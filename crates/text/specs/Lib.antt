@@ -6,4 +6,5 @@ pub mod Printed
 pub mod Example
 -- What the code's own answers stand for.
 pub mod Meaning
+pub mod Cut
 pub mod Unique

@@ -21,7 +21,7 @@ pub ruleset lines-rules = (few, needs)
 module _ (input old new : List ℕ) (r : Printed) (at lines : ℕ) (a : Answer input old new r) (e : r ≡ Printed.Text at lines) where
   pub in-text : at ≤ length new
   unfolding Answer
-  in-text = (rw e at a) .1 .within
+  in-text = (rw e at a) .2 .within
 
   pub text-count : at ≡ length (take at new)
   text-count = count-of new at in-text

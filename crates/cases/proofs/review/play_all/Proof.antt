@@ -4,10 +4,10 @@ use Rattle.cases.proofs.review.play_all.Statement.{statement}
 use Rattle.cases.proofs.review.play_all.Tie as tie
 
 abbrev Inv-loop : tie.InvT-loop
-Inv-loop path s tally₀ at₀ left₀ t8 t9 tally at left = Unit {0}
+Inv-loop path s tally₀ at₀ left₀ t9 t10 tally at left = Unit {0}
 
 abbrev μ-loop : tie.MeasureT-loop
-μ-loop path s tally₀ at₀ left₀ t8 t9 tally at left = left
+μ-loop path s tally₀ at₀ left₀ t9 t10 tally at left = left
 
 pub play-all-spec : {M : Type 1} → statement M
 play-all-spec =
@@ -20,8 +20,8 @@ play-all-spec =
     (λ c. search rules)
     (λ c κs. search rules)
     (λ c κs. search rules)
-    (λ c κs. search rules)
     (λ c. search rules)
+    (λ c κs. search rules)
     (λ c κs. search rules)
     (λ c κs. search rules)
     (λ c. search rules)
