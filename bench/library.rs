@@ -41,9 +41,9 @@ fn numbers<const N: usize>(bytes: &[u8], answer: u32) -> [u64; N] {
     all
 }
 
-pub fn match_words(matcher: &[i32], pattern: &[i32], target: &[i32], budget: u32, room: &mut [i32]) -> Matched {
-    let mut bytes = [MARK; 48];
-    let answer = unsafe {
+fn call_match(rule: [&[i32]; 2], target: &[i32], budget: u32, room: &mut [i32], numbers: &mut [u8]) -> u32 {
+    let [matcher, pattern] = rule;
+    unsafe {
         lozhbinor_match(
             matcher.as_ptr(),
             matcher.len(),
@@ -54,65 +54,40 @@ pub fn match_words(matcher: &[i32], pattern: &[i32], target: &[i32], budget: u32
             budget,
             room.as_mut_ptr(),
             room.len(),
-            bytes.as_mut_ptr(),
-            bytes.len(),
+            numbers.as_mut_ptr(),
+            numbers.len(),
         )
-    };
+    }
+}
+
+fn call_review(rule: [&[i32]; 2], cap: i32, numbers: &mut [u8]) -> u32 {
+    let [m, p] = rule;
+    unsafe { lozhbinor_review(m.as_ptr(), m.len(), p.as_ptr(), p.len(), cap, numbers.as_mut_ptr(), numbers.len()) }
+}
+
+pub fn match_words(matcher: &[i32], pattern: &[i32], target: &[i32], budget: u32, room: &mut [i32]) -> Matched {
+    let mut bytes = [MARK; 48];
+    let answer = call_match([matcher, pattern], target, budget, room, &mut bytes);
     numbers(&bytes, answer)
 }
 
 pub fn review(matcher: &[i32], pattern: &[i32], cap: i32) -> Reviewed {
     let mut bytes = [MARK; 32];
-    let answer = unsafe {
-        lozhbinor_review(
-            matcher.as_ptr(),
-            matcher.len(),
-            pattern.as_ptr(),
-            pattern.len(),
-            cap,
-            bytes.as_mut_ptr(),
-            bytes.len(),
-        )
-    };
+    let answer = call_review([matcher, pattern], cap, &mut bytes);
     numbers(&bytes, answer)
 }
 
 /// Answer 24: slices too short for the numbers, of every length; nothing is written anywhere. Gives how many were tried.
 pub fn short() -> usize {
-    let words = [3, 1, 5, 1, 0, 0, 1, 1, 0, 7];
-    let (matcher, pattern, target) = (&words[..2], &words[2..6], &words[6..]);
+    let rule: [&[i32]; 2] = [&[3, 1], &[5, 1, 0, 0]];
     for len in 0..40 {
         let (mut bytes, mut room) = ([MARK; 40], [-7; 4]);
-        let answer = unsafe {
-            lozhbinor_match(
-                matcher.as_ptr(),
-                matcher.len(),
-                pattern.as_ptr(),
-                pattern.len(),
-                target.as_ptr(),
-                target.len(),
-                99,
-                room.as_mut_ptr(),
-                room.len(),
-                bytes.as_mut_ptr(),
-                len,
-            )
-        };
+        let answer = call_match(rule, &[1, 1, 0, 7], 99, &mut room, &mut bytes[..len]);
         assert!(answer == 24 && bytes == [MARK; 40] && room == [-7; 4], "match, {len} bytes for the numbers");
     }
     for len in 0..24 {
         let mut bytes = [MARK; 24];
-        let answer = unsafe {
-            lozhbinor_review(
-                matcher.as_ptr(),
-                matcher.len(),
-                pattern.as_ptr(),
-                pattern.len(),
-                3,
-                bytes.as_mut_ptr(),
-                len,
-            )
-        };
+        let answer = call_review(rule, 3, &mut bytes[..len]);
         assert!(answer == 24 && bytes == [MARK; 24], "review, {len} bytes for the numbers");
     }
     64
