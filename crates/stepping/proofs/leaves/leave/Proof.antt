@@ -1,12 +1,12 @@
--- `stepping::State::leave` meets its contract. Assumes nothing.
-use Rattle.stepping.specs.Steps.{topped, nowLeft}
+-- `stepping::leaves::leave` meets its contract. Assumes nothing.
+use Rattle.stepping.specs.Steps.{nowLeft}
 use Rattle.stepping.proofs.Laws.{leave-rules}
-use Rattle.stepping.proofs.State.leave.Statement.{statement}
-use Rattle.stepping.proofs.State.leave.Tie as tie
+use Rattle.stepping.proofs.leaves.leave.Statement.{statement}
+use Rattle.stepping.proofs.leaves.leave.Tie as tie
 use Rattle.holding.proofs.places.wide.Reads as wide-reads
 
 pub leave-spec : {M : Type 1} → statement M
-unfolding topped nowLeft
+unfolding nowLeft
 leave-spec =
     tie.close
     (tie.spec

@@ -1,9 +1,9 @@
--- `stepping::passes` meets its contract. Assumes nothing.
+-- `stepping::leaves::passes` meets its contract. Assumes nothing.
 use Rattle.stepping.specs.Steps.{passesOf}
 use Rattle.stepping.proofs.Laws.{cases}
-use Rattle.stepping.proofs.passes.Statement.{statement}
-use Rattle.stepping.proofs.passes.Tie as tie
-use Rattle.stepping.proofs.is_constant.Reads as is-constant-reads
+use Rattle.stepping.proofs.leaves.passes.Statement.{statement}
+use Rattle.stepping.proofs.leaves.passes.Tie as tie
+use Rattle.stepping.proofs.leaves.is_constant.Reads as is-constant-reads
 
 pub passes-spec : {M : Type 1} → statement M
 unfolding passesOf

@@ -1,8 +1,8 @@
--- `stepping::opens` meets its contract. Assumes nothing.
+-- `stepping::leaves::opens` meets its contract. Assumes nothing.
 use Rattle.stepping.specs.Steps.{opensOf}
 use Rattle.stepping.proofs.Laws.{open-rules}
-use Rattle.stepping.proofs.opens.Statement.{statement}
-use Rattle.stepping.proofs.opens.Tie as tie
+use Rattle.stepping.proofs.leaves.opens.Statement.{statement}
+use Rattle.stepping.proofs.leaves.opens.Tie as tie
 use Rattle.marks.proofs.lowest.Reads as lowest-reads
 use Rattle.marks.proofs.one.Reads as one-reads
 

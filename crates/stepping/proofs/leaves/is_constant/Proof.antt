@@ -1,7 +1,7 @@
--- `stepping::is_constant` meets its contract. Assumes nothing.
+-- `stepping::leaves::is_constant` meets its contract. Assumes nothing.
 use Rattle.stepping.proofs.Laws.{word-rules}
-use Rattle.stepping.proofs.is_constant.Statement.{statement}
-use Rattle.stepping.proofs.is_constant.Tie as tie
+use Rattle.stepping.proofs.leaves.is_constant.Statement.{statement}
+use Rattle.stepping.proofs.leaves.is_constant.Tie as tie
 
 pub is-constant-spec : {M : Type 1} → statement M
 is-constant-spec =

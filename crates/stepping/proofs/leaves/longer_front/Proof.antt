@@ -1,8 +1,8 @@
--- `stepping::longer_front` meets its contract. Assumes nothing.
+-- `stepping::leaves::longer_front` meets its contract. Assumes nothing.
 use Rattle.stepping.specs.Steps.{longerOf}
 use Rattle.stepping.proofs.Laws.{cases}
-use Rattle.stepping.proofs.longer_front.Statement.{statement}
-use Rattle.stepping.proofs.longer_front.Tie as tie
+use Rattle.stepping.proofs.leaves.longer_front.Statement.{statement}
+use Rattle.stepping.proofs.leaves.longer_front.Tie as tie
 use Rattle.marks.proofs.longer.Reads as longer-reads
 
 pub longer-front-spec : {M : Type 1} → statement M

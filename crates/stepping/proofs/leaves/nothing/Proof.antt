@@ -1,8 +1,8 @@
--- `stepping::nothing` meets its contract. Assumes nothing.
+-- `stepping::leaves::nothing` meets its contract. Assumes nothing.
 use Rattle.stepping.specs.Steps.{noneOf}
 use Rattle.stepping.proofs.Laws.{cases}
-use Rattle.stepping.proofs.nothing.Statement.{statement}
-use Rattle.stepping.proofs.nothing.Tie as tie
+use Rattle.stepping.proofs.leaves.nothing.Statement.{statement}
+use Rattle.stepping.proofs.leaves.nothing.Tie as tie
 
 pub nothing-spec : {M : Type 1} → statement M
 unfolding noneOf
