@@ -65,21 +65,21 @@ fn agrees(how: &str, wanted: &[&str], rows: &[String]) -> bool {
 }
 
 fn published(services: &Services, text: &str, count: &mut Count) {
-    let mut base = false;
+    let mut landed = false;
     let mut block: Vec<&str> = Vec::new();
     for line in text.lines() {
         if line.starts_with('#') {
-            base = line == "# needs: base" || (base && !line.starts_with("# needs:"));
+            landed = matches!(line, "# needs: base" | "# needs: 1") || (landed && !line.starts_with("# needs:"));
         } else if line != "--" {
             if !(block.is_empty() && line.is_empty()) {
                 block.push(line);
             }
         } else {
-            if base {
+            if landed {
                 published_block(services, &block, count);
             }
             block.clear();
-            base = false;
+            landed = false;
         }
     }
 }

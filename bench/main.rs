@@ -47,6 +47,7 @@ fn run_comparison(inputs: u64, seed: u64) -> bool {
     let tally = compare::random(&TESTED, inputs, seed);
     println!("{} against the reference: {} random inputs, {} differ", TESTED.name, tally.inputs, tally.differ);
     println!("  by answer, 0 to 10: {:?}", tally.answers);
+    println!("  of these under tuples: {:?}", tally.tuples);
     tally.differ == 0
 }
 

@@ -1,4 +1,4 @@
-//! Document 01 written out sentence by sentence over trees and lists of states: slow, and unlike the reference in every way, to check that one by.
+//! Document 01, with the tuples of document 02, written out sentence by sentence over trees and lists of states: slow, and unlike the reference in every way, to check that one by.
 
 use crate::reference::{Matched, Reviewed};
 
@@ -8,6 +8,7 @@ enum Matcher {
     Integer,
     List(Box<Matcher>),
     Multiset(Box<Matcher>),
+    Tuple(Vec<Matcher>),
 }
 
 /// A pattern, and the index of its tag.
@@ -26,12 +27,14 @@ enum Form {
     Nil,
     Cons(Box<Pattern>, Box<Pattern>),
     Join(Box<Pattern>, Box<Pattern>),
+    Tuple(Vec<Pattern>),
 }
 
 #[derive(Clone, PartialEq, Eq, PartialOrd, Ord)]
 enum Value {
     Int(i32),
     Collection(Vec<Value>),
+    Tuple(Vec<Value>),
 }
 
 type Fault = usize;
@@ -58,6 +61,14 @@ impl Words<'_> {
         }
     }
 
+    fn width(&mut self) -> Result<i32, Fault> {
+        let at = self.at;
+        match self.next()? {
+            k if (2..=4).contains(&k) => Ok(k),
+            _ => Err(at),
+        }
+    }
+
     fn matcher(&mut self, left: usize) -> Result<Matcher, Fault> {
         let at = self.at;
         match self.next()? {
@@ -65,6 +76,10 @@ impl Words<'_> {
             1 => Ok(Matcher::Integer),
             2 if left > 0 => Ok(Matcher::List(Box::new(self.matcher(left - 1)?))),
             3 if left > 0 => Ok(Matcher::Multiset(Box::new(self.matcher(left - 1)?))),
+            4 if left > 0 => {
+                let parts = (0..self.width()?).map(|_| self.matcher(left - 1)).collect::<Result<_, _>>();
+                Ok(Matcher::Tuple(parts?))
+            }
             _ => Err(at),
         }
     }
@@ -79,6 +94,7 @@ impl Words<'_> {
             4 => Form::Nil,
             5 => Form::Cons(Box::new(self.pattern()?), Box::new(self.pattern()?)),
             6 => Form::Join(Box::new(self.pattern()?), Box::new(self.pattern()?)),
+            7 => Form::Tuple((0..self.width()?).map(|_| self.pattern()).collect::<Result<_, _>>()?),
             _ => return Err(at),
         };
         Ok(Pattern { at, form })
@@ -94,6 +110,10 @@ impl Words<'_> {
                     return Err(at + 1);
                 }
                 Ok(Value::Collection((0..count).map(|_| self.value(depth - 1)).collect::<Result<_, _>>()?))
+            }
+            2 if depth > 0 => {
+                let parts = (0..self.width()?).map(|_| self.value(depth - 1)).collect::<Result<_, _>>();
+                Ok(Value::Tuple(parts?))
             }
             _ => Err(at),
         }
@@ -116,9 +136,13 @@ fn limited(words: &[i32], most: usize) -> Result<(), Fault> {
 
 fn tags(p: &Pattern) -> Vec<&Pattern> {
     let mut all = vec![p];
-    if let Form::Cons(a, b) | Form::Join(a, b) = &p.form {
-        all.extend(tags(a));
-        all.extend(tags(b));
+    match &p.form {
+        Form::Cons(a, b) | Form::Join(a, b) => {
+            all.extend(tags(a));
+            all.extend(tags(b));
+        }
+        Form::Tuple(parts) => all.extend(parts.iter().flat_map(tags)),
+        _ => {}
     }
     all
 }
@@ -141,6 +165,16 @@ fn solid(m: &Matcher) -> bool {
         Matcher::Something => false,
         Matcher::Integer => true,
         Matcher::List(m) | Matcher::Multiset(m) => solid(m),
+        Matcher::Tuple(ms) => ms.iter().all(solid),
+    }
+}
+
+/// The matcher with every multiset made a list: two matchers are of the same shape if these are equal.
+fn shape(m: &Matcher) -> Matcher {
+    match m {
+        Matcher::List(m) | Matcher::Multiset(m) => Matcher::List(Box::new(shape(m))),
+        Matcher::Tuple(ms) => Matcher::Tuple(ms.iter().map(shape).collect()),
+        bare => bare.clone(),
     }
 }
 
@@ -160,7 +194,7 @@ fn fits<'a>(p: &Pattern, m: &'a Matcher, under: &mut Vec<&'a Matcher>) -> Result
             true
         }
         (Form::Constant(_), _) => compares,
-        (Form::Value(v, c), _) => solid(m) && under[*v as usize] == m && (compares || *c == 0),
+        (Form::Value(v, c), _) => solid(m) && shape(under[*v as usize]) == shape(m) && (compares || *c == 0),
         (Form::Nil, inner) => inner.is_some(),
         (Form::Cons(a, b), Some(inner)) => {
             fits(a, inner, under)?;
@@ -170,6 +204,12 @@ fn fits<'a>(p: &Pattern, m: &'a Matcher, under: &mut Vec<&'a Matcher>) -> Result
             fits(a, m, under)?;
             return fits(b, m, under);
         }
+        (Form::Tuple(ps), _) => match m {
+            Matcher::Tuple(ms) if ms.len() == ps.len() => {
+                return ps.iter().zip(ms).try_for_each(|(p, m)| fits(p, m, under))
+            }
+            _ => false,
+        },
         _ => false,
     };
     if good {
@@ -182,7 +222,7 @@ fn fits<'a>(p: &Pattern, m: &'a Matcher, under: &mut Vec<&'a Matcher>) -> Result
 fn size(v: &Value) -> usize {
     match v {
         Value::Int(_) => 2,
-        Value::Collection(vs) => 2 + vs.iter().map(size).sum::<usize>(),
+        Value::Collection(vs) | Value::Tuple(vs) => 2 + vs.iter().map(size).sum::<usize>(),
     }
 }
 
@@ -192,6 +232,14 @@ fn fits_value(m: &Matcher, v: &Value, at: usize) -> Result<(), Fault> {
         (Matcher::List(m), Value::Collection(vs)) | (Matcher::Multiset(m), Value::Collection(vs)) => {
             let mut at = at + 2;
             for v in vs {
+                fits_value(m, v, at)?;
+                at += size(v);
+            }
+            Ok(())
+        }
+        (Matcher::Tuple(ms), Value::Tuple(vs)) if ms.len() == vs.len() => {
+            let mut at = at + 2;
+            for (m, v) in ms.iter().zip(vs) {
                 fits_value(m, v, at)?;
                 at += size(v);
             }
@@ -226,6 +274,7 @@ fn sorted(m: &Matcher, v: &Value) -> Value {
             vs.sort();
             Value::Collection(vs)
         }
+        (Matcher::Tuple(ms), Value::Tuple(vs)) => Value::Tuple(ms.iter().zip(vs).map(|(m, v)| sorted(m, v)).collect()),
         _ => v.clone(),
     }
 }
@@ -233,7 +282,7 @@ fn sorted(m: &Matcher, v: &Value) -> Value {
 fn raised(v: &Value, c: i32) -> Value {
     match v {
         Value::Int(x) => Value::Int(((i64::from(*x) + i64::from(c)) as u64 & 0xffff_ffff) as u32 as i32),
-        collection => collection.clone(),
+        other => other.clone(),
     }
 }
 
@@ -243,7 +292,7 @@ fn after<'a>(atom: &Atom<'a>, older: State<'a>) -> Vec<State<'a>> {
     let (m, v) = (atom.matcher, &atom.value);
     let keep = |equal: bool| if equal { vec![older.clone()] } else { Vec::new() };
     let elements: &[Value] = match v {
-        Value::Collection(vs) => vs,
+        Value::Collection(vs) | Value::Tuple(vs) => vs,
         Value::Int(_) => &[],
     };
     let two = |a: &'a Pattern, am: &'a Matcher, av: Value, b: &'a Pattern, bv: Vec<Value>| {
@@ -282,6 +331,13 @@ fn after<'a>(atom: &Atom<'a>, older: State<'a>) -> Vec<State<'a>> {
         (Form::Join(a, b), _) => (0..=elements.len())
             .map(|k| two(a, m, Value::Collection(elements[..k].to_vec()), b, elements[k..].to_vec()))
             .collect(),
+        (Form::Tuple(ps), Matcher::Tuple(ms)) => {
+            let mut state = older.clone();
+            for ((p, m), v) in ps.iter().zip(ms).zip(elements).rev() {
+                state.atoms.push(Atom { pattern: p, matcher: m, value: v.clone() });
+            }
+            vec![state]
+        }
         _ => unreachable!("the pattern fits"),
     }
 }
@@ -291,6 +347,10 @@ fn write(v: &Value, words: &mut Vec<i32>) {
         Value::Int(x) => words.extend([0, *x]),
         Value::Collection(vs) => {
             words.extend([1, vs.len() as i32]);
+            vs.iter().for_each(|v| write(v, words));
+        }
+        Value::Tuple(vs) => {
+            words.extend([2, vs.len() as i32]);
             vs.iter().for_each(|v| write(v, words));
         }
     }
@@ -328,7 +388,7 @@ fn run(m: &Matcher, p: &Pattern, v: Value, budget: u32, room: &mut [i32]) -> Mat
 
 fn rule(matcher: &[i32], pattern: &[i32]) -> Result<(Matcher, Pattern), (u64, Fault)> {
     let mut ms = words(matcher);
-    let m = ms.matcher(4).and_then(|m| ms.end(m)).map_err(|i| (1, i))?;
+    let m = limited(matcher, 64).and_then(|()| ms.matcher(4)).and_then(|m| ms.end(m)).map_err(|i| (1, i))?;
     let mut ps = words(pattern);
     let p = limited(pattern, 256).and_then(|()| ps.pattern()).and_then(|p| ps.end(p)).map_err(|i| (2, i))?;
     variables(&p).map_err(|i| (3, i))?;
@@ -361,6 +421,10 @@ fn weights(p: &Pattern, m: &Matcher, cap: u128) -> Vec<(u128, u128)> {
         (Form::Cons(a, b), Matcher::Multiset(inner)) => both(cap, weights(a, inner, cap), weights(b, m, cap)),
         (Form::Cons(a, b), Matcher::List(inner)) => both(1, weights(a, inner, cap), weights(b, m, cap)),
         (Form::Join(a, b), _) => both(cap + 1, weights(a, m, cap), weights(b, m, cap)),
+        (Form::Tuple(ps), Matcher::Tuple(ms)) => {
+            let parts = ps.iter().zip(ms).flat_map(|(p, m)| weights(p, m, cap));
+            leaf(1).into_iter().chain(parts).collect()
+        }
         _ => leaf(1),
     }
 }

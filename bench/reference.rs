@@ -1,4 +1,4 @@
-//! Document 01 by plain recursion on the words, as a good Rust engineer would write it: no tree, no heap.
+//! Document 01, with the tuples of document 02, by plain recursion on the words, as a good Rust engineer would write it: no tree, no heap.
 //! It knows nothing of the library and nothing of the proofs.
 
 /// Match's five numbers: answer, place, rows, steps, words written.
@@ -14,6 +14,7 @@ const SOMETHING: i32 = 0;
 const INTEGER: i32 = 1;
 const LIST: i32 = 2;
 const MULTISET: i32 = 3;
+const TUPLE_OF: i32 = 4;
 
 const WILDCARD: i32 = 0;
 const VARIABLE: i32 = 1;
@@ -22,6 +23,7 @@ const VALUE: i32 = 3;
 const NIL: i32 = 4;
 const CONS: i32 = 5;
 const JOIN: i32 = 6;
+const TUPLE: i32 = 7;
 
 // ---- The tests 1 to 6.
 
@@ -33,22 +35,45 @@ fn whole(words: &[i32], end: usize) -> Result<(), usize> {
     }
 }
 
-fn read_matcher(words: &[i32]) -> Result<(), usize> {
-    let mut left = 4;
-    for (at, &word) in words.iter().enumerate() {
-        match word {
-            SOMETHING | INTEGER => return whole(words, at + 1),
-            LIST | MULTISET if left > 0 => left -= 1,
-            _ => return Err(at),
-        }
+/// The width of a tuple, which stands behind its tag; or the place of a wrong or a missing one.
+fn width(words: &[i32], at: usize) -> Result<usize, usize> {
+    match words.get(at) {
+        Some(&k @ 2..=4) => Ok(k as usize),
+        _ => Err(at),
     }
-    Err(words.len())
+}
+
+/// Where the matcher ends whose tag stands at an index of the matcher's words.
+type MatcherEnds = [u8; 64];
+
+fn matcher_at(words: &[i32], at: usize, left: usize, ends: &mut MatcherEnds) -> Read {
+    let end = match words.get(at) {
+        Some(&SOMETHING) | Some(&INTEGER) => at + 1,
+        Some(&LIST) | Some(&MULTISET) if left > 0 => matcher_at(words, at + 1, left - 1, ends)?,
+        Some(&TUPLE_OF) if left > 0 => {
+            let mut end = at + 2;
+            for _ in 0..width(words, at + 1)? {
+                end = matcher_at(words, end, left - 1, ends)?;
+            }
+            end
+        }
+        _ => return Err(at),
+    };
+    ends[at] = end as u8;
+    Ok(end)
+}
+
+fn read_matcher(words: &[i32], ends: &mut MatcherEnds) -> Result<(), usize> {
+    if words.len() > 64 {
+        return Err(64);
+    }
+    whole(words, matcher_at(words, 0, 4, ends)?)
 }
 
 /// How many words follow a pattern's tag as its operands.
 fn operands(tag: i32) -> usize {
     match tag {
-        VARIABLE | CONSTANT => 1,
+        VARIABLE | CONSTANT | TUPLE => 1,
         VALUE => 2,
         _ => 0,
     }
@@ -66,6 +91,13 @@ fn read_part(words: &[i32], at: usize, ends: &mut Ends) -> Read {
         Some(&CONS) | Some(&JOIN) => {
             let middle = read_part(words, at + 1, ends)?;
             read_part(words, middle, ends)?
+        }
+        Some(&TUPLE) => {
+            let mut end = at + 2;
+            for _ in 0..width(words, at + 1)? {
+                end = read_part(words, end, ends)?;
+            }
+            end
         }
         _ => return Err(at),
     };
@@ -102,19 +134,46 @@ fn takes(matcher: i32, tag: i32) -> bool {
     match matcher {
         SOMETHING => tag <= VARIABLE,
         INTEGER => tag <= VALUE,
-        LIST => tag != CONSTANT,
-        _ => tag != CONSTANT && tag != JOIN,
+        LIST => tag != CONSTANT && tag != TUPLE,
+        MULTISET => tag != CONSTANT && tag != JOIN && tag != TUPLE,
+        _ => tag <= VARIABLE || tag == VALUE || tag == TUPLE,
     }
 }
 
 /// A rule in test: its words, and under which index of the matcher each variable stands.
 struct Fitting<'a> {
     matcher: &'a [i32],
+    matcher_ends: &'a MatcherEnds,
     pattern: &'a [i32],
     under: [usize; 16],
 }
 
 impl Fitting<'_> {
+    /// Whether the matchers at `m` and `n` are of the same shape, list and multiset counting alike.
+    fn alike(&self, m: usize, n: usize) -> bool {
+        let collection = |tag| tag == LIST || tag == MULTISET;
+        let (one, other) = (self.matcher[m], self.matcher[n]);
+        if collection(one) && collection(other) {
+            return self.alike(m + 1, n + 1);
+        }
+        if one != TUPLE_OF || other != TUPLE_OF {
+            return one == other;
+        }
+        let (mut x, mut y) = (m + 2, n + 2);
+        self.matcher[m + 1] == self.matcher[n + 1]
+            && (0..self.matcher[m + 1]).all(|_| {
+                let same = self.alike(x, y);
+                x = self.matcher_ends[x] as usize;
+                y = self.matcher_ends[y] as usize;
+                same
+            })
+    }
+
+    /// Whether something does not occur in the matcher at `m`. (No width is 0.)
+    fn solid(&self, m: usize) -> bool {
+        !self.matcher[m..self.matcher_ends[m] as usize].contains(&SOMETHING)
+    }
+
     /// Tests the part whose tag stands at `at` under the matcher whose tag stands at `m`.
     fn part(&mut self, at: usize, m: usize) -> Read {
         let (matcher, tag) = (self.matcher[m], self.pattern[at]);
@@ -124,10 +183,9 @@ impl Fitting<'_> {
         match tag {
             VARIABLE => self.under[self.pattern[at + 1] as usize] = m,
             VALUE => {
-                let solid = *self.matcher.last().unwrap() != SOMETHING;
-                let alike = self.under[self.pattern[at + 1] as usize] == m;
+                let alike = self.alike(self.under[self.pattern[at + 1] as usize], m);
                 let plain = matcher == INTEGER || self.pattern[at + 2] == 0;
-                if !(solid && alike && plain) {
+                if !(self.solid(m) && alike && plain) {
                     return Err(at);
                 }
             }
@@ -138,6 +196,17 @@ impl Fitting<'_> {
             JOIN => {
                 let middle = self.part(at + 1, m)?;
                 return self.part(middle, m);
+            }
+            TUPLE => {
+                if self.pattern[at + 1] != self.matcher[m + 1] {
+                    return Err(at);
+                }
+                let (mut end, mut under) = (at + 2, m + 2);
+                for _ in 0..self.pattern[at + 1] {
+                    end = self.part(end, under)?;
+                    under = self.matcher_ends[under] as usize;
+                }
+                return Ok(end);
             }
             _ => {}
         }
@@ -178,6 +247,13 @@ impl Places {
                 }
                 end
             }
+            Some(2) if depth > 0 => {
+                let mut end = at + 2;
+                for _ in 0..width(words, at + 1)? {
+                    end = self.value(words, end, depth - 1)?;
+                }
+                end
+            }
             _ => return Err(at),
         };
         self.end[at] = end as u16;
@@ -192,14 +268,32 @@ fn read_target(words: &[i32], places: &mut Places) -> Result<(), usize> {
     whole(words, places.value(words, 0, 8)?)
 }
 
-fn fits_value(matcher: &[i32], target: &[i32], places: &Places, at: usize) -> Result<(), usize> {
-    match (matcher[0], target[at]) {
+/// A matcher and a target, and where the parts of each end.
+#[derive(Clone, Copy)]
+struct Forms<'a> {
+    matcher: &'a [i32],
+    matcher_ends: &'a MatcherEnds,
+    target: &'a [i32],
+    places: &'a Places,
+}
+
+fn fits_value(r: Forms, m: usize, at: usize) -> Result<(), usize> {
+    match (r.matcher[m], r.target[at]) {
         (SOMETHING, _) | (INTEGER, 0) => Ok(()),
         (LIST, 1) | (MULTISET, 1) => {
             let mut element = at + 2;
-            for _ in 0..target[at + 1] {
-                fits_value(&matcher[1..], target, places, element)?;
-                element = places.end[element] as usize;
+            for _ in 0..r.target[at + 1] {
+                fits_value(r, m + 1, element)?;
+                element = r.places.end[element] as usize;
+            }
+            Ok(())
+        }
+        (TUPLE_OF, 2) if r.matcher[m + 1] == r.target[at + 1] => {
+            let (mut under, mut part) = (m + 2, at + 2);
+            for _ in 0..r.target[at + 1] {
+                fits_value(r, under, part)?;
+                under = r.matcher_ends[under] as usize;
+                part = r.places.end[part] as usize;
             }
             Ok(())
         }
@@ -240,6 +334,7 @@ struct Atom<'a> {
 
 struct Search<'a> {
     matcher: &'a [i32],
+    matcher_ends: &'a MatcherEnds,
     pattern: &'a [i32],
     target: &'a [i32],
     ends: &'a Ends,
@@ -321,7 +416,8 @@ impl Search<'_> {
                     }
                     return Ok(());
                 }
-                _ => return self.join(atom),
+                JOIN => return self.join(atom),
+                _ => return self.tuple(atom),
             }
             state = atom.older;
         }
@@ -378,14 +474,53 @@ impl Search<'_> {
         }
     }
 
+    /// One state follows, with the parts in order.
+    fn tuple(&mut self, atom: &Atom) -> Result<(), Stop> {
+        let k = self.pattern[atom.pattern + 1] as usize;
+        let mut parts = [(atom.pattern + 2, atom.matcher + 2, atom.value.at + 2); 4];
+        for i in 1..k {
+            let (pattern, matcher, value) = parts[i - 1];
+            parts[i] =
+                (self.ends[pattern] as usize, self.matcher_ends[matcher] as usize, self.places.end[value] as usize);
+        }
+        self.parts(&parts[..k], atom.older)
+    }
+
+    /// Puts parts of a tuple before older atoms, the last part first, and takes up the state.
+    fn parts(&mut self, parts: &[(usize, usize, usize)], older: Option<&Atom>) -> Result<(), Stop> {
+        match parts {
+            [] => self.take_up(older),
+            [before @ .., (pattern, matcher, value)] => {
+                let value = self.whole(*value);
+                self.parts(before, Some(&Atom { pattern: *pattern, matcher: *matcher, value, older }))
+            }
+        }
+    }
+
     /// Whether x, plus c if it is an integer, equals y under the matcher at m.
     #[inline]
     fn equal(&self, m: usize, x: Held, c: i32, y: Held) -> bool {
         match self.matcher[m] {
             INTEGER => self.target[x.at + 1].wrapping_add(c) == self.target[y.at + 1],
             LIST => self.in_order(m + 1, x, y),
-            _ => self.paired_off(m + 1, x, y),
+            MULTISET => self.paired_off(m + 1, x, y),
+            _ => self.part_by_part(m, x, y),
         }
+    }
+
+    /// Two tuples of one width.
+    #[inline(never)]
+    fn part_by_part(&self, m: usize, x: Held, y: Held) -> bool {
+        let (mut m, mut a, mut b) = (m + 2, x.at + 2, y.at + 2);
+        for _ in 0..self.target[x.at + 1] {
+            if !self.equal(m, self.whole(a), 0, self.whole(b)) {
+                return false;
+            }
+            m = self.matcher_ends[m] as usize;
+            a = self.places.end[a] as usize;
+            b = self.places.end[b] as usize;
+        }
+        true
     }
 
     #[inline(never)]
@@ -430,6 +565,9 @@ impl Search<'_> {
     }
 
     fn size(&self, held: Held) -> usize {
+        if !self.is_collection(held) {
+            return self.places.end[held.at] as usize - held.at;
+        }
         let mut size = 2;
         let mut left = held.marks;
         while left != 0 {
@@ -453,18 +591,24 @@ impl Search<'_> {
     }
 
     fn write(&mut self, held: Held) {
-        self.room[self.words] = self.target[held.at];
-        self.room[self.words + 1] =
-            if self.is_collection(held) { held.marks.count_ones() as i32 } else { self.target[held.at + 1] };
+        if !self.is_collection(held) {
+            return self.copy(held.at);
+        }
+        self.room[self.words] = 1;
+        self.room[self.words + 1] = held.marks.count_ones() as i32;
         self.words += 2;
         let mut left = held.marks;
         while left != 0 {
-            let element = self.element(held, left.trailing_zeros());
-            let words = &self.target[element..self.places.end[element] as usize];
-            self.room[self.words..self.words + words.len()].copy_from_slice(words);
-            self.words += words.len();
+            self.copy(self.element(held, left.trailing_zeros()));
             left &= left - 1;
         }
+    }
+
+    /// Writes a whole value of the target.
+    fn copy(&mut self, at: usize) {
+        let words = &self.target[at..self.places.end[at] as usize];
+        self.room[self.words..self.words + words.len()].copy_from_slice(words);
+        self.words += words.len();
     }
 }
 
@@ -474,33 +618,42 @@ fn refused(answer: u64) -> impl Fn(usize) -> (u64, u64) {
     move |place| (answer, place as u64)
 }
 
-fn read_rule(matcher: &[i32], pattern: &[i32], ends: &mut Ends) -> Result<usize, (u64, u64)> {
-    read_matcher(matcher).map_err(refused(1))?;
-    read_pattern(pattern, ends).map_err(refused(2))?;
+/// Where the parts of matcher and pattern end.
+struct Rule {
+    matcher_ends: MatcherEnds,
+    ends: Ends,
+}
+
+/// The tests 1 to 4; gives the number of variables.
+fn read_rule(matcher: &[i32], pattern: &[i32], rule: &mut Rule) -> Result<usize, (u64, u64)> {
+    read_matcher(matcher, &mut rule.matcher_ends).map_err(refused(1))?;
+    read_pattern(pattern, &mut rule.ends).map_err(refused(2))?;
     let variables = count_variables(pattern).map_err(refused(3))?;
-    let mut fitting = Fitting { matcher, pattern, under: [0; 16] };
+    let mut fitting = Fitting { matcher, matcher_ends: &rule.matcher_ends, pattern, under: [0; 16] };
     fitting.part(0, 0).map_err(refused(4))?;
     Ok(variables)
 }
 
 pub fn match_words(matcher: &[i32], pattern: &[i32], target: &[i32], budget: u32, room: &mut [i32]) -> Matched {
-    let mut ends = [0; 256];
+    let mut rule = Rule { matcher_ends: [0; 64], ends: [0; 256] };
     let mut places = Places::new();
-    let read = |ends: &mut Ends, places: &mut Places| {
-        let variables = read_rule(matcher, pattern, ends)?;
+    let read = |rule: &mut Rule, places: &mut Places| {
+        let variables = read_rule(matcher, pattern, rule)?;
         read_target(target, places).map_err(refused(5))?;
-        fits_value(matcher, target, places, 0).map_err(refused(6))?;
+        let forms = Forms { matcher, matcher_ends: &rule.matcher_ends, target, places };
+        fits_value(forms, 0, 0).map_err(refused(6))?;
         Ok(variables)
     };
-    let variables = match read(&mut ends, &mut places) {
+    let variables = match read(&mut rule, &mut places) {
         Ok(variables) => variables,
         Err((answer, place)) => return [answer, place, 0, 0, 0],
     };
     let mut search = Search {
         matcher,
+        matcher_ends: &rule.matcher_ends,
         pattern,
         target,
-        ends: &ends,
+        ends: &rule.ends,
         places: &places,
         variables,
         budget,
@@ -519,36 +672,62 @@ pub fn match_words(matcher: &[i32], pattern: &[i32], target: &[i32], budget: u32
     [answer, 0, search.rows as u64, search.steps as u64, search.words as u64]
 }
 
-/// The sum and the product of section 6 as far as the part at `at` under the matcher at `m`, and where the part ends.
-fn weigh(matcher: &[i32], pattern: &[i32], cap: u64, at: usize, m: usize, sum: &mut u64, product: &mut u64) -> usize {
-    let tag = pattern[at];
-    let steps = if tag <= VARIABLE && matcher[m] != SOMETHING { 2 } else { 1 };
-    *sum = sum.saturating_add(product.saturating_mul(steps));
-    let element = match tag {
-        CONS => m + 1,
-        JOIN => m,
-        _ => return at + 1 + operands(tag),
-    };
-    let factor = match (tag, matcher[m]) {
-        (JOIN, _) => cap + 1,
-        (_, MULTISET) => cap,
-        _ => 1,
-    };
-    *product = product.saturating_mul(factor);
-    let middle = weigh(matcher, pattern, cap, at + 1, element, sum, product);
-    weigh(matcher, pattern, cap, middle, m, sum, product)
+/// Section 6's sum and product, as far as a walk of the pattern has come.
+struct Weighing<'a> {
+    matcher: &'a [i32],
+    matcher_ends: &'a MatcherEnds,
+    pattern: &'a [i32],
+    cap: u64,
+    sum: u64,
+    product: u64,
+}
+
+impl Weighing<'_> {
+    /// Weighs the part at `at` under the matcher at `m`; gives where the part ends.
+    fn part(&mut self, at: usize, m: usize) -> usize {
+        let (tag, under) = (self.pattern[at], self.matcher[m]);
+        let steps = if tag <= VARIABLE && under != SOMETHING { 2 } else { 1 };
+        self.sum = self.sum.saturating_add(self.product.saturating_mul(steps));
+        let factor = match (tag, under) {
+            (JOIN, _) => self.cap + 1,
+            (CONS, MULTISET) => self.cap,
+            _ => 1,
+        };
+        self.product = self.product.saturating_mul(factor);
+        match tag {
+            CONS => {
+                let middle = self.part(at + 1, m + 1);
+                self.part(middle, m)
+            }
+            JOIN => {
+                let middle = self.part(at + 1, m);
+                self.part(middle, m)
+            }
+            TUPLE => {
+                let (mut end, mut m) = (at + 2, m + 2);
+                for _ in 0..self.pattern[at + 1] {
+                    end = self.part(end, m);
+                    m = self.matcher_ends[m] as usize;
+                }
+                end
+            }
+            _ => at + 1 + operands(tag),
+        }
+    }
 }
 
 pub fn review(matcher: &[i32], pattern: &[i32], cap: i32) -> Reviewed {
-    if let Err((answer, place)) = read_rule(matcher, pattern, &mut [0; 256]) {
+    let mut rule = Rule { matcher_ends: [0; 64], ends: [0; 256] };
+    if let Err((answer, place)) = read_rule(matcher, pattern, &mut rule) {
         return [answer, place, 0];
     }
     if !(0..=64).contains(&cap) {
         return [9, 0, 0];
     }
-    let (mut sum, mut product) = (0, 1);
-    weigh(matcher, pattern, cap as u64, 0, 0, &mut sum, &mut product);
-    let count = u64::saturating_add(sum, product);
+    let matcher_ends = &rule.matcher_ends;
+    let mut weighing = Weighing { matcher, matcher_ends, pattern, cap: cap as u64, sum: 0, product: 1 };
+    weighing.part(0, 0);
+    let count = weighing.sum.saturating_add(weighing.product);
     if count > u32::MAX as u64 {
         return [10, 0, 0];
     }

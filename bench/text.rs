@@ -62,7 +62,7 @@ fn extent(words: &[i32], values: usize) -> usize {
     let (mut at, mut left) = (0, values);
     while left > 0 {
         left -= 1;
-        if words[at] == 1 {
+        if words[at] > 0 {
             left += words[at + 1] as usize;
         }
         at += 2;
@@ -78,7 +78,7 @@ fn variables(pattern: &[i32]) -> usize {
                 count += 1;
                 2
             }
-            2 => 2,
+            2 | 7 => 2,
             3 => 3,
             _ => 1,
         };

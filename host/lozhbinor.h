@@ -6,6 +6,16 @@
  * must not overlap each other or any other slice. A slice of length 0 may have
  * any pointer that is not null.
  *
+ * The words, each form a tag and what follows it (docs/RULES.md has examples):
+ *   matcher, at most 64 words, four levels of 2, 3 and 4
+ *     0 something   1 integer   2 M list   3 M multiset   4 k M.. tuple
+ *   pattern, at most 256 words
+ *     0 wildcard   1 v variable   2 c constant   3 v c value of v, plus c
+ *     4 nil   5 p q cons   6 p q join   7 k p.. tuple
+ *   target, at most 1,024 words, eight levels of 1 and 2
+ *     0 x integer   1 n v.. collection, at most 64   2 k v.. tuple
+ * A tuple's width k is 2, 3 or 4.
+ *
  * The answer's numbers are written to `numbers`, eight bytes each, low byte
  * first; its further bytes are left alone. The call gives back the answer. No
  * input is wrong: every words, budget and room give one of the answers below.
@@ -25,7 +35,7 @@ extern "C" {
 /* The answers. */
 enum {
     LOZHBINOR_DONE = 0,     /* every row found is in the room; 0 rows: none exists */
-    LOZHBINOR_MATCHER = 1,  /* the words are not one whole matcher */
+    LOZHBINOR_MATCHER = 1,  /* over 64 words, or not one whole matcher in the limits */
     LOZHBINOR_PATTERN = 2,  /* over 256 words, or not one whole pattern */
     LOZHBINOR_VARIABLE = 3, /* a variable is out of order */
     LOZHBINOR_MISFIT = 4,   /* the pattern does not fit the matcher */

@@ -16,12 +16,16 @@ fn main() {
     let a = trial::play(b"valid.txt", start);
     let b = trial::play(b"damaged.txt", a);
     let c = trial::play(b"limits.txt", b);
-    let d = trial::play(b"rules.txt", c);
-    let e = published::play(b"published.txt", d);
-    let f = review::play(b"review.txt", e);
-    let g = review::play(b"rules-review.txt", f);
-    io::print_decimal(STDOUT_FILENO, g.cases);
+    let d = trial::play(b"tuples-valid.txt", c);
+    let e = trial::play(b"tuples-damaged.txt", d);
+    let f = trial::play(b"tuples-limits.txt", e);
+    let g = trial::play(b"rules.txt", f);
+    let h = published::play(b"published.txt", g);
+    let i = review::play(b"review.txt", h);
+    let j = review::play(b"tuples-review.txt", i);
+    let k = review::play(b"rules-review.txt", j);
+    io::print_decimal(STDOUT_FILENO, k.cases);
     io::write_all(STDOUT_FILENO, b" cases, ");
-    io::print_decimal(STDOUT_FILENO, g.differ);
+    io::print_decimal(STDOUT_FILENO, k.differ);
     io::write_all(STDOUT_FILENO, b" differ\n");
 }

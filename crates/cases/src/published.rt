@@ -28,7 +28,7 @@ fn first_line(s: &[u8], from: usize) -> usize {
     s.len()
 }
 
-// Whether rows are as the lines behind `=` want them. Only "at least one row" is published of some, and of some not their order.
+// Whether rows are as the lines behind `=` want them. Only "at least one row" is published of some, of some not their order, of some the first.
 fn as_wanted(wanted: &[u8], rows: &[u8]) -> bool {
     if stands_at(wanted, 0, b"rows-nonempty\n") {
         return 0 < rows.len();
@@ -36,6 +36,10 @@ fn as_wanted(wanted: &[u8], rows: &[u8]) -> bool {
     if stands_at(wanted, 0, b"rows-as-multiset\n") {
         let from = next_line(wanted, 0);
         return same_lines(&wanted[from..], rows);
+    }
+    if stands_at(wanted, 0, b"rows-prefix\n") {
+        let from = next_line(wanted, 0);
+        return stands_at(rows, 0, &wanted[from..]);
     }
     same(wanted, rows)
 }

@@ -1,5 +1,5 @@
 -- The whole machine with its counts, and that n steps of it give what a run with budget n gives, at every budget and room.
-use Prim.Native.Nat.{ℕ, zero, suc, _+_, _-_}
+use Prim.Native.Nat.{ℕ, zero, suc, _-_}
 use native.Mathlib.Omega.{arith}
 use mathlib.Core.Path.{_≡_, refl, _∙_}
 use mathlib.Core.Bool.{Bool, true, false}
@@ -8,11 +8,12 @@ use mathlib.Core.List.{List, [], _∷_, _++_}
 use lib.ListN.{length}
 use lib.Dec.{leb}
 use lib.IntN.{ℤ}
-use Rattle.rules.specs.Forms.{Matcher, words}
+use Rattle.rules.specs.Forms.{Matcher}
 use Rattle.rules.specs.Equality.{Bindings}
 use Rattle.rules.specs.Search.{State, row, Run, run}
 use Rattle.engine.specs.Machine.{Machine, passing, writing, filling, stepOn, once, times, answerBy, told, opened, run-steps}
-use Rattle.program.specs.Points.{Instr, strip, drop, bind, test, split, end, Point, follow, Follows, strips, drops, binds, tests, splits, ends}
+use Rattle.program.specs.Points.{Instr, strip, drop, bind, test, split, apart, end, Point, reserve, follow}
+use Rattle.program.specs.Points.{Follows, strips, drops, binds, tests, splits, aparts, reserves, ends, after-end}
 use Rattle.engine.specs.Held.{Data}
 use Rattle.engine.specs.Engine.{Conf, exec, settle}
 use Rattle.engine.specs.Rep.{Bound, bound-none, bound, At, at, done, Rep, over-all, live}
@@ -52,6 +53,7 @@ module _ (D : Data) where
   result k (bind i n) b c = passed k c
   result k (test t n) b c = passed k c
   result k (split d) b c = passed k c
+  result k (apart n) b c = passed k c
   result k (end n) b c = rowDone k (rowFrom b 0 n) c
 
   module _ (code : ℕ → Instr) where
@@ -82,6 +84,21 @@ module _ (D : Data) where
   unfolding rowFrom row
   row-ok bound-none = refl
   row-ok {b} {i = i} (bound {m = m} {v = v} g r) = rw (D .wordsOf-ok m (b i) v g, row-ok r)
+
+  clash : {A : Type 0} → _≡_ {A = ℕ} 0 1 → A
+  clash z = absurd (omega arith)
+
+  -- What is to do after a place that is reserved.
+  reserved-next : {pc : ℕ} {i : Instr} {P Q R : Point} → Follows pc i P Q → P ≡ reserve R → Q ≡ R
+  reserved-next (strips h n) e = clash cc
+  reserved-next drops e = clash cc
+  reserved-next binds e = clash cc
+  reserved-next (tests t h) e = clash cc
+  reserved-next (splits d p q) e = clash cc
+  reserved-next (aparts p q ps m k ks n t) e = clash cc
+  reserved-next reserves e = cc
+  reserved-next ends e = clash cc
+  reserved-next after-end e = clash cc
 
   module _ (code : ℕ → Instr) (points : ℕ → Point) (follows : (pc : ℕ) → Follows pc (code pc) (points pc) (points (suc pc))) where
     -- The engine and the machine of the definitions.
@@ -126,6 +143,7 @@ module _ (D : Data) where
     same-step c i ss o k K x binds (at a ws bs) r = same-pass k K o _ x r
     same-step c i ss o k K x (tests t h) (at a ws bs) r = same-pass k K o _ x r
     same-step c i ss o k K x (splits d p q) (at a ws bs) r = same-pass k K o _ x r
+    same-step c i ss o k K x (aparts p q ps m d ks n t) (at a ws bs) r = same-pass k K o _ x r
     same-step c i ss o k K (running y) ends (done {e = e} bs) r = rw (row-ok bs) (same-row (leb (length (row e)) (k .left)) k K (row e) o ss (running y) r)
     same-step c i ss o k K stopped ends (done {e = e} bs) r = rw (row-ok bs) (same-row (leb (length (row e)) (k .left)) k K (row e) o ss stopped r)
 
@@ -133,7 +151,7 @@ module _ (D : Data) where
     unfolding turn once advance stepOn
     same-turn (running over-all) = running over-all
     same-turn (running (live {c = c} {ss = ss} l a ch)) = same-step c (code (c .pc)) ss _ _ _ (running (live l a ch))
-        (follows (c .pc)) a (step-rep D code points c (code (c .pc)) refl (follows (c .pc)) refl l a ch)
+        (follows (c .pc)) a (step-rep D code points c (code (c .pc)) refl (follows (c .pc)) refl (λ pc P e. reserved-next (follows pc) e) l a ch)
     same-turn stopped = stopped
 
     same-turns : (n : ℕ) {k : Engine D} {K : Machine} → Same k K → Same (turns code n k) (times n K)

@@ -1,9 +1,9 @@
 -- The machine: what it holds, and one step. (`code` is the program, an instruction for each place.)
-use Prim.Native.Nat.{ℕ, zero, suc}
+use Prim.Native.Nat.{ℕ, zero, suc, _+_}
 use mathlib.Core.Bool.{Bool, true, false}
 use mathlib.Core.Option.{Option, none, some}
 use lib.Dec.{eqb}
-use Rattle.program.specs.Points.{Test, asConstant, asValue, asNil, Instr, strip, drop, bind, test, split, end}
+use Rattle.program.specs.Points.{Test, asConstant, asValue, asNil, Instr, strip, drop, bind, test, split, apart, end}
 use Rattle.engine.specs.Held.{Picked, Data}
 
 -- A table with the entry i changed.
@@ -54,13 +54,34 @@ module _ (D : Data) where
   opening c none = c
   opening c (some r) = pushed c r
 
+  -- A tuple's parts from number i on wait in the slots from j on, n of them.
+  unfoldable pub kept : Slot D → D .Held → Slot D
+  kept s h = record { held = D .stale h (s .held); rem = s .rem; prev = s .prev; second = h }
+
+  unfoldable pub keeping : (ℕ → Slot D) → (j : ℕ) → D .Held → (i n : ℕ) → ℕ → Slot D
+  unfolding put kept
+  keeping slots j h i zero = slots
+  keeping slots j h i (suc n) = keeping (put slots j (kept (slots j) (D .part h i))) (suc j) h (suc i) n
+
+  -- The first part, after the places that are reserved.
+  unfoldable pub parting : Conf D → (reserved : ℕ) → Conf D
+  unfolding keeping
+  parting c n = record {
+    pc = suc (c .pc + n);
+    cur = D .part (c .cur) 0;
+    top = c .top;
+    binds = c .binds;
+    slots = keeping (c .slots) (c .pc) (c .cur) 1 (suc n);
+  }
+
   unfoldable pub exec : Instr → Conf D → Turn D
-  unfolding next put check opening
+  unfolding next put check opening parting
   exec strip c = on (next c (c .cur) (c .binds))
   exec (drop n) c = on (next c ((c .slots n) .second) (c .binds))
   exec (bind i n) c = on (next c ((c .slots n) .second) (put (c .binds) i (c .cur)))
   exec (test t n) c = elim (check t (c .binds) (c .cur)) [ true ↦ on (next c ((c .slots n) .second) (c .binds)) | false ↦ back c ]
   exec (split k) c = back (opening c (D .opens k (c .cur)))
+  exec (apart n) c = elim (D .isWide (suc (suc n)) (c .cur)) [ true ↦ on (parting c n) | false ↦ back c ]
   exec (end n) c = back c
 
   -- The slot and the last open frame after a choice at j.
@@ -89,6 +110,7 @@ module _ (D : Data) where
   choose (bind i n) j c = none
   choose (test t n) j c = none
   choose (split k) j c = some (chosen c j (D .pick k ((c .slots j) .held) ((c .slots j) .rem)))
+  choose (apart n) j c = none
   choose (end n) j c = none
 
   module _ (code : ℕ → Instr) where

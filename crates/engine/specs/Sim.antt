@@ -1,5 +1,5 @@
 -- One step of the machine is one step of the search: what a configuration stands for afterwards.
-use Prim.Native.Nat.{ℕ, zero, suc, _+_, _-_, _≤_, _<_}
+use Prim.Native.Nat.{ℕ, zero, suc, _+_, _≤_, _<_}
 use native.Mathlib.Nat.{add-zero, zero-add, suc-add, add-suc}
 use native.Mathlib.Omega.{arith}
 use mathlib.Core.Path.{_≡_, refl, sym, ap, _∙_}
@@ -8,15 +8,17 @@ use mathlib.Core.Option.{Option, none, some}
 use mathlib.Core.List.{List, [], _∷_, _++_, map}
 use lib.ListN.{length, getElem?, length-append}
 use lib.IntN.{ℤ, pos}
-use Rattle.rules.specs.Forms.{Matcher, something, Pattern, Value}
+use Rattle.rules.specs.Forms.{Matcher, something, tupleOf, Matchers, noMatchers, _▸ᵐ_, countᵐ, Value, tupled, Values, empty, _▸_}
+use Rattle.rules.specs.Forms.{Pattern, Patterns, noPatterns, _▸ᵖ_, countᵖ}
+use Rattle.rules.specs.Fit.{members, isSomething}
 use Rattle.rules.specs.Reading.{entry}
 use Rattle.rules.specs.Equality.{Bindings, equal, isValue, raised}
-use Rattle.rules.specs.Search.{Halves, Atom, State, state, isSomething, dropIf, after}
+use Rattle.rules.specs.Search.{Halves, Atom, State, state, dropIf, atoms, apart as takeApart, after}
 use Rattle.program.specs.Points.{Kind, over, firstBy, halves, branch, after-whole, Test, asConstant, asValue, asNil, testBy, passes, Sound, after-test}
-use Rattle.program.specs.Points.{Instr, bind, split, Item, item, Point, point, finish, enter, from, known}
-use Rattle.program.specs.Points.{follow, Follows, after-loose, strips, drops, binds, tests, splits, ends}
-use Rattle.engine.specs.Held.{Data, Opened}
-use Rattle.engine.specs.Engine.{put, Conf, Turn, on, back, check, next, pushed, opening, exec, slotAfter, topAfter, chosen, choose, nextChoice, settle}
+use Rattle.program.specs.Points.{Instr, split, apart, Item, item, Point, point, finish, reserve, enter, from, known, reserved, firstOf, othersOf, items}
+use Rattle.program.specs.Points.{follow, Follows, after-loose, strips, drops, binds, tests, splits, aparts, ends}
+use Rattle.engine.specs.Held.{Data, Opened, Parts}
+use Rattle.engine.specs.Engine.{put, Slot, Conf, Turn, on, back, check, next, pushed, opening, kept, keeping, parting, exec, slotAfter, topAfter, chosen, choose, nextChoice, settle}
 use Rattle.engine.specs.Rep.{Waits, waits-none, waits, Bound, bound-none, bound, At, at, done, Chain, shut, open-at, Rep, over-all, live, put-same, put-below, waits-agree, bound-agree, chain-agree}
 
 isValue-at : (m : Matcher) (e : Bindings) (x : ℕ) (c : ℤ) (v w : Value) → getElem? e x ≡ some w → isValue m e (pos x) c v ≡ equal m (raised c w) v
@@ -40,9 +42,31 @@ module _ (D : Data) where
   unfolding Sound testBy check passes isValue entry
   check-ok (asConstant c) {h = h} {v = v} s i b = D .isNumber-ok c h v i
   check-ok (asValue m x c) {b = f} {h = h} {v = v} {e = e} s i b =
-      let r = bound-at b x (s .0) in
-      D .isSame-ok m c (f x) h (r .0) v (s .1) (rw (zero-add x) at (r .2)) i ∙ sym (isValue-at m e x c v (r .0) (r .1))
+      let r = bound-at b x (s .1) in
+      D .isSame-ok m (s .0) c (f x) h (r .0) v (s .3) (s .2) (rw (zero-add x) at (r .2)) i ∙ sym (isValue-at m e x c v (r .0) (r .1))
   check-ok (asNil m) {h = h} {v = v} s i b = D .isEmptyHeld-ok m h v s i
+
+  -- ---- The parts of a tuple.
+
+  -- The slots below are not written.
+  keeping-below : (f : ℕ → Slot D) (j : ℕ) (h : D .Held) (i n c : ℕ) → c < j → keeping D f j h i n c ≡ f c
+  unfolding keeping
+  keeping-below f j h i zero c l = refl
+  keeping-below f j h i (suc n) c l = keeping-below (put f j (kept D (f j) (D .part h i))) (suc j) h (suc i) n c (omega arith) ∙ put-below f j _ c l
+
+  parts-wait : (ps : Patterns) (ms : Matchers) (vs : Values) (f : ℕ → Slot D) (j : ℕ) (h : D .Held) (i : ℕ) {ts : List Item} {older : List Atom}
+      → countᵖ ps ≡ countᵐ ms → Parts (D .Is) (D .part h) i ms vs → Waits D f j ts older
+      → Waits D (keeping D f j h i (countᵖ ps)) (j + countᵖ ps) (items ps ms j ts) (atoms ps ms vs ++ older)
+  unfolding keeping items firstOf othersOf atoms Parts kept countᵖ countᵐ
+  parts-wait noPatterns ms vs f j h i n p w = waits-agree D (omega arith) (λ i h. refl) w
+  parts-wait (p ▸ᵖ ps) noMatchers vs f j h i n q w = absurd (omega arith)
+  parts-wait (p ▸ᵖ ps) (m ▸ᵐ ms) empty f j h i n q w = absurd q
+  parts-wait (p ▸ᵖ ps) (m ▸ᵐ ms) (v ▸ vs) f j h i n q w =
+      let x = kept D (f j) (D .part h i) in
+      let e : keeping D (put f j x) (suc j) h (suc i) (countᵖ ps) j ≡ x = keeping-below (put f j x) (suc j) h (suc i) (countᵖ ps) j (omega arith) ∙ put-same f j x in
+      let z : countᵖ ps ≡ countᵐ ms = omega arith in
+      let next = parts-wait ps ms vs (put f j x) (suc j) h (suc i) z (q .1) (waits-agree D (omega arith) (λ c u. sym (put-below f j x c u)) w) in
+      waits {p = p} {m = m} {c = j} {v = v} (omega arith) (rw e (q .0)) (waits-agree D (omega arith) (λ c u. refl) next)
 
   module _ (code : ℕ → Instr) (points : ℕ → Point) where
     live-at : {c : Conf D} {s : State} {ss : List State} (P : Point) → points (c .pc) ≡ P → c .top ≤ c .pc → At D (c .slots) (c .binds) (c .pc) (c .cur) P s
@@ -119,21 +143,62 @@ module _ (D : Data) where
         same : (i : ℕ) → i < c .pc → c .slots i ≡ (pushed D c r) .slots i
         same i h = sym (put-below (c .slots) (c .pc) _ i h)
 
+    -- What is to do after the places that are reserved.
+    past : ((pc : ℕ) (P : Point) → points pc ≡ reserve P → points (suc pc) ≡ P) → (pc n : ℕ) (P : Point) → points (suc pc) ≡ reserved n P
+        → points (suc (pc + n)) ≡ P
+    unfolding reserved
+    past h pc zero P e = let z : pc + 0 ≡ pc = omega arith in rw z e
+    past h pc (suc n) P e = let z : pc + suc n ≡ suc pc + n = omega arith in rw z (past h (suc pc) n P (h (suc pc) (reserved n P) e))
+
+    -- A tuple is taken apart.
+    wide-rep : (b : Bool) → b ≡ true → (c c′ : Conf D) {ss : List State} → Rep D code points (some c′) ss
+        → Rep D code points (settle D code (elim b as (λ _. Turn D) [ true ↦ on c′ | false ↦ back c ])) ss
+    unfolding settle
+    wide-rep true e c c′ r = r
+    wide-rep false e c c′ r = let z : _≡_ {A = ℕ} 0 1 = cc in absurd (omega arith)
+
+    module _ (c : Conf D) (p q : Pattern) (ps : Patterns) (m k : Matcher) (ks : Matchers) {ms : List Matcher} {ts : List Item} {older : List Atom}
+        {e : Bindings} {ss : List State} (n : countᵖ ps ≡ countᵐ ks)
+        (pt : points (suc (c .pc + countᵖ ps)) ≡ point ms p m m (item q k (c .pc) ∷ items ps ks (suc (c .pc)) ts))
+        (l : c .top ≤ c .pc) (ws : Waits D (c .slots) (c .pc) ts older) (bs : Bound D (c .binds) 0 ms e)
+        (ch : Chain D code points (c .slots) (c .binds) (c .top) (length ms) ss) where
+      parted-rep : (vs : Values) → Parts (D .Is) (D .part (c .cur)) 0 (m ▸ᵐ k ▸ᵐ ks) vs
+          → Rep D code points (some (parting D c (countᵖ ps))) (takeApart (p ▸ᵖ q ▸ᵖ ps) (m ▸ᵐ k ▸ᵐ ks) (tupled vs) older e ++ ss)
+      unfolding parting takeApart atoms Parts countᵖ countᵐ known items firstOf othersOf
+      parted-rep empty x = absurd x
+      parted-rep (v ▸ empty) x = absurd (x .1)
+      parted-rep (v ▸ w ▸ vs) x =
+          let y : countᵖ (q ▸ᵖ ps) ≡ countᵐ (k ▸ᵐ ks) = omega arith in
+          let z : c .pc + suc (countᵖ ps) ≡ suc (c .pc + countᵖ ps) = omega arith in
+          live-at (point ms p m m (items (q ▸ᵖ ps) (k ▸ᵐ ks) (c .pc) ts)) pt (omega arith)
+          (at (x .0) (rw z at (parts-wait (q ▸ᵖ ps) (k ▸ᵐ ks) (w ▸ vs) (c .slots) (c .pc) (c .cur) 1 y (x .1) ws)) bs)
+          (chain-agree D code points (omega arith) (λ i h. sym (keeping-below (c .slots) (c .pc) (c .cur) 1 (suc (countᵖ ps)) i (omega arith))) (λ i h. refl) ch)
+
+      apart-rep : (v : Value) → D .Is (tupleOf (m ▸ᵐ k ▸ᵐ ks)) (c .cur) v
+          → Rep D code points (settle D code (exec D (apart (countᵖ ps)) c)) (takeApart (p ▸ᵖ q ▸ᵖ ps) (m ▸ᵐ k ▸ᵐ ks) v older e ++ ss)
+      unfolding exec countᵐ
+      apart-rep v x =
+          let r = D .parts-ok (m ▸ᵐ k ▸ᵐ ks) (c .cur) v x in
+          rw (r .2) (wide-rep (D .isWide (suc (suc (countᵖ ps))) (c .cur)) (rw n (r .0)) c (parting D c (countᵖ ps)) (parted-rep (r .1) (r .3)))
+
     -- The step, by the instruction.
     pub step-rep : (c : Conf D) (i : Instr) {P Q : Point} {s : State} {ss : List State} → code (c .pc) ≡ i → Follows (c .pc) i P Q → points (suc (c .pc)) ≡ Q
-        → c .top ≤ c .pc → At D (c .slots) (c .binds) (c .pc) (c .cur) P s → Chain D code points (c .slots) (c .binds) (c .top) (length (known P)) ss
+        → ((pc : ℕ) (P : Point) → points pc ≡ reserve P → points (suc pc) ≡ P) → c .top ≤ c .pc
+        → At D (c .slots) (c .binds) (c .pc) (c .cur) P s → Chain D code points (c .slots) (c .binds) (c .top) (length (known P)) ss
         → Rep D code points (settle D code (exec D i c)) (follow s ++ ss)
-    unfolding settle exec follow after known isSomething next
-    step-rep c i cd (strips {ms = ms} {p = p} {m = m} {ts = ts} h n) pt l (at {v = v} {older = older} {e = e} x ws bs) ch =
+    unfolding settle exec follow after members known isSomething next
+    step-rep c i cd (strips {ms = ms} {p = p} {m = m} {ts = ts} h n) pt r l (at {v = v} {older = older} {e = e} x ws bs) ch =
         rw (after-loose h m v older e n) (live-at (point ms p something m ts) pt (omega arith) (at x (waits-agree D (omega arith) (λ i h. refl) ws) bs) ch)
-    step-rep c i cd (drops {ms = ms}) pt l (at x ws bs) ch = entered c (c .binds) ms pt l ws bs ch
-    step-rep c i cd (binds {ms = ms} {m = m}) pt l (at x ws bs) ch =
+    step-rep c i cd (drops {ms = ms}) pt r l (at x ws bs) ch = entered c (c .binds) ms pt l ws bs ch
+    step-rep c i cd (binds {ms = ms} {m = m}) pt r l (at x ws bs) ch =
         let same : (i : ℕ) → i < length ms → c .binds i ≡ put (c .binds) (length ms) (c .cur) i = λ i h. sym (put-below (c .binds) (length ms) (c .cur) i h) in
         entered c (put (c .binds) (length ms) (c .cur)) (ms ++ (m ∷ [])) pt l ws
         (bound-snoc (bound-agree D (omega arith) same bs) (rw (zero-add (length ms), put-same) x))
         (chain-agree D code points (omega (arith, length-append ms (m ∷ []))) (λ i h. refl) same ch)
-    step-rep c i cd (tests {ms = ms} t sound) pt l (at {v = v} {older = older} {e = e} x ws bs) ch =
+    step-rep c i cd (tests {ms = ms} t sound) pt r l (at {v = v} {older = older} {e = e} x ws bs) ch =
         rw (after-test t v older e, ← check-ok t sound x bs) (tested-rep c (check D t (c .binds) (c .cur)) ms pt l ws bs ch)
-    step-rep c i cd (splits k p q) pt l (at {v = v} {older = older} {e = e} x ws bs) ch =
+    step-rep c i cd (splits k p q) pt r l (at {v = v} {older = older} {e = e} x ws bs) ch =
         rw (after-whole k p q v older e) (opened-rep c k p q (D .opens k (c .cur)) (halves k v) cd pt l (D .opens-ok k (c .cur) v x) ws bs ch)
-    step-rep c i cd ends pt l (done bs) ch = choice-rep c ch
+    step-rep c i cd (aparts p q ps m k ks n t) pt r l (at {v = v} x ws bs) ch =
+        apart-rep c p q ps m k ks n (past r (c .pc) (countᵖ ps) _ pt) l ws bs ch v x
+    step-rep c i cd ends pt r l (done bs) ch = choice-rep c ch

@@ -1,5 +1,5 @@
 -- The machine on a pattern that fits gives what the definitions' run gives, at every budget and room; and in portions.
-use Prim.Native.Nat.{ℕ, zero, suc, _+_, _-_, _≤_, _<_}
+use Prim.Native.Nat.{ℕ, zero, suc, _+_, _≤_, _<_}
 use native.Mathlib.Nat.{zero-add, suc-add}
 use native.Mathlib.Omega.{arith}
 use mathlib.Core.Path.{_≡_, refl, sym, ap, _∙_, fun-ext}
@@ -14,6 +14,7 @@ use Rattle.rules.specs.Forms.{Matcher, Pattern, Value}
 use Rattle.rules.specs.Reading.{ok}
 use Rattle.rules.specs.Fit.{fits}
 use Rattle.rules.specs.Search.{State, run, start}
+use Rattle.promises.specs.Written.{Widthsᵖ}
 use Rattle.engine.specs.Machine.{opened}
 use Rattle.program.specs.Points.{Instr, Point, known}
 use Rattle.engine.specs.Held.{Data}
@@ -28,17 +29,17 @@ unfoldable pub fresh : (D : Data) → D .Held → (ℕ → Slot D) → (ℕ → 
 fresh D h slots binds room =
     record { conf = some (record { pc = 0; cur = h; top = 0; slots = slots; binds = binds }); left = room; rows = 0; steps = 0; written = []; full = false }
 
-module _ (D : Data) (m : Matcher) (p : Pattern) (v : Value) (h : D .Held) (is : D .Is m h v) (at₀ : ℕ) (ks : List Matcher) (fit : fits p m at₀ [] ≡ ok ks) where
+module _ (D : Data) (m : Matcher) (p : Pattern) (v : Value) (h : D .Held) (is : D .Is m h v) (at₀ : ℕ) (ks : List Matcher) (fit : fits p m at₀ [] ≡ ok ks) (wide : Widthsᵖ p) where
   -- Before the first step it stands for the first state.
   pub fresh-same : (slots : ℕ → Slot D) (binds : ℕ → D .Held) (room : ℕ)
-      → Same D (program m p) (pointAt m p) (program-follows m p at₀ ks fit) (fresh D h slots binds room) (opened (start m p v) room)
+      → Same D (program m p) (pointAt m p) (program-follows m p at₀ ks fit wide) (fresh D h slots binds room) (opened (start m p v) room)
   unfolding fresh opened start pointAt known
   fresh-same slots binds room = running (live {c = record { pc = 0; cur = h; top = 0; slots = slots; binds = binds }} (omega arith) (at is waits-none bound-none) shut)
 
   pub machine-runs : (slots : ℕ → Slot D) (binds : ℕ → D .Held) (budget room : ℕ)
       → reports D (turns D (program m p) budget (fresh D h slots binds room)) ≡ run budget (start m p v ∷ []) room
   machine-runs slots binds budget room =
-      engine-runs D (program m p) (pointAt m p) (program-follows m p at₀ ks fit) budget (start m p v) room (fresh D h slots binds room) (fresh-same slots binds room)
+      engine-runs D (program m p) (pointAt m p) (program-follows m p at₀ ks fit wide) budget (start m p v) room (fresh D h slots binds room) (fresh-same slots binds room)
 
 -- Portions add up.
 pub turns-add : (D : Data) (code : ℕ → Instr) (a b : ℕ) (k : Engine D) → turns D code (a + b) k ≡ turns D code b (turns D code a k)
@@ -46,11 +47,11 @@ unfolding turns
 turns-add D code zero b k = rw (zero-add b)
 turns-add D code (suc a) b k = rw (suc-add a b) (turns-add D code a b (turn D code k))
 
-module _ (D : Data) (m : Matcher) (p : Pattern) (v : Value) (h : D .Held) (is : D .Is m h v) (at₀ : ℕ) (ks : List Matcher) (fit : fits p m at₀ [] ≡ ok ks) where
+module _ (D : Data) (m : Matcher) (p : Pattern) (v : Value) (h : D .Held) (is : D .Is m h v) (at₀ : ℕ) (ks : List Matcher) (fit : fits p m at₀ [] ≡ ok ks) (wide : Widthsᵖ p) where
   pub machine-portions : (slots : ℕ → Slot D) (binds : ℕ → D .Held) (a b room : ℕ)
       → reports D (turns D (program m p) b (turns D (program m p) a (fresh D h slots binds room))) ≡ run (a + b) (start m p v ∷ []) room
   machine-portions slots binds a b room =
-      ap (reports D) (sym (turns-add D (program m p) a b (fresh D h slots binds room))) ∙ machine-runs D m p v h is at₀ ks fit slots binds (a + b) room
+      ap (reports D) (sym (turns-add D (program m p) a b (fresh D h slots binds room))) ∙ machine-runs D m p v h is at₀ ks fit wide slots binds (a + b) room
 
 -- A machine that has ended stays as it is: no state is left, or a row did not fit.
 pub ended-stays : (D : Data) (code : ℕ → Instr) (left rows steps : ℕ) (written : List ℤ)

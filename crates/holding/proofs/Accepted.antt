@@ -7,14 +7,14 @@ use native.Mathlib.Omega.{arith}
 use lib.ListN.{length, getD, drop, length-drop}
 use lib.Seq.{getD-drop}
 use lib.IntN.{ℤ, pos, negsuc}
-use Rattle.rules.specs.Forms.{Value, int, collection, Values, empty, _▸_, count, words, wordsAll}
+use Rattle.rules.specs.Forms.{Value, int, collection, tupled, Values, empty, _▸_, count, words, wordsAll}
 use Rattle.rules.specs.Reading.{ok, readTarget}
-use Rattle.promises.specs.Written.{largest, largestOf, length-words}
+use Rattle.promises.specs.Written.{largest, Widths, length-words}
 use Rattle.promises.specs.ReadTarget.{target-read}
 use Rattle.words.specs.Words.{tagZ, tagAt}
 use Rattle.holding.specs.Places.{forest, headOf, valueAt, countBy, countAt, Target, Tag}
 use Rattle.holding.specs.Held.{Held, heldAt, wholeAt}
-use Rattle.holding.proofs.Forest.{forest-flat, tail-flat, two-words}
+use Rattle.holding.proofs.Forest.{widest, widestOf, widest-64, forest-flat, tail-flat, two-words}
 use Rattle.holding.proofs.Held.{whole-held, whole-value}
 
 first-of : (s : List ℤ) (at : ℕ) (x : ℤ) (l : List ℤ) → drop at s ≡ x ∷ l → getD s at (negsuc 0) ≡ x
@@ -24,30 +24,33 @@ second-of : (s : List ℤ) (at : ℕ) (x y : ℤ) (l : List ℤ) → drop at s �
 second-of s at x y l e = sym (getD-drop at s 1 (negsuc 0)) ∙ ap (λ (k : List ℤ). getD k 1 (negsuc 0)) e
 
 -- The count of the first of the values that stand at an index.
-count-here : (s : List ℤ) (at : ℕ) (us : Values) → drop at s ≡ wordsAll us → largestOf us ≤ 64 → at < length s → countAt s at ≤ 64
-unfolding words wordsAll largest largestOf countAt tagAt
+count-here : (s : List ℤ) (at : ℕ) (us : Values) → drop at s ≡ wordsAll us → widestOf us ≤ 64 → at < length s → countAt s at ≤ 64
+unfolding words wordsAll widest widestOf countAt tagAt
 count-here s at empty e h l = absurd (omega (arith, ap length e, length-drop at s))
 count-here s at (int x ▸ us) e h l = rw (ap tagZ (first-of s at (pos 0) (x ∷ wordsAll us) e)) (omega arith)
 count-here s at (collection vs ▸ us) e h l =
     rw (ap tagZ (first-of s at (pos 1) (pos (count vs) ∷ wordsAll vs ++ wordsAll us) e), ap tagZ (second-of s at (pos 1) (pos (count vs)) (wordsAll vs ++ wordsAll us) e))
+    (omega arith)
+count-here s at (tupled vs ▸ us) e h l =
+    rw (ap tagZ (first-of s at (pos 2) (pos (count vs) ∷ wordsAll vs ++ wordsAll us) e), ap tagZ (second-of s at (pos 2) (pos (count vs)) (wordsAll vs ++ wordsAll us) e))
     (omega arith)
 
 one-value : (v : Value) → words v ≡ wordsAll (v ▸ empty)
 unfolding wordsAll
 one-value v = sym (append-nil (words v))
 
-one-largest : (v : Value) → largest v ≤ 64 → largestOf (v ▸ empty) ≤ 64
-unfolding largestOf
-one-largest v h = omega arith
+one-widest : (v : Value) → largest v ≤ 64 → Widths v → widestOf (v ▸ empty) ≤ 64
+unfolding widestOf
+one-widest v h w = omega (arith, widest-64 v h w)
 
 one-forest : (v : Value) → forest (words v) ≡ v ▸ empty
 one-forest v = ap forest (one-value v) ∙ forest-flat (v ▸ empty)
 
-pub target-words : (v : Value) → largest v ≤ 64 → length (words v) ≤ 1024 → Target (words v)
-target-words v h l = record {
+pub target-words : (v : Value) → largest v ≤ 64 → Widths v → length (words v) ≤ 1024 → Target (words v)
+target-words v h k l = record {
   whole = one-value v ∙ ap wordsAll (sym (one-forest v));
   small = λ at w.
-      let r = tail-flat 64 at (w .even) (v ▸ empty) (one-largest v h) in
+      let r = tail-flat 64 at (w .even) (v ▸ empty) (one-widest v h k) in
       count-here (words v) at (r .0) (ap (drop at) (one-value v) ∙ r .1) (r .2) (w .inside);
   short = l;
 }
@@ -64,7 +67,7 @@ module _ (ts : List ℤ) (v : Value) (e : readTarget ts ≡ ok v) where
   read-words = target-read ts v .0 e .0
 
   pub read-target : Target ts
-  read-target = let r = target-read ts v .0 e in subst Target (sym read-words) (target-words v (r .2) (rw read-words at (r .1)))
+  read-target = let r = target-read ts v .0 e in subst Target (sym read-words) (target-words v (r .2) (r .4) (rw read-words at (r .1)))
 
   pub read-tag : Tag ts 0
   read-tag = subst (λ (l : List ℤ). Tag l 0) (sym read-words) (tag-words v)

@@ -1,7 +1,7 @@
 -- A word read as a number, how many elements a value has, and its entry in the tables, as the code asks. Assumes nothing.
-use mathlib.Core.Path.{_≡_, sym, _∙_, ap, subst}
+use mathlib.Core.Path.{_≡_, refl, sym, _∙_, ap, subst}
 use mathlib.Core.List.{List}
-use Prim.Native.Nat.{ℕ, _+_, _-_, _*_, _/_, _^_, _<_, _≤_}
+use Prim.Native.Nat.{ℕ, zero, suc, _+_, _-_, _*_, _/_, _^_, _<_, _≤_}
 use native.Mathlib.Omega.{arith}
 use borrow.Author.Needs.{needs}
 use lib.Dec.{T}
@@ -12,9 +12,10 @@ use mir.Syntax.{w32, w64}
 use mir.Val.{Fits}
 use Rattle.words.specs.Words.{tagZ, tagAt}
 use Rattle.words.proofs.Signed.{getD-any, inside}
-use Rattle.holding.specs.Places.{countAt, Target, Tag}
+use Rattle.holding.specs.Places.{countAt, marksBy, marksAt, Target, Tag}
 use Rattle.holding.specs.Held.{wholeAt}
 use Rattle.holding.proofs.Elements.{second, tag-small, count-some}
+use Rattle.holding.proofs.Held.{marks-count}
 
 -- ---- A word that is not negative.
 
@@ -36,7 +37,12 @@ number-at-is s at y p h = number-is y (getD s at (negsuc 0)) (p ∙ getD-any s a
 
 pub ruleset number-rules = (word-in, word-mul, needs)
 
--- ---- How many elements.
+-- ---- How many elements or parts, and how many marks.
+
+marks-other : (t n : ℕ) → (t ≡ 1 → ⊥) → 0 ≡ marksBy t n
+marks-other zero n f = refl
+marks-other (suc zero) n f = absurd (f refl)
+marks-other (suc (suc t)) n f = refl
 
 module _ (s : List ℤ) (at tag : ℕ) (g : Target s) (w : Tag s at) (d : tag ≡ tagAt s at) where
   pub count-int : tag ≡ 0 → 0 ≡ countAt s at
@@ -57,14 +63,25 @@ module _ (s : List ℤ) (at tag : ℕ) (g : Target s) (w : Tag s at) (d : tag �
   pub count-next : length s < 2 ^ 64 → Fits w64 (at + 1)
   count-next l = let h = second s at g w in record { fits = omega arith }
 
-pub whole-is : (s : List ℤ) (at n r : ℕ) → n ≡ countAt s at → r ≡ 2 ^ n - 1 → r ≡ wholeAt s at
+  pub marks-none : (tag ≡ 1 → ⊥) → 0 ≡ marksAt s at
+  unfolding marksAt
+  marks-none f = rw (← d) (marks-other tag (tagAt s (at + 1)) f)
+
+  pub marks-collection : (r : ℕ) → tag ≡ 1 → r ≡ tagAt s (at + 1) → r ≡ marksAt s at
+  unfolding marksAt
+  marks-collection r z e = e ∙ rw (← d, z)
+
+  pub marks-small : tag ≡ 1 → tagAt s (at + 1) < 2147483648
+  marks-small z = count-small (λ y. omega arith)
+
+pub whole-is : (s : List ℤ) (at n r : ℕ) → n ≡ marksAt s at → r ≡ 2 ^ n - 1 → r ≡ wholeAt s at
 unfolding wholeAt
 whole-is s at n r d e = e ∙ rw d
 
-pub whole-64 : (s : List ℤ) (at n : ℕ) → Target s → Tag s at → n ≡ countAt s at → n ≤ 64
-whole-64 s at n g w d = rw d (g .small at w)
+pub whole-64 : (s : List ℤ) (at n : ℕ) → Target s → Tag s at → n ≡ marksAt s at → n ≤ 64
+whole-64 s at n g w d = omega (arith, d, marks-count s at, g .small at w)
 
-pub ruleset count-rules = (tag-small, count-int, count-collection, count-small, count-next, whole-is, whole-64, needs)
+pub ruleset count-rules = (tag-small, count-int, count-collection, count-small, count-next, marks-none, marks-collection, marks-small, whole-is, whole-64, needs)
 
 -- The entry of a value in the tables.
 pub tag-half : (s : List ℤ) (e : ℕ) → Target s → Tag s e → e / 2 < 512

@@ -8,7 +8,7 @@ use lib.ListN.{length, getD, drop, take}
 use lib.Seq.{drop-cons, slice, take-append-seam, take-nil}
 use native.Mathlib.Nat.{suc-add, zero-add}
 use lib.IntN.{ℤ, pos, negsuc}
-use Rattle.rules.specs.Forms.{Value, int, collection, Values, empty, _▸_, count, words, wordsAll, size, sizeAll}
+use Rattle.rules.specs.Forms.{Value, int, collection, tupled, Values, empty, _▸_, count, words, wordsAll, size, sizeAll}
 use Rattle.words.specs.Words.{tagZ, tagAt}
 use Rattle.words.proofs.Signed.{getD-any}
 use Rattle.marks.specs.Marked.{nth}
@@ -29,19 +29,33 @@ nth-firsts (suc n) j empty h = refl
 nth-firsts (suc n) zero (v ▸ vs) h = refl
 nth-firsts (suc n) (suc j) (v ▸ vs) h = nth-firsts n j vs (omega arith)
 
-node-head : (t : ℕ) (x : ℤ) (vs : Values) → (t ≡ 0 → ⊥) → headOf (node t x vs) ≡ collection (firsts (tagZ x) vs)
-node-head zero x vs f = absurd (f refl)
-node-head (suc t) x vs f = refl
-
 forest-node : (t x : ℤ) (l : List ℤ) → forest (t ∷ x ∷ l) ≡ node (tagZ t) x (forest l)
 unfolding forest
 forest-node t x l = refl
+
+node-elements : (t : ℕ) (x : ℤ) (vs : Values) → (t ≡ 0 → ⊥) → elements (headOf (node t x vs)) ≡ firsts (tagZ x) vs
+unfolding elements
+node-elements zero x vs f = absurd (f refl)
+node-elements (suc zero) x vs f = refl
+node-elements (suc (suc t)) x vs f = refl
 
 pub count-some : (t n : ℕ) → (t ≡ 0 → ⊥) → countBy t n ≡ n
 count-some zero n f = absurd (f refl)
 count-some (suc t) n f = refl
 
+size-elements : (v : Value) → size v ≡ 2 + sizeAll (elements v)
+unfolding size elements
+size-elements (int x) = refl
+size-elements (collection vs) = refl
+size-elements (tupled vs) = refl
+
 -- ---- By the tag.
+
+-- The tag that a value has.
+abbrev pub tagOf : Value → ℕ
+tagOf (int x) = 0
+tagOf (collection vs) = 1
+tagOf (tupled vs) = 2
 
 module _ (s : List ℤ) (at : ℕ) (g : Target s) (w : Tag s at) where
   pub second : at + 1 < length s
@@ -57,70 +71,91 @@ module _ (s : List ℤ) (at : ℕ) (g : Target s) (w : Tag s at) where
   unfolding tagAt
   forest-at = ap forest two-at ∙ forest-node (getD s at (negsuc 0)) (getD s (at + 1) (negsuc 0)) (drop (at + 2) s)
 
+  pub tag-is : tagAt s at ≡ tagOf (valueAt s at)
+  unfolding words tagAt
+  tag-is = go (valueAt s at) (sym two-at ∙ is-here s at g w .stands)
+    where
+      go : (v : Value) → getD s at (negsuc 0) ∷ getD s (at + 1) (negsuc 0) ∷ drop (at + 2) s ≡ words v ++ drop (at + size (valueAt s at)) s
+          → tagZ (getD s at (negsuc 0)) ≡ tagOf v
+      go (int x) d = let z : getD s at (negsuc 0) ≡ pos 0 = cc in rw z
+      go (collection vs) d = let z : getD s at (negsuc 0) ≡ pos 1 = cc in rw z
+      go (tupled vs) d = let z : getD s at (negsuc 0) ≡ pos 2 = cc in rw z
+
+  -- an integer, a collection or a tuple
+  pub by-tag : (P : Type 0) → (tagAt s at ≡ 0 → P) → (tagAt s at ≡ 1 → P) → (tagAt s at ≡ 2 → P) → P
+  by-tag P f h k = go (valueAt s at) tag-is
+    where
+      go : (v : Value) → tagAt s at ≡ tagOf v → P
+      go (int x) e = f e
+      go (collection vs) e = h e
+      go (tupled vs) e = k e
+
+  pub tag-small : tagAt s at < 2147483648
+  tag-small = by-tag _ (λ e. omega arith) (λ e. omega arith) (λ e. omega arith)
+
   pub int-at : tagAt s at ≡ 0 → valueAt s at ≡ int (getD s (at + 1) (pos 0))
   unfolding valueAt
   int-at e = ap headOf forest-at ∙ rw e (ap int (getD-any s (at + 1) (negsuc 0) (pos 0) second))
 
+  pub collection-at : tagAt s at ≡ 1 → valueAt s at ≡ collection (elements (valueAt s at))
+  unfolding elements
+  collection-at e = go (valueAt s at) (sym e ∙ tag-is)
+    where
+      go : (v : Value) → 1 ≡ tagOf v → v ≡ collection (elements v)
+      go (int x) z = absurd (omega arith)
+      go (collection vs) z = refl
+      go (tupled vs) z = absurd (omega arith)
+
+  pub tuple-at : tagAt s at ≡ 2 → valueAt s at ≡ tupled (elements (valueAt s at))
+  unfolding elements
+  tuple-at e = go (valueAt s at) (sym e ∙ tag-is)
+    where
+      go : (v : Value) → 2 ≡ tagOf v → v ≡ tupled (elements v)
+      go (int x) z = absurd (omega arith)
+      go (collection vs) z = absurd (omega arith)
+      go (tupled vs) z = refl
+
   module _ (f : tagAt s at ≡ 0 → ⊥) where
-    collection-firsts : valueAt s at ≡ collection (firsts (tagAt s (at + 1)) (forest (drop (at + 2) s)))
-    unfolding valueAt tagAt
-    collection-firsts = ap headOf forest-at ∙ node-head (tagAt s at) (getD s (at + 1) (negsuc 0)) (forest (drop (at + 2) s)) f
-
     elements-firsts : elements (valueAt s at) ≡ firsts (tagAt s (at + 1)) (forest (drop (at + 2) s))
-    unfolding elements
-    elements-firsts = rw collection-firsts
-
-    pub collection-at : valueAt s at ≡ collection (elements (valueAt s at))
-    collection-at = collection-firsts ∙ ap collection (sym elements-firsts)
+    unfolding valueAt tagAt
+    elements-firsts = ap (λ (vs : Values). elements (headOf vs)) forest-at ∙ node-elements (tagAt s at) (getD s (at + 1) (negsuc 0)) (forest (drop (at + 2) s)) f
 
     -- its second word is its count
-    count-word : getD s (at + 1) (negsuc 0) ≡ pos (count (elements (valueAt s at)))
-    unfolding words
-    count-word =
-        let d = sym two-at ∙ is-here s at g w .stands ∙ ap (λ (v : Value). words v ++ drop (at + size (valueAt s at)) s) collection-at in
-        cc d
-
     count-second : count (elements (valueAt s at)) ≡ tagAt s (at + 1)
-    unfolding tagAt
-    count-second = sym (ap tagZ count-word)
+    unfolding words tagAt elements
+    count-second = go (valueAt s at) (λ e. f (tag-is ∙ e)) (sym two-at ∙ is-here s at g w .stands)
+      where
+        go : (v : Value) → (tagOf v ≡ 0 → ⊥) → getD s at (negsuc 0) ∷ getD s (at + 1) (negsuc 0) ∷ drop (at + 2) s ≡ words v ++ drop (at + size (valueAt s at)) s
+            → count (elements v) ≡ tagZ (getD s (at + 1) (negsuc 0))
+        go (int x) z d = absurd (z refl)
+        go (collection vs) z d = let y : getD s (at + 1) (negsuc 0) ≡ pos (count vs) = cc in rw y
+        go (tupled vs) z d = let y : getD s (at + 1) (negsuc 0) ≡ pos (count vs) = cc in rw y
 
-  pub by-tag : (P : Type 0) → (tagAt s at ≡ 0 → P) → ((tagAt s at ≡ 0 → ⊥) → P) → P
-  by-tag P f h = go (tagAt s at) refl
-    where
-      go : (t : ℕ) → tagAt s at ≡ t → P
-      go zero e = f e
-      go (suc t) e = h (λ z. omega arith)
+  -- an integer or not
+  if-some : (P : Type 0) → (tagAt s at ≡ 0 → P) → ((tagAt s at ≡ 0 → ⊥) → P) → P
+  if-some P f h = by-tag P f (λ e. h (λ z. omega arith)) (λ e. h (λ z. omega arith))
 
   pub count-elements : count (elements (valueAt s at)) ≡ countAt s at
   unfolding countAt elements count
-  count-elements = by-tag _
+  count-elements = if-some _
       (λ e. rw (int-at e, e))
       (λ f. count-second f ∙ sym (count-some (tagAt s at) (tagAt s (at + 1)) f))
-
-  -- both words are numbers of the tables
-  pub tag-small : tagAt s at < 2147483648
-  unfolding words tagAt
-  tag-small = go (valueAt s at) (sym two-at ∙ is-here s at g w .stands)
-    where
-      go : (v : Value) → getD s at (negsuc 0) ∷ getD s (at + 1) (negsuc 0) ∷ drop (at + 2) s ≡ words v ++ drop (at + size (valueAt s at)) s → tagZ (getD s at (negsuc 0)) < 2147483648
-      go (int x) d = let z : getD s at (negsuc 0) ≡ pos 0 = cc in rw z (omega arith)
-      go (collection vs) d = let z : getD s at (negsuc 0) ≡ pos 1 = cc in rw z (omega arith)
 
   pub standing-at : (k : ℕ) → k ≤ countAt s at → Standing s k (at + 2)
   unfolding countAt
   standing-at k h = record {
     even = omega (arith, w .even);
-    some = by-tag _
+    some = if-some _
         (λ e. omega (arith, rw e at h))
         (λ f. omega (arith, rw (count-some (tagAt s at) (tagAt s (at + 1)) f) at h, count-second f, ap count (elements-firsts f), count-firsts (tagAt s (at + 1)) (forest (drop (at + 2) s))));
   }
 
   -- the value ends where its elements end
   pub end-at : hops s (countAt s at) (at + 2) ≡ at + size (valueAt s at)
-  unfolding hops countAt size sizeAll firsts
-  end-at = by-tag _
+  unfolding hops countAt elements sizeAll firsts
+  end-at = rw (size-elements (valueAt s at)) (if-some _
       (λ e. rw (int-at e, e) (omega arith))
-      (λ f. rw (count-some (tagAt s at) (tagAt s (at + 1)) f, collection-firsts f) (omega arith))
+      (λ f. rw (count-some (tagAt s at) (tagAt s (at + 1)) f, elements-firsts f) (omega arith)))
 
 -- ---- Element j stands where the j elements before it end.
 
@@ -149,7 +184,7 @@ module _ (s : List ℤ) (at j : ℕ) (g : Target s) (w : Tag s at) (h : j < coun
 
   pub element-value : valueAt s (elementAt s at j) ≡ nth (elements (valueAt s at)) j
   unfolding elementAt countAt
-  element-value = place-value s j (countAt s at) (at + 2) g (standing-at s at g w (countAt s at) (omega arith)) h ∙ by-tag s at g w _
+  element-value = place-value s j (countAt s at) (at + 2) g (standing-at s at g w (countAt s at) (omega arith)) h ∙ if-some s at g w _
       (λ e. absurd (omega (arith, rw e at h)))
       (λ f. rw (elements-firsts s at g w f) (sym (nth-firsts (tagAt s (at + 1)) j (forest (drop (at + 2) s)) (omega (arith, rw (count-some (tagAt s at) (tagAt s (at + 1)) f) at h)))))
 

@@ -99,7 +99,8 @@ count-lasts (suc n) (v ▸ vs) h = let r = count-lasts n vs (omega arith) in ome
 count-node : (t : ℕ) (x : ℤ) (vs : Values) → countBy t (tagZ x) ≤ count vs → count vs + 1 ≡ countBy t (tagZ x) + count (node t x vs)
 unfolding count
 count-node zero x vs h = omega arith
-count-node (suc t) x vs h = omega (arith, count-lasts (tagZ x) vs h)
+count-node (suc zero) x vs h = omega (arith, count-lasts (tagZ x) vs h)
+count-node (suc (suc t)) x vs h = omega (arith, count-lasts (tagZ x) vs h)
 
 -- a value gives way to its elements
 count-step : (s : List ℤ) (at : ℕ) → Target s → Tag s at → count (forest (drop (at + 2) s)) + 1 ≡ countAt s at + count (forest (drop at s))

@@ -1,13 +1,13 @@
 -- The words of a target from a tag on: values one after the other, the first of which stands there. Assumes nothing.
 use mathlib.Core.Path.{_≡_, refl, sym, _∙_, ap, ap₂}
 use mathlib.Core.List.{List, [], _∷_, _++_, append-assoc, append-nil}
-use Prim.Native.Nat.{ℕ, zero, suc, _+_, _-_, _*_, _/_, _%_, _<_, _≤_}
+use Prim.Native.Nat.{ℕ, zero, suc, _+_, _-_, _*_, _/_, _%_, _<_, _≤_, max}
 use native.Mathlib.Omega.{arith}
 use lib.ListN.{length, drop, length-append, length-drop}
 use lib.Seq.{drop-drop, drop-append-seam}
 use lib.IntN.{ℤ}
-use Rattle.rules.specs.Forms.{Value, int, collection, Values, empty, _▸_, count, words, wordsAll, size, sizeAll}
-use Rattle.promises.specs.Written.{largest, largestOf, length-words, length-words-all}
+use Rattle.rules.specs.Forms.{Value, int, collection, tupled, Values, empty, _▸_, count, words, wordsAll, size, sizeAll}
+use Rattle.promises.specs.Written.{largest, largestOf, IsWidth, Widths, WidthsAll, length-words, length-words-all}
 use Rattle.holding.specs.Places.{firsts, lasts, forest, headOf, valueAt, Target, Tag, Standing, hops}
 
 -- Values one after the other.
@@ -41,6 +41,7 @@ mutual
   pub forest-words : (v : Value) (l : List ℤ) → forest (words v ++ l) ≡ v ▸ forest l
   forest-words (int x) l = refl
   forest-words (collection vs) l = rw (forest-all vs l, firsts-follow vs (forest l), lasts-follow vs (forest l))
+  forest-words (tupled vs) l = rw (forest-all vs l, firsts-follow vs (forest l), lasts-follow vs (forest l))
 
   pub forest-all : (vs : Values) (l : List ℤ) → forest (wordsAll vs ++ l) ≡ follow vs (forest l)
   forest-all empty l = refl
@@ -52,6 +53,7 @@ mutual
   pub even-size : (v : Value) → size v % 2 ≡ 0
   even-size (int x) = refl
   even-size (collection vs) = let r = even-all vs in omega arith
+  even-size (tupled vs) = let r = even-all vs in omega arith
 
   pub even-all : (vs : Values) → sizeAll vs % 2 ≡ 0
   even-all empty = refl
@@ -61,23 +63,52 @@ pub two-words : (v : Value) → 2 ≤ size v
 unfolding size
 two-words (int x) = omega arith
 two-words (collection vs) = omega arith
+two-words (tupled vs) = omega arith
 
 -- ---- From each even index on there stand values.
 
-largest-follow : (b : ℕ) (vs us : Values) → largestOf vs ≤ b → largestOf us ≤ b → largestOf (follow vs us) ≤ b
-unfolding follow largestOf
-largest-follow b empty us h l = l
-largest-follow b (v ▸ vs) us h l = let r = largest-follow b vs us (omega arith) l in omega arith
+-- The most elements or parts that a value has, nested ones too.
+unfoldable mutual
+  unfolding count
 
--- The words from there on are values', and no collection of these is larger.
-pub tail-flat : (b at : ℕ) → at % 2 ≡ 0 → (fs : Values) → largestOf fs ≤ b → (us : Values) × (drop at (wordsAll fs) ≡ wordsAll us) × (largestOf us ≤ b)
-unfolding words wordsAll largest largestOf
+  pub widest : Value → ℕ
+  widest (int x) = 0
+  widest (collection vs) = max (count vs) (widestOf vs)
+  widest (tupled vs) = max (count vs) (widestOf vs)
+
+  pub widestOf : Values → ℕ
+  widestOf empty = 0
+  widestOf (v ▸ vs) = max (widest v) (widestOf vs)
+
+mutual
+  unfolding widest largest Widths IsWidth
+
+  pub widest-64 : (v : Value) → largest v ≤ 64 → Widths v → widest v ≤ 64
+  widest-64 (int x) h w = omega arith
+  widest-64 (collection vs) h w = omega (arith, widest-all vs (omega arith) w)
+  widest-64 (tupled vs) h w = omega (arith, w .0 .1, widest-all vs h (w .1))
+
+  pub widest-all : (vs : Values) → largestOf vs ≤ 64 → WidthsAll vs → widestOf vs ≤ 64
+  widest-all empty h w = omega arith
+  widest-all (v ▸ vs) h w = omega (arith, widest-64 v (omega arith) (w .0), widest-all vs (omega arith) (w .1))
+
+widest-follow : (b : ℕ) (vs us : Values) → widestOf vs ≤ b → widestOf us ≤ b → widestOf (follow vs us) ≤ b
+unfolding follow widestOf
+widest-follow b empty us h l = l
+widest-follow b (v ▸ vs) us h l = let r = widest-follow b vs us (omega arith) l in omega arith
+
+-- The words from there on are values', and none of these is wider.
+pub tail-flat : (b at : ℕ) → at % 2 ≡ 0 → (fs : Values) → widestOf fs ≤ b → (us : Values) × (drop at (wordsAll fs) ≡ wordsAll us) × (widestOf us ≤ b)
+unfolding words wordsAll widest widestOf
 tail-flat b zero e fs h = (fs, refl, h)
 tail-flat b (suc zero) e fs h = absurd (omega arith)
 tail-flat b (suc (suc at)) e empty h = (empty, refl, h)
 tail-flat b (suc (suc at)) e (int x ▸ fs) h = tail-flat b at (omega arith) fs (omega arith)
 tail-flat b (suc (suc at)) e (collection vs ▸ fs) h =
-    let r = tail-flat b at (omega arith) (follow vs fs) (largest-follow b vs fs (omega arith) (omega arith)) in
+    let r = tail-flat b at (omega arith) (follow vs fs) (widest-follow b vs fs (omega arith) (omega arith)) in
+    (r .0, ap (drop at) (sym (words-follow vs fs)) ∙ r .1, r .2)
+tail-flat b (suc (suc at)) e (tupled vs ▸ fs) h =
+    let r = tail-flat b at (omega arith) (follow vs fs) (widest-follow b vs fs (omega arith) (omega arith)) in
     (r .0, ap (drop at) (sym (words-follow vs fs)) ∙ r .1, r .2)
 
 pub forest-flat : (us : Values) → forest (wordsAll us) ≡ us
@@ -86,7 +117,7 @@ forest-flat us = ap forest (sym (append-nil (wordsAll us))) ∙ forest-all us []
 
 pub flat-at : (s : List ℤ) (at : ℕ) → Target s → at % 2 ≡ 0 → drop at s ≡ wordsAll (forest (drop at s))
 flat-at s at g e =
-    let r = tail-flat (largestOf (forest s)) at e (forest s) (omega arith) in
+    let r = tail-flat (widestOf (forest s)) at e (forest s) (omega arith) in
     let d : drop at s ≡ wordsAll (r .0) = ap (drop at) (g .whole) ∙ r .1 in
     d ∙ ap wordsAll (sym (forest-flat (r .0)) ∙ ap forest (sym d))
 

@@ -7,53 +7,75 @@ use lib.ListN.{length, getD}
 use lib.IntN.{ℤ, pos}
 use lib.Count.{trailingZeros}
 use lib.Pow.{pow-pos, pow-mono}
-use Rattle.rules.specs.Forms.{Value, int, collection, Values, empty, _▸_, count, size, sizeAll}
+use Rattle.rules.specs.Forms.{Value, int, collection, tupled, Values, empty, _▸_, count}
 use Rattle.words.specs.Words.{tagAt}
 use Rattle.marks.specs.Marks.{clear, digit}
 use Rattle.marks.specs.Marked.{nth, marked, held}
 use Rattle.marks.proofs.Places.{by-digit, low-digit, low-lt, clear-lt, clear-is, digit-below}
 use Rattle.marks.proofs.Marked.{marked-low, marked-none, marked-all}
-use Rattle.holding.specs.Places.{valueAt, elements, countAt, Target, Tag, elementAt}
+use Rattle.holding.specs.Places.{valueAt, elements, countBy, countAt, marksBy, marksAt, Target, Tag, elementAt}
 use Rattle.holding.specs.Held.{Held, heldAt, wholeAt, left}
-use Rattle.holding.proofs.Elements.{int-at, collection-at, by-tag, count-elements, element-tag, element-value}
+use Rattle.holding.proofs.Elements.{int-at, collection-at, tuple-at, by-tag, count-elements, element-tag, element-value}
 
 module _ (s : List ℤ) (at m : ℕ) (g : Target s) (w : Tag s at) where
   pub held-int : tagAt s at ≡ 0 → heldAt s at m ≡ int (getD s (at + 1) (pos 0))
   unfolding heldAt held
   held-int e = rw (int-at s at g w e)
 
-  pub held-collection : (tagAt s at ≡ 0 → ⊥) → heldAt s at m ≡ collection (left s at m)
+  pub held-collection : tagAt s at ≡ 1 → heldAt s at m ≡ collection (left s at m)
   unfolding heldAt held left
-  held-collection f = ap (λ (v : Value). held v m) (collection-at s at g w f)
+  held-collection e = ap (λ (v : Value). held v m) (collection-at s at g w e)
+
+  pub held-tuple : tagAt s at ≡ 2 → heldAt s at m ≡ valueAt s at
+  unfolding heldAt held
+  held-tuple e = ap (λ (v : Value). held v m) (tuple-at s at g w e) ∙ sym (tuple-at s at g w e)
+
+-- Marked are elements that there are: all of a collection's, none of a tuple's parts.
+marks-by : (t n : ℕ) → marksBy t n ≤ countBy t n
+marks-by zero n = omega arith
+marks-by (suc zero) n = omega arith
+marks-by (suc (suc t)) n = omega arith
+
+pub marks-count : (s : List ℤ) (at : ℕ) → marksAt s at ≤ countAt s at
+unfolding marksAt countAt
+marks-count s at = marks-by (tagAt s at) (tagAt s (at + 1))
+
+pub marks-all : (s : List ℤ) (at : ℕ) → tagAt s at ≡ 1 → marksAt s at ≡ countAt s at
+unfolding marksAt countAt
+marks-all s at e = rw e
 
 -- The marks of a value are at most 64.
 pub held-64 : (s : List ℤ) (at m : ℕ) → Target s → Held s at m → m < 2 ^ 64
-held-64 s at m g w = let p = pow-mono (g .small at (w .tag)) in omega (arith, w .marks)
+held-64 s at m g w = let l : marksAt s at ≤ 64 = omega (arith, marks-count s at, g .small at (w .tag)) in let p = pow-mono l in omega (arith, w .marks)
+
+pub held-tag : (s : List ℤ) (at m : ℕ) → Held s at m → Tag s at
+held-tag s at m w = w .tag
 
 -- Fewer marks are marks of it: what a front and a back keep, and what is left when a place is taken.
 pub held-less : (s : List ℤ) (at m x : ℕ) → Held s at m → x ≤ m → Held s at x
 held-less s at m x w h = record { tag = w .tag; marks = omega (arith, w .marks) }
 
 pub held-clear : (s : List ℤ) (at m k x : ℕ) → Held s at m → x ≡ clear k m → Held s at x
-held-clear s at m k x w i = record { tag = w .tag; marks = rw i (clear-lt (countAt s at) k m (w .marks)) }
+held-clear s at m k x w i = record { tag = w .tag; marks = rw i (clear-lt (marksAt s at) k m (w .marks)) }
 
 pub held-some : (s : List ℤ) (at m : ℕ) → Target s → Held s at m → m < 2 ^ count (elements (valueAt s at))
-held-some s at m g w = rw (count-elements s at g (w .tag)) (w .marks)
+held-some s at m g w = rw (count-elements s at g (w .tag)) (let p = pow-mono (marks-count s at) in omega (arith, w .marks))
 
 -- The whole value.
 module _ (s : List ℤ) (at : ℕ) (g : Target s) (w : Tag s at) where
   pub whole-held : Held s at (wholeAt s at)
   unfolding wholeAt
-  whole-held = record { tag = w; marks = let p = pow-pos (countAt s at) in omega arith }
+  whole-held = record { tag = w; marks = let p = pow-pos (marksAt s at) in omega arith }
 
-  all-marked : left s at (wholeAt s at) ≡ elements (valueAt s at)
+  all-marked : tagAt s at ≡ 1 → left s at (wholeAt s at) ≡ elements (valueAt s at)
   unfolding left wholeAt
-  all-marked = rw (← count-elements s at g w) (marked-all (elements (valueAt s at)))
+  all-marked e = rw (marks-all s at e, ← count-elements s at g w) (marked-all (elements (valueAt s at)))
 
   pub whole-value : heldAt s at (wholeAt s at) ≡ valueAt s at
   whole-value = by-tag s at g w _
       (λ e. held-int s at (wholeAt s at) g w e ∙ sym (int-at s at g w e))
-      (λ f. held-collection s at (wholeAt s at) g w f ∙ ap collection all-marked ∙ sym (collection-at s at g w f))
+      (λ e. held-collection s at (wholeAt s at) g w e ∙ ap collection (all-marked e) ∙ sym (collection-at s at g w e))
+      (λ e. held-tuple s at (wholeAt s at) g w e)
 
 pub left-none : (s : List ℤ) (at m : ℕ) → m ≤ 0 → left s at m ≡ empty
 unfolding left
@@ -66,7 +88,7 @@ module _ (s : List ℤ) (at m k : ℕ) (g : Target s) (w : Held s at m) (d : k �
   low-is = rw d (low-digit 64 m h (held-64 s at m g w))
 
   pub next-in : k < countAt s at
-  next-in = digit-below k (countAt s at) m low-is (w .marks)
+  next-in = omega (arith, digit-below k (marksAt s at) m low-is (w .marks), marks-count s at)
 
   pub next-64 : k < 64
   next-64 = omega (arith, next-in, g .small at (w .tag))

@@ -4,9 +4,5 @@ pub mod Counting
 pub mod Ends
 pub mod Filling
 pub mod Held
-pub mod Room
-pub mod Row
 pub mod Accepted
-pub mod First
-pub mod Matchers
-pub mod Equal
+pub mod Bits

@@ -1,5 +1,5 @@
--- Tables over a target's words, so that element k of a collection is found at once. `ends` and `base` have an entry for each value: where it ends,
--- and where the places of its elements begin in `places`, which has one for each element.
+-- Tables over a target's words, so that element k of a collection and part k of a tuple are found at once. `ends` and `base` have an entry for each
+-- value: where it ends, and where the places of its elements or parts begin in `places`, which has one for each element or part.
 use Prim.Native.Nat.{ℕ, _+_, _/_, _<_, _≤_}
 use mathlib.Core.Path.{_≡_}
 use mathlib.Core.List.{List}
@@ -21,7 +21,7 @@ pub record Filled (s : List ℤ) (at n from : ℕ) (old new : List ℕ) : Type 0
   pub below : (j : ℕ) → j < from → getD new j 0 ≡ getD old j 0
   pub written : (k : ℕ) → k < n → getD new (from + k) 0 ≡ elementAt s at k
 
--- The places of the elements of the collections before `to`, all below `used`.
+-- The places of the elements and parts of the values before `to`, all below `used`.
 pub record PlacesTo (s : List ℤ) (base places : List ℕ) (to used : ℕ) : Type 0 where
   pub low : (at k : ℕ) → Tag s at → at < to → k < countAt s at → getD base (at / 2) 0 + k < used
   pub are : (at k : ℕ) → Tag s at → at < to → k < countAt s at → getD places (getD base (at / 2) 0 + k) 0 ≡ elementAt s at k

@@ -1,11 +1,11 @@
-// Where the values of a target stand, and the tables by which element k of a collection is found at once.
+// Where the values of a target stand, and the tables by which element k of a collection and part k of a tuple are found at once.
 use marks::full;
 ghost use mathlib.Core.Path.{_≡_};
 ghost use Prim.Native.Nat.{_+_, _<_, _≤_};
 ghost use lib.ListN.{length, getD};
 ghost use Rattle.rules.specs.Forms.{size};
 ghost use Rattle.words.specs.Words.{tagAt};
-ghost use Rattle.holding.specs.Places.{valueAt, countAt, Target, Tag, Standing, hops, elementAt};
+ghost use Rattle.holding.specs.Places.{valueAt, countAt, marksAt, Target, Tag, Standing, hops, elementAt};
 ghost use Rattle.holding.specs.Tables.{EndsFrom, Ends, Filled, PlacesTo, Places};
 ghost use Rattle.holding.specs.Held.{wholeAt};
 
@@ -30,7 +30,7 @@ pub fn number_at(s: &[i32], at: usize) -> u32
     s[at] as u32
 }
 
-// How many elements the value at an index has.
+// How many elements or parts the value at an index has.
 pub fn count_at(s: &[i32], at: usize) -> u32
     requires { ⌜ Target (now s) ⌝ ∗ ⌜ Tag (now s) at ⌝ }
     ensures { λ r. ⌜ r ≡ countAt (now (s .entry)) at ⌝ }
@@ -42,12 +42,24 @@ pub fn count_at(s: &[i32], at: usize) -> u32
     number_at(s, at + 1)
 }
 
+// How many of them may be marked: a collection's elements.
+fn marks_at(s: &[i32], at: usize) -> u32
+    requires { ⌜ Target (now s) ⌝ ∗ ⌜ Tag (now s) at ⌝ }
+    ensures { λ r. ⌜ r ≡ marksAt (now (s .entry)) at ⌝ }
+{
+    let tag = number_at(s, at);
+    if tag == 1 {
+        return number_at(s, at + 1);
+    }
+    0
+}
+
 // The marks of all elements of the value at an index.
 pub fn whole(s: &[i32], at: usize) -> u64
     requires { ⌜ Target (now s) ⌝ ∗ ⌜ Tag (now s) at ⌝ }
     ensures { λ r. ⌜ r ≡ wholeAt (now (s .entry)) at ⌝ }
 {
-    let n = count_at(s, at);
+    let n = marks_at(s, at);
     full(n)
 }
 
@@ -79,7 +91,7 @@ pub fn ends_of(s: &[i32], ends: &mut [u16; 512])
     }
 }
 
-// The places of the elements of one collection.
+// The places of the elements or parts of one value.
 fn fill(
     s: &[i32],
     ends: &[u16; 512],
@@ -103,7 +115,7 @@ fn fill(
     o
 }
 
-// The places of the elements of all collections.
+// The places of the elements and parts of all values.
 pub fn places_of(s: &[i32], ends: &[u16; 512], base: &mut [u16; 512], places: &mut [u16; 512])
     requires { ⌜ Target (now s) ⌝ ∗ ⌜ Ends (now s) (now ends) ⌝ ∗ ⌜ (length (now base) ≡ 512) × (length (now places) ≡ 512) ⌝ }
     ensures { λ r. ⌜ Places (now (s .entry)) (now (base .exit)) (now (places .exit)) ⌝ }
@@ -118,7 +130,7 @@ pub fn places_of(s: &[i32], ends: &[u16; 512], base: &mut [u16; 512], places: &m
     }
 }
 
-// Where element k of the collection at an index stands.
+// Where element k of the collection, or part k of the tuple, at an index stands.
 pub fn element(s: &[i32], base: &[u16; 512], places: &[u16; 512], at: usize, k: u32) -> usize
     requires { ⌜ Places (now s) (now base) (now places) ⌝ ∗ ⌜ Target (now s) ⌝ ∗ ⌜ Tag (now s) at ⌝ ∗ ⌜ k < countAt (now s) at ⌝ }
     ensures { λ r. ⌜ r ≡ elementAt (now (s .entry)) at k ⌝ }

@@ -1,7 +1,7 @@
--- What marks hold of a value: an integer whole, of a collection the elements marked, in target order.
+-- What marks hold of a value: an integer and a tuple whole, of a collection the elements marked, in target order.
 use Prim.Native.Nat.{ℕ, zero, suc, _/_, _%_}
 use lib.IntN.{ℤ, pos}
-use Rattle.rules.specs.Forms.{Value, int, collection, Values, empty, _▸_}
+use Rattle.rules.specs.Forms.{Value, int, collection, tupled, Values, empty, _▸_}
 use Rattle.rules.specs.Search.{Halves}
 use Rattle.marks.specs.Marks.{clear, Split}
 
@@ -24,6 +24,7 @@ unfoldable pub held : Value → ℕ → Value
 unfolding marked
 held (int x) m = int x
 held (collection vs) m = collection (marked vs m)
+held (tupled vs) m = tupled vs
 
 -- The halves of what marks m hold, where a cons takes place k; and where a join parts the marks.
 unfoldable pub choiceAt : Values → ℕ → ℕ → Halves

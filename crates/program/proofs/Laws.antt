@@ -1,5 +1,7 @@
 -- The definitions by the tests of the code. Assumes nothing.
-use Prim.Native.Nat.{ℕ, zero, suc, _+_, _-_, _%_, _<_, _≤_}
+use Prim.Native.Nat.{ℕ, zero, suc, _+_, _-_, _%_, _^_, _<_, _≤_}
+use native.Mathlib.Numerals.{add-one}
+use native.Mathlib.Decide.{decLt}
 use mathlib.Core.Path.{_≡_, refl, sym, ap, _∙_}
 use mathlib.Core.Bool.{Bool, true, false, cond}
 use mathlib.Core.List.{List, [], _∷_}
@@ -7,26 +9,30 @@ use native.Mathlib.Omega.{arith}
 use borrow.Author.Needs.{needs}
 use borrow.Author.Tests.{ne-eqb, lt-ltb, le-ltb}
 use lib.Dec.{eqb, ltb}
-use lib.ListN.{length, getD, drop, List·getD-eq-default}
+use lib.ListN.{length, getD, drop, set, length-drop, drop-of-length-le, List·getD-eq-default}
 use lib.Seq.{getD-drop}
 use lib.IntN.{ℤ, pos, negsuc}
 use mir.Syntax.{w8, w64}
 use mir.Val.{Fits}
-use Rattle.words.specs.Words.{tagZ, tagAt}
-use Rattle.program.specs.Lines.{line, opsUnder, opOf, operandsOf, argOf, conOf, leafLine, stripLines, firstUnder, binding, Columns, written, laid}
+use Rattle.words.specs.Words.{tagZ, tagAt, entries}
+use Rattle.matchers.specs.Places.{widthOf, partsBy, spans, spansWide, matcherEnd}
+use Rattle.program.specs.Lines.{line, reservedLine, reservedLines, opsUnder, opOf, operandsOf, beyondTwo, reservedBy, argOf, conOf, leafLine, stripLines, firstUnder, secondUnder, binding, Columns, written, laid}
+use Rattle.program.specs.Bounds.{cond-le}
+use Rattle.program.specs.Stack.{stack, popped}
 
 -- ---- Tables.
 
-pub op-none : (t k : ℕ) → (t ≡ 0 → ⊥) → (t ≡ 1 → ⊥) → (t ≡ 2 → ⊥) → (t ≡ 3 → ⊥) → (t ≡ 4 → ⊥) → (t ≡ 5 → ⊥) → (t ≡ 6 → ⊥) → 0 ≡ opOf t k
+pub op-none : (t k : ℕ) → (t ≡ 0 → ⊥) → (t ≡ 1 → ⊥) → (t ≡ 2 → ⊥) → (t ≡ 3 → ⊥) → (t ≡ 4 → ⊥) → (t ≡ 5 → ⊥) → (t ≡ 6 → ⊥) → (t ≡ 7 → ⊥) → 0 ≡ opOf t k
 unfolding opOf opsUnder
-op-none zero k a b c d e f g = absurd (a refl)
-op-none (suc zero) k a b c d e f g = absurd (b refl)
-op-none (suc (suc zero)) k a b c d e f g = absurd (c refl)
-op-none (suc (suc (suc zero))) k a b c d e f g = absurd (d refl)
-op-none (suc (suc (suc (suc zero)))) k a b c d e f g = absurd (e refl)
-op-none (suc (suc (suc (suc (suc zero))))) k a b c d e f g = absurd (f refl)
-op-none (suc (suc (suc (suc (suc (suc zero)))))) k a b c d e f g = absurd (g refl)
-op-none (suc (suc (suc (suc (suc (suc (suc t))))))) k a b c d e f g = refl
+op-none zero k a b c d e f g h = absurd (a refl)
+op-none (suc zero) k a b c d e f g h = absurd (b refl)
+op-none (suc (suc zero)) k a b c d e f g h = absurd (c refl)
+op-none (suc (suc (suc zero))) k a b c d e f g h = absurd (d refl)
+op-none (suc (suc (suc (suc zero)))) k a b c d e f g h = absurd (e refl)
+op-none (suc (suc (suc (suc (suc zero))))) k a b c d e f g h = absurd (f refl)
+op-none (suc (suc (suc (suc (suc (suc zero)))))) k a b c d e f g h = absurd (g refl)
+op-none (suc (suc (suc (suc (suc (suc (suc zero))))))) k a b c d e f g h = absurd (h refl)
+op-none (suc (suc (suc (suc (suc (suc (suc (suc t)))))))) k a b c d e f g h = refl
 
 -- ---- Operands, read at an index.
 
@@ -55,13 +61,57 @@ con-some p at n z h e = rw (ne-eqb n 0 h) (e ∙ sym (getD-drop at p (n - 1) (po
 
 pub ruleset operand-rules = (word-none, arg-none, arg-some, con-none, con-some, needs)
 
-pub cond-le : {m : ℕ} (b : Bool) (x y : ℕ) → x ≤ m → y ≤ m → cond b x y ≤ m
-cond-le true x y p q = p
-cond-le false x y p q = q
-
 pub operands-le : (o : ℕ) → operandsOf o ≤ 2
 unfolding operandsOf
-operands-le o = cond-le (ltb o 3) _ _ (omega arith) (cond-le (ltb o 5) _ _ (omega arith) (cond-le (ltb o 7) _ _ (omega arith) (omega arith)))
+operands-le o =
+    cond-le (eqb o 11) _ _ (omega arith) (cond-le (ltb o 3) _ _ (omega arith) (cond-le (ltb o 5) _ _ (omega arith) (cond-le (ltb o 7) _ _ (omega arith) (omega arith))))
+
+-- ---- Tuples.
+
+pub reserved-tuple : (p : List ℤ) (at o k r : ℕ) → o ≡ 11 → k ≡ tagAt p at → r ≡ beyondTwo k → r ≡ reservedBy o (drop at p)
+unfolding reservedBy
+reserved-tuple p at o k r z e h = h ∙ rw (z, e, tag-drop p at 0 at (omega arith))
+
+pub reserved-other : (o : ℕ) (ws : List ℤ) → (o ≡ 11 → ⊥) → 0 ≡ reservedBy o ws
+unfolding reservedBy
+reserved-other o ws h = rw (ne-eqb o 11 h)
+
+pub ruleset reserved-rules = (reserved-tuple, reserved-other, needs)
+
+either-le : (b : Bool) (x y m : ℕ) → x ≤ m → y ≤ m → elim b as (λ _. ℕ) [ true ↦ x | false ↦ y ] ≤ m
+either-le true x y m p q = p
+either-le false x y m p q = q
+
+mutual
+  unfolding spans
+
+  spans-le : (ws : List ℤ) (n : ℕ) → spans ws n ≤ length ws + 1
+  spans-le [] n = omega arith
+  spans-le (t ∷ ws) zero = omega arith
+  spans-le (t ∷ ws) (suc n) =
+      either-le (eqb (tagZ t) 4) (2 + spansWide ws n) (1 + spans ws (partsBy (tagZ t) 0 + n)) _
+      (let h = wide-le ws n in omega arith) (let h = spans-le ws (partsBy (tagZ t) 0 + n) in omega arith)
+
+  wide-le : (ws : List ℤ) (n : ℕ) → spansWide ws n ≤ length ws
+  wide-le [] n = omega arith
+  wide-le (k ∷ ws) n = let h = spans-le ws (widthOf (tagZ k) + n) in omega arith
+
+-- The index of a matcher's end is a byte.
+end-byte : (ms : List ℤ) (i : ℕ) → length ms ≤ 64 → i < 256 → matcherEnd ms i < 256
+unfolding matcherEnd
+end-byte ms i l h = go (decLt i (length ms))
+  where
+    go : Dec (i < length ms) → i + spans (drop i ms) 1 < 256
+    go (yes a) = let b = spans-le (drop i ms) 1 in let c = length-drop i ms in omega arith
+    go (no a) = let b : length ms ≤ i = omega arith in let c : spans (drop i ms) 1 ≡ 0 = rw (drop-of-length-le ms b) in omega arith
+
+pub end-fits : (ms : List ℤ) (i j e : ℕ) → length ms ≤ 64 → i < 2 ^ 8 → j ≡ i → e ≡ matcherEnd ms j → e < 2 ^ 8
+end-fits ms i j e l h z q = let b = end-byte ms i l h in rw (q, z) b
+
+pub end-is : (ms : List ℤ) (i j e : ℕ) → j ≡ i → e ≡ matcherEnd ms j → e ≡ matcherEnd ms i
+end-is ms i j e z q = q ∙ ap (matcherEnd ms) z
+
+pub ruleset end-rules = (end-fits, end-is, needs)
 
 -- ---- Lines.
 
@@ -77,12 +127,94 @@ pub under-join : (o i : ℕ) → o ≡ 10 → i ≡ firstUnder o i
 unfolding firstUnder
 under-join o i e = rw e
 
-pub under-cons : (o i : ℕ) → (o ≡ 10 → ⊥) → i + 1 ≡ firstUnder o i
+pub under-tuple : (o i : ℕ) → o ≡ 11 → i + 2 ≡ firstUnder o i
 unfolding firstUnder
-under-cons o i h = rw (ne-eqb o 10 h)
+under-tuple o i e = rw e
 
-pub under-fits : (o i : ℕ) → (o ≡ 10 → ⊥) → ((o ≡ 10 → ⊥) → i + 1 < 256) → Fits w8 (i + 1)
+pub under-cons : (o i : ℕ) → (o ≡ 10 → ⊥) → (o ≡ 11 → ⊥) → i + 1 ≡ firstUnder o i
+unfolding firstUnder
+under-cons o i h l = rw (ne-eqb o 10 h, ne-eqb o 11 l)
+
+pub under-fits : (o i : ℕ) → (o ≡ 10 → ⊥) → ((o ≡ 10 → ⊥) → i + 2 < 256) → Fits w8 (i + 1)
 under-fits o i h l = let b = l h in record { fits = omega arith }
+
+pub under-two : (o i : ℕ) → o ≡ 11 → ((o ≡ 10 → ⊥) → i + 2 < 256) → Fits w8 (i + 2)
+under-two o i e l = let b = l (λ z. omega arith) in record { fits = omega arith }
+
+pub second-tuple : (ms : List ℤ) (o i r : ℕ) → o ≡ 11 → r ≡ matcherEnd ms (i + 2) → r ≡ secondUnder ms o i
+unfolding secondUnder
+second-tuple ms o i r e h = h ∙ rw e
+
+pub second-other : (ms : List ℤ) (o i : ℕ) → (o ≡ 11 → ⊥) → i ≡ secondUnder ms o i
+unfolding secondUnder
+second-other ms o i h = rw (ne-eqb o 11 h)
+
+pub ruleset under-rules = (under-join, under-tuple, under-cons, under-fits, under-two, second-tuple, second-other, needs)
+
+-- ---- The stack.
+
+pub pop-last : (ms : List ℤ) (u s n : List ℕ) (d : ℕ) → getD n d 0 ≡ 0 → stack u s n (d - 1) ≡ popped ms (stack u s n d)
+unfolding popped
+pop-last ms u s n d e = rw e
+
+pub pop-next : (ms : List ℤ) (u s n : List ℕ) (d i : ℕ) → (getD n d 0 ≡ 0 → ⊥) → i ≡ matcherEnd ms (getD u d 0)
+    → stack (set u d i) (set s d (getD s d 0 + 1)) (set n d (getD n d 0 - 1)) d ≡ popped ms (stack u s n d)
+unfolding popped
+pop-next ms u s n d i h e = rw (ne-eqb (getD n d 0) 0 h, e)
+
+pub ruleset pop-rules = (pop-last, pop-next, needs)
+
+-- ---- Lines that are reserved.
+
+pub record Reserving (e pc : ℕ) (t₀ t : Columns) (q left : ℕ) : Type 0 where
+  pub whole : laid pc (reservedLines e) t₀ ≡ laid q (reservedLines left) t
+  pub place : q + left ≡ pc + e
+
+pub reserving-start : (e pc : ℕ) (t : Columns) → Reserving e pc t t pc e
+reserving-start e pc t = record { whole = refl; place = refl }
+
+module _ (e pc : ℕ) (t₀ t : Columns) (q left : ℕ) (r : Reserving e pc t₀ t q left) where
+  pub reserving-next : (t' : Columns) → 0 < left → t' ≡ written q reservedLine t → Reserving e pc t₀ t' (q + 1) (left - 1)
+  unfolding laid reservedLines
+  reserving-next t' h w = record { whole = r .whole ∙ go left h ∙ rw (add-one q, w); place = (let p = r .place in omega arith) }
+    where
+      go : (k : ℕ) → 0 < k → laid q (reservedLines k) t ≡ laid (suc q) (reservedLines (k - 1)) (written q reservedLine t)
+      go zero z = absurd (omega arith)
+      go (suc k) z = let y : suc k - 1 ≡ k = omega arith in rw y
+
+  pub reserving-end : left ≤ 0 → q ≡ pc + e
+  reserving-end h = let p = r .place in omega arith
+
+  pub reserving-laid : left ≤ 0 → t ≡ laid pc (reservedLines e) t₀
+  unfolding laid reservedLines
+  reserving-laid h = let z : left ≡ 0 = omega arith in sym (r .whole ∙ rw z)
+
+  pub reserving-low : pc + e < entries → 0 < left → q < entries
+  reserving-low h z = let p = r .place in omega arith
+
+  pub reserving-fits : pc + e < entries → 0 < left → Fits w64 (q + 1)
+  reserving-fits h z = let p = r .place in record { fits = omega arith }
+
+pub ruleset reserve-rules = (reserving-start, reserving-next, reserving-end, reserving-laid, reserving-low, reserving-fits, needs)
+
+pub divide-laid : (t u w : Columns) (pc e o i : ℕ) → u ≡ written pc (line (o + e) 0 0 i (pos 0)) t → w ≡ laid (pc + 1) (reservedLines e) u
+    → w ≡ laid pc (line (o + e) 0 0 i (pos 0) ∷ reservedLines e) t
+unfolding laid
+divide-laid t u w pc e o i h k = k ∙ rw (h, add-one pc)
+
+pub divide-place : (pc e r : ℕ) → r ≡ pc + 1 + e → r ≡ suc pc + e
+divide-place pc e r h = omega arith
+
+pub divide-low : (pc e : ℕ) → suc pc + e < entries → pc < entries
+divide-low pc e h = omega arith
+
+pub divide-room : (pc e : ℕ) → suc pc + e < entries → pc + 1 + e < entries
+divide-room pc e h = omega arith
+
+pub divide-byte : (o e : ℕ) → o + e < 256 → Fits w8 (o + e)
+divide-byte o e h = record { fits = omega arith }
+
+pub ruleset divide-rules = (divide-laid, divide-place, divide-low, divide-room, divide-byte, needs)
 
 pub strip-bare : (k o i pc : ℕ) → k ≡ 0 → pc ≡ pc + length (stripLines k o i)
 unfolding stripLines
@@ -125,17 +257,20 @@ strip-short k o i = go (eqb k 0) (ltb o 4)
     go false true = omega arith
     go false false = omega arith
 
-pub leaf-asks : (k o i pc q : ℕ) → pc < 388 → q ≡ pc + length (stripLines k o i) → q < 390
+pub leaf-asks : (k o i pc q : ℕ) → pc + 1 < entries → q ≡ pc + length (stripLines k o i) → q < entries
 leaf-asks k o i pc q h e = let l = strip-short k o i in omega arith
 
-pub leaf-fits : (k o i pc q : ℕ) → pc < 388 → q ≡ pc + length (stripLines k o i) → Fits w64 (q + 1)
+pub leaf-fits : (k o i pc q : ℕ) → pc + 1 < entries → q ≡ pc + length (stripLines k o i) → Fits w64 (q + 1)
 leaf-fits k o i pc q h e = let l = leaf-asks k o i pc q h e in record { fits = omega arith }
 
 pub leaf-place : (k o i pc q : ℕ) → q ≡ pc + length (stripLines k o i) → q + 1 ≡ suc (pc + length (stripLines k o i))
 leaf-place k o i pc q e = omega arith
 
+pub leaf-first : (pc : ℕ) → pc + 1 < entries → pc < entries
+leaf-first pc h = omega arith
+
 pub leaf-laid : (t u w : Columns) (k o i f pc q : ℕ) (ws : List ℤ) → q ≡ pc + length (stripLines k o i) → u ≡ laid pc (stripLines k o i) t
     → w ≡ written q (leafLine o i f ws) u → w ≡ written (pc + length (stripLines k o i)) (leafLine o i f ws) (laid pc (stripLines k o i) t)
 leaf-laid t u w k o i f pc q ws e g h = h ∙ rw (e, g)
 
-pub ruleset leaf-rules = (count-bind, count-other, under-join, under-cons, under-fits, strip-bare, strip-one, strip-no, strip-bare-laid, strip-one-laid, strip-no-laid, leaf-is, con-asks, leaf-asks, leaf-fits, leaf-place, leaf-laid, needs)
+pub ruleset leaf-rules = (count-bind, count-other, strip-bare, strip-one, strip-no, strip-bare-laid, strip-one-laid, strip-no-laid, leaf-is, con-asks, leaf-asks, leaf-first, leaf-fits, leaf-place, leaf-laid, needs)

@@ -1,3 +1,4 @@
 -- What the proofs of several functions use.
 pub mod Laws
+pub mod Stack
 pub mod Turns

@@ -6,45 +6,22 @@ use mathlib.Core.Path.{_≡_, refl, sym, ap, _∙_}
 use mathlib.Core.Bool.{Bool, true, false, cond}
 use mathlib.Core.List.{List, [], _∷_, _++_}
 use borrow.Author.Needs.{needs}
-use borrow.Author.Tests.{ne-eqb, lt-ltb, le-ltb}
+use borrow.Author.Tests.{eqb-true, lt-ltb, le-ltb}
 use lib.Dec.{eqb, ltb}
 use lib.ListN.{length, getD, drop, set, length-set, drop-of-length-le}
-use lib.Seq.{drop-cons, drop-drop, getD-set-same, getD-set-other}
+use lib.Seq.{drop-cons, drop-drop, getD-set-other}
 use lib.IntN.{ℤ, pos, negsuc}
 use mir.Syntax.{w64}
 use mir.Val.{Fits}
-use Rattle.words.specs.Words.{tagZ, tagAt}
+use Rattle.words.specs.Words.{tagZ, tagAt, entries}
 use Rattle.words.proofs.Signed.{within}
-use Rattle.program.specs.Lines.{Line, line, endLine, opsUnder, opOf, operandsOf, stripLines, leafLine, firstUnder, Waiting, waits, slotOf, resumed, linesFrom, lines-split, lines-leaf, linesOf, binding, variablesIn, Columns, written, laid}
-use Rattle.program.proofs.Laws.{cond-le, operands-le, strip-short}
-
--- ---- The stack.
-
-unfoldable pub waiting : (under slots : List ℕ) → (depth : ℕ) → List Waiting
-waiting u s zero = []
-waiting u s (suc d) = waits (getD u (suc d) 0) (getD s (suc d) 0) ∷ waiting u s d
-
--- A store above the top is not seen.
-waiting-above : (u s : List ℕ) (j x y d : ℕ) → d < j → waiting (set u j x) (set s j y) d ≡ waiting u s d
-unfolding waiting
-waiting-above u s j x y zero h = refl
-waiting-above u s j x y (suc d) h =
-    rw (getD-set-other u j (suc d) x 0 (λ e. omega arith), getD-set-other s j (suc d) y 0 (λ e. omega arith), waiting-above u s j x y d (omega arith))
-
-waiting-push : (u s : List ℕ) (d x y : ℕ) → d + 1 < length u → d + 1 < length s → waiting (set u (d + 1) x) (set s (d + 1) y) (d + 1) ≡ waits x y ∷ waiting u s d
-unfolding waiting
-waiting-push u s d x y h l =
-    rw (add-one d, getD-set-same u (suc d) x 0 (omega arith), getD-set-same s (suc d) y 0 (omega arith), waiting-above u s (suc d) x y d (omega arith))
-
-slot-top : (u s : List ℕ) (d : ℕ) → getD s 0 0 ≡ 0 → slotOf (waiting u s d) ≡ getD s d 0
-unfolding waiting slotOf
-slot-top u s zero e = sym e
-slot-top u s (suc d) e = refl
-
-waiting-pop : (u s : List ℕ) (d : ℕ) → (d ≡ 0 → ⊥) → waiting u s d ≡ waits (getD u d 0) (getD s d 0) ∷ waiting u s (d - 1)
-unfolding waiting
-waiting-pop u s zero h = absurd (h refl)
-waiting-pop u s (suc d) h = let e : suc d - 1 ≡ d = omega arith in rw e
+use Rattle.program.specs.Lines.{Line, line, endLine, reservedLines, opsUnder, opOf, operandsOf, beyondTwo, reservedBy, stripLines, leafLine, firstUnder, secondUnder}
+use Rattle.program.specs.Lines.{Waiting, waits, slotOf, others, resumed, divided, linesFrom, lines-split, lines-leaf, linesOf, binding, variablesIn, binding-none, Columns, written, laid}
+use Rattle.program.specs.Stack.{stack, waitingAt, popped}
+use Rattle.program.specs.Bounds.{cond-le, op-most, waitingIn, one-fewer, reserved-length}
+use Rattle.program.specs.Compiled.{reserved-vars}
+use Rattle.program.proofs.Laws.{operands-le, strip-short}
+use Rattle.program.proofs.Stack.{waiting-push, pair-sum, slot-top, waiting-pop, Left, pop-left}
 
 -- ---- Lines.
 
@@ -86,31 +63,45 @@ module _ (m p : List ℤ) (i : ℕ) (ts : List Waiting) (pc at t k o : ℕ) (h :
   x' = rw (tag-is p at t e) x
 
   turn-split : 7 < o → linesFrom m 0 i ts pc (drop at p)
-      ≡ line o 0 0 i (pos 0) ∷ linesFrom m 0 (firstUnder o i) (waits i pc ∷ ts) (suc pc) (drop (suc at) p)
+      ≡ divided m (reservedBy o (drop (suc at) p)) o i ts pc (λ skip j us q. linesFrom m skip j us q (drop (suc at) p))
   turn-split l = ap (linesFrom m 0 i ts pc) (drop-cons p at (negsuc 0) h) ∙ lines-split m i _ k o g x' (lt-ltb 7 o l) ts pc (drop (suc at) p)
 
   turn-leaf : o ≤ 7 → linesFrom m 0 i ts pc (drop at p)
       ≡ stripLines k o i ++ (leafLine o i (slotOf ts) (drop (suc at) p)
-      ∷ resumed ts (λ j us. linesFrom m (operandsOf o) j us (suc (pc + length (stripLines k o i))) (drop (suc at) p)))
+      ∷ resumed m ts (λ j us. linesFrom m (operandsOf o) j us (suc (pc + length (stripLines k o i))) (drop (suc at) p)))
   turn-leaf l = ap (linesFrom m 0 i ts pc) (drop-cons p at (negsuc 0) h) ∙ lines-leaf m i _ k o g x' (le-ltb 7 o l) ts pc (drop (suc at) p)
 
 -- ---- What holds at the loop's head.
 
-pub record Here (m p : List ℤ) (t₀ t : Columns) (under slots : List ℕ) (depth i n pc at : ℕ) : Type 0 where
-  pub whole : laid 0 (linesOf m p) t₀ ≡ laid pc (linesFrom m 0 i (waiting under slots depth) pc (drop at p)) t
-  pub vars : variablesIn (linesOf m p) ≡ n + variablesIn (linesFrom m 0 i (waiting under slots depth) pc (drop at p))
-  pub place : 2 * pc + depth ≤ 3 * at
+pub record Here (m p : List ℤ) (t₀ t : Columns) (under slots behind : List ℕ) (depth i n pc at : ℕ) : Type 0 where
+  pub whole : laid 0 (linesOf m p) t₀ ≡ laid pc (linesFrom m 0 i (waitingAt under slots behind depth) pc (drop at p)) t
+  pub vars : variablesIn (linesOf m p) ≡ n + variablesIn (linesFrom m 0 i (waitingAt under slots behind depth) pc (drop at p))
+  pub place : 5 * pc + waitingIn (waitingAt under slots behind depth) ≤ 9 * at
   pub reach : at ≤ length p + 2
   pub deep : depth ≤ at
   pub few : n ≤ at
   pub bottom : getD slots 0 0 ≡ 0
+  pub sums : (j : ℕ) → getD slots j 0 + getD behind j 0 ≤ pc
   pub long : length under ≡ 257
   pub wide : length slots ≡ 257
+  pub tall : length behind ≡ 257
 
-pub here-start : (m p : List ℤ) (t : Columns) (u s : List ℕ) → length u ≡ 257 → length s ≡ 257 → getD s 0 0 ≡ 0 → Here m p t t u s 0 0 0 0 0
-unfolding linesOf waiting
-here-start m p t u s h l e =
-    record { whole = refl; vars = omega arith; place = omega arith; reach = omega arith; deep = omega arith; few = omega arith; bottom = e; long = h; wide = l }
+pub here-start : (m p : List ℤ) (t : Columns) (u s b : List ℕ) → length u ≡ 257 → length s ≡ 257 → length b ≡ 257
+    → ((j : ℕ) → getD s j 0 ≡ 0) → ((j : ℕ) → getD b j 0 ≡ 0) → Here m p t t u s b 0 0 0 0 0
+unfolding linesOf waitingAt waitingIn
+here-start m p t u s b h l k e f = record {
+  whole = refl;
+  vars = omega arith;
+  place = omega arith;
+  reach = omega arith;
+  deep = omega arith;
+  few = omega arith;
+  bottom = e 0;
+  sums = λ j. let x = e j in let y = f j in omega arith;
+  long = h;
+  wide = l;
+  tall = k;
+}
 
 laid-one : (pc : ℕ) (l : Line) (ls : List Line) (t : Columns) → laid pc (l ∷ ls) t ≡ laid (suc pc) ls (written pc l t)
 unfolding laid
@@ -120,109 +111,163 @@ in-one : (l : Line) (ls : List Line) → variablesIn (l ∷ ls) ≡ binding (l .
 unfolding variablesIn
 in-one l ls = refl
 
-binding-none : (o : ℕ) → 7 < o → binding o ≡ 0
-unfolding binding
-binding-none o h = rw (ne-eqb o 3 (λ e. omega arith))
-
 binding-le : (o : ℕ) → binding o ≤ 1
 unfolding binding
 binding-le o = cond-le (eqb o 3) 1 0 (omega arith) (omega arith)
 
-module _ {m p : List ℤ} {t₀ t : Columns} {u s : List ℕ} {d i n pc at : ℕ} (H : Here m p t₀ t u s d i n pc at) (short : length p ≤ 256)
+-- The places that are reserved are few for the words of their tag.
+pub reserved-few : (o : ℕ) (ws : List ℤ) → (reservedBy o ws ≤ 2) × (6 * reservedBy o ws ≤ 3 + 9 * operandsOf o)
+unfolding reservedBy operandsOf beyondTwo
+reserved-few o ws = go (eqb o 11)
+  where
+    go : (b : Bool) → (cond b (beyondTwo (tagAt ws 0)) 0 ≤ 2)
+        × (6 * cond b (beyondTwo (tagAt ws 0)) 0 ≤ 3 + 9 * cond b 1 (cond (ltb o 3) 0 (cond (ltb o 5) 1 (cond (ltb o 7) 2 0))))
+    go true =
+        let h : beyondTwo (tagAt ws 0) ≤ 2 = cond-le (eqb (tagAt ws 0) 3) 1 _ (omega arith) (cond-le (eqb (tagAt ws 0) 4) 2 0 (omega arith) (omega arith)) in
+        (h, omega arith)
+    go false = (omega arith, omega arith)
+
+waiting-one : (i c n : ℕ) (ts : List Waiting) → waitingIn (waits i c n ∷ ts) ≡ suc (n + waitingIn ts)
+unfolding waitingIn
+waiting-one i c n ts = refl
+
+module _ {m p : List ℤ} {t₀ t : Columns} {u s b : List ℕ} {d i n pc at : ℕ} (H : Here m p t₀ t u s b d i n pc at) (short : length p ≤ 256)
     (h : at < length p) (tag j k o : ℕ) (e : tag ≡ tagAt p at) (y : j ≡ i) (g : k ≡ tagAt m j) (x : o ≡ opOf tag k) where
   g' : k ≡ tagAt m i
   g' = rw (← y) g
 
-  ts : List Waiting
-  ts = waiting u s d
+  module _ (l : 7 < o) (r i' u' c q : ℕ) (t' : Columns) (rs : r ≡ reservedBy o (drop (at + 1) p)) (v : u' ≡ secondUnder m o i) (f : i' ≡ firstUnder o i)
+      (z : c ≡ operandsOf o) (a : q ≡ suc pc + r) (w : t' ≡ laid pc (line (o + r) 0 0 i (pos 0) ∷ reservedLines r) t) where
+    -- What comes after the lines of a tag with parts.
+    split-next : List Line
+    split-next = linesFrom m 0 i' (waits u' pc r ∷ waitingAt u s b d) q (drop (at + 1 + c) p)
 
-  pub here-split : 7 < o → (t' : Columns) → t' ≡ written pc (line o 0 0 i (pos 0)) t → (i' : ℕ) → i' ≡ firstUnder o i
-      → Here m p t₀ t' (set u (d + 1) i) (set s (d + 1) pc) (d + 1) i' n (pc + 1) (at + 1)
-  here-split l t' w i' f =
-      let r = turn-split m p i (waiting u s d) pc at tag k o h e g' x l in
-      let v = waiting-push u s d i pc (omega arith) (omega arith) in
-      let z = binding-none o l in
-      record {
-        whole = rw (add-one pc, add-one at, v, f, w) (H .whole ∙ ap (λ ls. laid pc ls t) r ∙ laid-one pc _ _ t);
-        vars = rw (add-one pc, add-one at, v, f) (H .vars ∙ ap (λ ls. n + variablesIn ls) r ∙ ap (λ b. n + b) (in-one _ _ ∙ rw z (omega arith)));
-        place = omega arith;
-        reach = omega arith;
-        deep = omega arith;
-        few = omega arith;
-        bottom = getD-set-other s (d + 1) 0 pc 0 (λ b. omega arith) ∙ H .bottom;
-        long = length-set u (d + 1) i ∙ H .long;
-        wide = length-set s (d + 1) pc ∙ H .wide;
-      }
+    split-lines : linesFrom m 0 i (waitingAt u s b d) pc (drop at p) ≡ line (o + r) 0 0 i (pos 0) ∷ (reservedLines r ++ split-next)
+    unfolding divided split-next
+    split-lines =
+        let b1 : suc (pc + r) ≡ suc pc + r = omega arith in
+        turn-split m p i (waitingAt u s b d) pc at tag k o h e g' x l
+        ∙ rw (← add-one at, ← rs, skips m (operandsOf o) (firstUnder o i) (waits (secondUnder m o i) pc r ∷ waitingAt u s b d) (suc (pc + r)) (drop (at + 1) p), drop-drop (operandsOf o) (at + 1) p, ← z, ← v, ← f, b1, ← a)
+
+    pub here-split : Here m p t₀ t' (set u (d + 1) u') (set s (d + 1) pc) (set b (d + 1) r) (d + 1) i' n q (at + 1 + c)
+    unfolding split-next
+    here-split =
+        let v1 = waiting-push u s b d u' pc r (omega arith) (omega arith) (omega arith) in
+        let v2 = binding-none (o + r) (omega arith) in
+        let v3 = reserved-vars r split-next in
+        let v4 = in-one (line (o + r) 0 0 i (pos 0)) (reservedLines r ++ split-next) in
+        let v5 = ap variablesIn split-lines in
+        let v6 = H .vars in
+        let v7 : waitingIn (waits u' pc r ∷ waitingAt u s b d) ≡ suc (r + waitingIn (waitingAt u s b d)) = waiting-one u' pc r (waitingAt u s b d) in
+        let v8 = reserved-few o (drop (at + 1) p) in
+        let v9 = operands-le o in
+        let w1 : pc + suc (length (reservedLines r)) ≡ q = omega (arith, reserved-length r) in
+        record {
+          whole = rw (v1, w) (H .whole ∙ ap (λ ls. laid pc ls t) split-lines ∙ laid-append pc (line (o + r) 0 0 i (pos 0) ∷ reservedLines r) split-next t ∙ rw w1);
+          vars = rw v1 (omega arith);
+          place = rw (v1, v7) (omega (arith, H .place, v8 .1));
+          reach = omega arith;
+          deep = omega (arith, H .deep);
+          few = omega (arith, H .few);
+          bottom = getD-set-other s (d + 1) 0 pc 0 (λ z. omega arith) ∙ H .bottom;
+          sums = λ j. pair-sum s b (d + 1) pc r j q (omega arith) (omega arith) (omega arith) (let a1 = H .sums j in omega arith);
+          long = length-set u (d + 1) u' ∙ H .long;
+          wide = length-set s (d + 1) pc ∙ H .wide;
+          tall = length-set b (d + 1) r ∙ H .tall;
+        }
 
   -- What comes after the lines of a tag without parts, which end before q.
   next : ℕ → List Line
-  next q = resumed (waiting u s d) (λ j us. linesFrom m (operandsOf o) j us q (drop (suc at) p))
+  next q = resumed m (waitingAt u s b d) (λ j us. linesFrom m (operandsOf o) j us q (drop (suc at) p))
 
-  module _ (l : o ≤ 7) (f q : ℕ) (t' : Columns) (a : f ≡ getD s d 0) (b : q ≡ suc (pc + length (stripLines k o i)))
+  module _ (l : o ≤ 7) (f q : ℕ) (t' : Columns) (a : f ≡ getD s d 0) (c : q ≡ suc (pc + length (stripLines k o i)))
       (w : t' ≡ written (pc + length (stripLines k o i)) (leafLine o i f (drop (at + 1) p)) (laid pc (stripLines k o i) t)) where
-    lines-are : linesFrom m 0 i (waiting u s d) pc (drop at p) ≡ stripLines k o i ++ (leafLine o i f (drop (at + 1) p) ∷ next q)
+    lines-are : linesFrom m 0 i (waitingAt u s b d) pc (drop at p) ≡ stripLines k o i ++ (leafLine o i f (drop (at + 1) p) ∷ next q)
     unfolding next
-    lines-are = turn-leaf m p i (waiting u s d) pc at tag k o h e g' x l ∙ rw (slot-top u s d (H .bottom), ← a, ← b, add-one at)
+    lines-are = turn-leaf m p i (waitingAt u s b d) pc at tag k o h e g' x l ∙ rw (slot-top u s b d (H .bottom), ← a, ← c, add-one at)
 
     leaf-whole : laid 0 (linesOf m p) t₀ ≡ laid q (next q) t'
     leaf-whole =
-        H .whole ∙ ap (λ ls. laid pc ls t) lines-are ∙ laid-append pc (stripLines k o i) _ t ∙ laid-one (pc + length (stripLines k o i)) _ _ _ ∙ rw (← w, ← b)
+        H .whole ∙ ap (λ ls. laid pc ls t) lines-are ∙ laid-append pc (stripLines k o i) _ t ∙ laid-one (pc + length (stripLines k o i)) _ _ _ ∙ rw (← w, ← c)
 
     leaf-vars : (n' : ℕ) → n' ≡ n + binding o → variablesIn (linesOf m p) ≡ n' + variablesIn (next q)
     unfolding leafLine
-    leaf-vars n' c =
-        let z = in-strip k o i in
+    leaf-vars n' z =
+        let a1 = in-strip k o i in
         let r = ap variablesIn lines-are ∙ in-append (stripLines k o i) _ in
         let v : variablesIn (leafLine o i f (drop (at + 1) p) ∷ next q) ≡ binding o + variablesIn (next q) = in-one _ _ in
         let y = H .vars in
         omega arith
 
     next-end : d ≡ 0 → next q ≡ endLine ∷ []
-    unfolding next waiting resumed
+    unfolding next waitingAt resumed
     next-end z = rw z
 
     pub done-vars : d ≡ 0 → (n' : ℕ) → n' ≡ n + binding o → n' ≡ variablesIn (linesOf m p)
     unfolding variablesIn binding
-    done-vars z n' c = let r : variablesIn (next q) ≡ 0 = ap variablesIn (next-end z) in let v = leaf-vars n' c in omega arith
+    done-vars z n' v = let r : variablesIn (next q) ≡ 0 = ap variablesIn (next-end z) in let y = leaf-vars n' v in omega arith
 
     pub done-laid : d ≡ 0 → (t'' : Columns) → t'' ≡ written q endLine t' → t'' ≡ laid 0 (linesOf m p) t₀
     unfolding laid
     done-laid z t'' v = v ∙ sym (leaf-whole ∙ rw (next-end z))
 
-    next-on : (d ≡ 0 → ⊥) → (c : ℕ) → c ≡ operandsOf o → next q ≡ linesFrom m 0 (getD u d 0) (waiting u s (d - 1)) q (drop (at + 1 + c) p)
-    unfolding next resumed
-    next-on z c r =
-        rw (waiting-pop u s d z) (skips m (operandsOf o) (getD u d 0) (waiting u s (d - 1)) q (drop (suc at) p) ∙ rw (drop-drop (operandsOf o) (suc at) p, add-one at, r))
+    module _ (z : d ≡ 0 → ⊥) (u' s' b' : List ℕ) (d' : ℕ) (pop : stack u' s' b' d' ≡ popped m (stack u s b d)) where
+      popped-left : Left m (stack u s b d) (stack u' s' b' d')
+      popped-left =
+          let a1 = H .deep in
+          let a2 = H .long in
+          let a3 = H .wide in
+          let a4 = H .tall in
+          rw pop (pop-left m (stack u s b d) z (omega arith) (omega arith) (omega arith))
 
-    pub here-leaf : (d ≡ 0 → ⊥) → (n' : ℕ) → n' ≡ n + binding o → (c : ℕ) → c ≡ operandsOf o
-        → Here m p t₀ t' u s (d - 1) (getD u d 0) n' q (at + 1 + c)
-    here-leaf z n' v c r =
-        let y = next-on z c r in
-        let a1 = strip-short k o i in
-        let a2 = operands-le o in
-        let a3 = binding-le o in
-        record {
-          whole = leaf-whole ∙ rw y;
-          vars = leaf-vars n' v ∙ rw y;
-          place = omega arith;
-          reach = omega arith;
-          deep = omega arith;
-          few = omega arith;
-          bottom = H .bottom;
-          long = H .long;
-          wide = H .wide;
-        }
+      next-on : (r : ℕ) → r ≡ operandsOf o → next q ≡ linesFrom m 0 (getD u d 0) (waitingAt u' s' b' d') q (drop (at + 1 + r) p)
+      unfolding next resumed
+      next-on r v =
+          rw (waiting-pop u s b d z, popped-left .waits)
+          (skips m (operandsOf o) (getD u d 0) (others m (getD u d 0) (getD s d 0) (getD b d 0) (waitingAt u s b (d - 1))) q (drop (suc at) p)
+          ∙ rw (drop-drop (operandsOf o) (suc at) p, add-one at, v))
+
+      fewer : waitingIn (waitingAt u s b d) ≡ suc (waitingIn (waitingAt u' s' b' d'))
+      unfolding waitingIn
+      fewer =
+          ap waitingIn (waiting-pop u s b d z)
+          ∙ sym (ap suc (ap waitingIn (popped-left .waits) ∙ one-fewer m (getD u d 0) (getD s d 0) (getD b d 0) (waitingAt u s b (d - 1))))
+
+      pub here-leaf : (n' : ℕ) → n' ≡ n + binding o → (r : ℕ) → r ≡ operandsOf o → Here m p t₀ t' u' s' b' d' (getD u d 0) n' q (at + 1 + r)
+      here-leaf n' v r y =
+          let a0 = next-on r y in
+          let a1 = strip-short k o i in
+          let a2 = operands-le o in
+          let a3 = binding-le o in
+          let a4 = fewer in
+          let a5 = popped-left .lower in
+          let a6 = H .place in
+          let a7 = H .deep in
+          let a8 = H .few in
+          record {
+            whole = leaf-whole ∙ rw a0;
+            vars = leaf-vars n' v ∙ rw a0;
+            place = omega arith;
+            reach = omega arith;
+            deep = omega arith;
+            few = omega arith;
+            bottom = popped-left .bottom ∙ H .bottom;
+            sums = λ j. let b1 = popped-left .sums j in let b2 = H .sums j in omega arith;
+            long = popped-left .long ∙ H .long;
+            wide = popped-left .wide ∙ H .wide;
+            tall = popped-left .tall ∙ H .tall;
+          }
 
 -- ---- The end of the words.
 
-module _ {m p : List ℤ} {t₀ t : Columns} {u s : List ℕ} {d i n pc at : ℕ} (H : Here m p t₀ t u s d i n pc at) (h : length p ≤ at) where
-  lines-end : linesFrom m 0 i (waiting u s d) pc (drop at p) ≡ endLine ∷ []
+module _ {m p : List ℤ} {t₀ t : Columns} {u s b : List ℕ} {d i n pc at : ℕ} (H : Here m p t₀ t u s b d i n pc at) (h : length p ≤ at) where
+  lines-end : linesFrom m 0 i (waitingAt u s b d) pc (drop at p) ≡ endLine ∷ []
   unfolding linesFrom
   lines-end = rw (drop-of-length-le p h)
 
   pub end-vars : n ≡ variablesIn (linesOf m p)
   unfolding variablesIn binding
-  end-vars = let r : variablesIn (linesFrom m 0 i (waiting u s d) pc (drop at p)) ≡ 0 = ap variablesIn lines-end in let v = H .vars in omega arith
+  end-vars = let r : variablesIn (linesFrom m 0 i (waitingAt u s b d) pc (drop at p)) ≡ 0 = ap variablesIn lines-end in let v = H .vars in omega arith
 
   pub end-laid : (t' : Columns) → t' ≡ written pc endLine t → t' ≡ laid 0 (linesOf m p) t₀
   unfolding laid
@@ -230,40 +275,50 @@ module _ {m p : List ℤ} {t₀ t : Columns} {u s : List ℕ} {d i n pc at : ℕ
 
 -- ---- Bounds, as the code asks them.
 
--- A cons stands under a matcher that has words after its tag.
-op-cons : (tag k : ℕ) → 7 < opOf tag k → (opOf tag k ≡ 10 → ⊥) → k < 2147483648
+-- A cons or a tuple stands under a matcher that has words after its tag.
+op-under : (tag k : ℕ) → 7 < opOf tag k → (opOf tag k ≡ 10 → ⊥) → k < 2147483648
 unfolding opOf opsUnder
-op-cons zero k l z = absurd (omega arith)
-op-cons (suc zero) k l z = absurd (omega arith)
-op-cons (suc (suc zero)) k l z = absurd (omega arith)
-op-cons (suc (suc (suc zero))) k l z = go (eqb k 1) l
+op-under zero k l z = absurd (omega arith)
+op-under (suc zero) k l z = absurd (omega arith)
+op-under (suc (suc zero)) k l z = absurd (omega arith)
+op-under (suc (suc (suc zero))) k l z = go (eqb k 1) l
   where
     go : {A : Type 0} (b : Bool) → 7 < cond b 5 6 → A
     go true h = absurd (omega arith)
     go false h = absurd (omega arith)
-op-cons (suc (suc (suc (suc zero)))) k l z = absurd (omega arith)
-op-cons (suc (suc (suc (suc (suc zero))))) k l z = go k l
+op-under (suc (suc (suc (suc zero)))) k l z = absurd (omega arith)
+op-under (suc (suc (suc (suc (suc zero))))) k l z = go (eqb k 2) (eqb-true k 2) (eqb k 3) (eqb-true k 3) l
   where
-    go : (k : ℕ) → 7 < cond (eqb k 2) 8 (cond (eqb k 3) 9 0) → k < 2147483648
-    go zero h = omega arith
-    go (suc zero) h = omega arith
-    go (suc (suc zero)) h = omega arith
-    go (suc (suc (suc zero))) h = omega arith
-    go (suc (suc (suc (suc k)))) h =
-        let r = rw (ne-eqb (suc (suc (suc (suc k)))) 2 (λ e. omega arith), ne-eqb (suc (suc (suc (suc k)))) 3 (λ e. omega arith)) at h in
-        absurd (omega arith)
-op-cons (suc (suc (suc (suc (suc (suc zero)))))) k l z = absurd (z refl)
-op-cons (suc (suc (suc (suc (suc (suc (suc t))))))) k l z = absurd (omega arith)
+    go : (a : Bool) → (a ≡ true → k ≡ 2) → (b : Bool) → (b ≡ true → k ≡ 3) → 7 < cond a 8 (cond b 9 0) → k < 2147483648
+    go true f b g h = let e = f refl in omega arith
+    go false f true g h = let e = g refl in omega arith
+    go false f false g h = absurd (omega arith)
+op-under (suc (suc (suc (suc (suc (suc zero)))))) k l z = absurd (z refl)
+op-under (suc (suc (suc (suc (suc (suc (suc zero))))))) k l z = go (eqb k 4) (eqb-true k 4) l
+  where
+    go : (a : Bool) → (a ≡ true → k ≡ 4) → 7 < cond a 11 0 → k < 2147483648
+    go true f h = let e = f refl in omega arith
+    go false f h = absurd (omega arith)
+op-under (suc (suc (suc (suc (suc (suc (suc (suc t)))))))) k l z = absurd (omega arith)
 
-pub under-asks : (m : List ℤ) (tag i j k o : ℕ) → length m < 256 → j ≡ i → k ≡ tagAt m j → o ≡ opOf tag k → 7 < o → (o ≡ 10 → ⊥) → i + 1 < 256
+pub under-asks : (m : List ℤ) (tag i j k o : ℕ) → length m ≤ 64 → j ≡ i → k ≡ tagAt m j → o ≡ opOf tag k → 7 < o → (o ≡ 10 → ⊥) → i + 2 < 256
 under-asks m tag i j k o s y g x l z =
-    let b = op-cons tag k (rw x at l) (λ e. z (x ∙ e)) in
+    let b = op-under tag k (rw x at l) (λ e. z (x ∙ e)) in
     let r = within m j k g b in
     omega arith
 
-pub end-asks : {m p : List ℤ} {t₀ t : Columns} {u s : List ℕ} {d i n pc at q : ℕ} → Here m p t₀ t u s d i n pc at → length p ≤ 256 → at < length p
-    → (k o : ℕ) → q ≡ suc (pc + length (stripLines k o i)) → q < 390
-end-asks {i = i} H l h k o e = let b = strip-short k o i in omega arith
+module _ {m p : List ℤ} {t₀ t : Columns} {u s b : List ℕ} {d i n pc at : ℕ} (H : Here m p t₀ t u s b d i n pc at) (l : length p ≤ 256) (h : at < length p) where
+  low : pc ≤ 459
+  low = let a = H .place in omega arith
+
+  pub end-asks : (k o q : ℕ) → q ≡ suc (pc + length (stripLines k o i)) → q < entries
+  end-asks k o q e = let a = strip-short k o i in let b = low in omega arith
+
+  pub divide-asks : (tag k o r : ℕ) → o ≡ opOf tag k → r ≡ reservedBy o (drop (at + 1) p) → (suc pc + r < entries) × (o + r < 256)
+  divide-asks tag k o r x e = let a = reserved-few o (drop (at + 1) p) .0 in let b = low in let c = op-most tag k in (omega arith, omega arith)
+
+  pub pop-asks : (d ≡ 0 → ⊥) → (0 < d) × (d < 257) × (getD s d 0 < 1000)
+  pop-asks z = let a = H .deep in let b = low in let c = H .sums d in (omega arith, omega arith, omega arith)
 
 pub skip-fits : (p : List ℤ) (at o c : ℕ) → length p ≤ 256 → at < length p → c ≡ operandsOf o → Fits w64 (at + 1 + c)
 skip-fits p at o c l h e = let b = operands-le o in record { fits = omega arith }
@@ -271,4 +326,4 @@ skip-fits p at o c l h e = let b = operands-le o in record { fits = omega arith 
 pub skip-less : (len at o c : ℕ) → at < len → c ≡ operandsOf o → len - (at + 1 + c) < len - at
 skip-less len at o c h e = omega arith
 
-pub ruleset turn-rules = (here-start, here-split, here-leaf, done-vars, done-laid, end-vars, end-laid, under-asks, end-asks, skip-fits, skip-less, needs)
+pub ruleset turn-rules = (here-start, here-split, here-leaf, done-vars, done-laid, end-vars, end-laid, under-asks, end-asks, divide-asks, pop-asks, skip-fits, skip-less, needs)

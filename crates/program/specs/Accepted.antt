@@ -8,23 +8,22 @@ use mathlib.Core.List.{List, [], _∷_, _++_, append-nil}
 use lib.ListN.{length, getD, drop, length-drop}
 use lib.Seq.{drop-drop, getD-drop}
 use lib.IntN.{ℤ}
-use Rattle.rules.specs.Forms.{Matcher, something, integer, list, multiset, Pattern, wildcard, nil, variable, constant, value, cons, join, span}
-use Rattle.rules.specs.Fit.{element}
-use Rattle.rules.specs.Search.{isSomething}
+use Rattle.rules.specs.Forms.{Matcher, Matchers, Pattern, wildcard, nil, variable, constant, value, cons, join, tuple, Patterns, noPatterns, _▸ᵖ_, countᵖ, span, spanAll}
+use Rattle.rules.specs.Fit.{element, members, isSomething}
 use Rattle.rules.specs.Services.{accepted, Rule, ruleOf}
-use Rattle.promises.specs.Written.{matcherWords, patternWords, levels, length-pattern-words}
+use Rattle.promises.specs.Written.{patternWords, length-pattern-words, IsWidth, Widthsᵖ, WidthsAllᵖ}
 use Rattle.promises.specs.ReadMatcher.{matcher-read}
 use Rattle.promises.specs.ReadPattern.{pattern-read}
 use Rattle.promises.specs.Faults.{WellFormed, rule-accepted}
-use Rattle.program.specs.Points.{Instr, Point, point, finish, beyond, Follows, after-end}
+use Rattle.program.specs.Points.{Instr, Point, point, finish, reserve, beyond, firstOf, othersOf, Follows, after-end}
 use Rattle.program.specs.Program.{pointAt, program, program-follows}
-use Rattle.program.specs.Length.{instrs, toCome, in-range, all-some}
+use Rattle.program.specs.Length.{instrs, instrsParts, toCome, in-range, all-some}
 use Rattle.program.specs.Lines.{Line, endLine, linesFrom, linesOf, variablesIn}
 use Rattle.program.specs.Meaning.{MatcherAt, whole-matcher, Means}
-use Rattle.program.specs.Numbered.{Numbered, numbered-end, numbered-at}
-use Rattle.program.specs.Compiled.{itemWords, parts-none, Stands, at-tag, at-wildcard, at-variable, at-end, at-beyond, Goes, goes}
+use Rattle.program.specs.Numbered.{Numbered, numbered-end, numbered-reserve, numbered-at}
+use Rattle.program.specs.Compiled.{itemWords, parts-none, Stands, at-tag, at-wildcard, at-variable, at-reserve, at-end, at-beyond, Goes, goes}
 
--- ---- 256 words make at most 384 instructions before the end.
+-- ---- 256 words make at most 461 instructions before the end.
 
 one-or-two : (b : Bool) → (1 ≤ elim b as (λ _. ℕ) [ true ↦ 1 | false ↦ 2 ]) × (elim b as (λ _. ℕ) [ true ↦ 1 | false ↦ 2 ] ≤ 2)
 one-or-two true = (omega arith, omega arith)
@@ -39,33 +38,30 @@ some-instrs (constant c) m = omega arith
 some-instrs (value x c) m = omega arith
 some-instrs (cons p q) m = omega arith
 some-instrs (join p q) m = omega arith
+some-instrs (tuple ps) m = omega arith
 
-pub instrs-span : (p : Pattern) (m : Matcher) → 2 * instrs p m ≤ 3 * span p + 1
-unfolding instrs span
-instrs-span wildcard m = let h = one-or-two (isSomething m) .1 in omega arith
-instrs-span (variable x) m = let h = one-or-two (isSomething m) .1 in omega arith
-instrs-span nil m = omega arith
-instrs-span (constant c) m = omega arith
-instrs-span (value x c) m = omega arith
-instrs-span (cons p q) m = let a = instrs-span p (element m) in let b = instrs-span q m in omega arith
-instrs-span (join p q) m = let a = instrs-span p m in let b = instrs-span q m in omega arith
+mutual
+  unfolding instrs span Widthsᵖ IsWidth countᵖ
+
+  pub instrs-span : (p : Pattern) (m : Matcher) → Widthsᵖ p → 5 * instrs p m ≤ 9 * span p + 1
+  instrs-span wildcard m w = let h = one-or-two (isSomething m) .1 in omega arith
+  instrs-span (variable x) m w = let h = one-or-two (isSomething m) .1 in omega arith
+  instrs-span nil m w = omega arith
+  instrs-span (constant c) m w = omega arith
+  instrs-span (value x c) m w = omega arith
+  instrs-span (cons p q) m w = let a = instrs-span p (element m) (w .0) in let b = instrs-span q m (w .1) in omega arith
+  instrs-span (join p q) m w = let a = instrs-span p m (w .0) in let b = instrs-span q m (w .1) in omega arith
+  instrs-span (tuple ps) m w = let a = instrs-span-all ps (members m) (w .1) in omega (arith, w .0 .1)
+
+  instrs-span-all : (ps : Patterns) (ks : Matchers) → WidthsAllᵖ ps → 5 * instrsParts ps ks ≤ 9 * spanAll ps + countᵖ ps
+  instrs-span-all noPatterns ks w = omega arith
+  instrs-span-all (p ▸ᵖ ps) ks w = let a = instrs-span p (firstOf ks) (w .0) in let b = instrs-span-all ps (othersOf ks) (w .1) in omega arith
 
 -- ---- The words are few enough for the compiler.
 
-matcher-length : (m : Matcher) → length (matcherWords m) ≡ suc (levels m)
-unfolding matcherWords levels
-matcher-length something = refl
-matcher-length integer = refl
-matcher-length (list m) = ap suc (matcher-length m)
-matcher-length (multiset m) = ap suc (matcher-length m)
-
 module _ (ms ps : List ℤ) (r : Rule) (a : ruleOf ms ps ≡ accepted r) where
-  pub matcher-short : length ms ≤ 5
-  matcher-short =
-      let m = matcher-read ms (r .matcher) .0 (rule-accepted ms ps r .0 a .matcher) in
-      let e = ap length (m .0) ∙ matcher-length (r .matcher) in
-      let l = m .1 in
-      omega arith
+  pub matcher-short : length ms ≤ 64
+  matcher-short = matcher-read ms (r .matcher) .0 (rule-accepted ms ps r .0 a .matcher) .1
 
   pub pattern-short : length ps ≤ 256
   pattern-short = pattern-read ps (r .pattern) .0 (rule-accepted ms ps r .0 a .pattern) .1
@@ -81,17 +77,20 @@ none-beyond : (P : Point) → toCome P ≡ 0 → P ≡ beyond
 unfolding toCome
 none-beyond (point ks p m b ts) e = let h = all-some ts in absurd (omega arith)
 none-beyond (finish ks) e = absurd (omega arith)
+none-beyond (reserve P) e = absurd (omega arith)
 none-beyond beyond e = refl
 
 -- At the last instruction only the row is left.
-pub one-finish : (P : Point) → toCome P ≡ 1 → (ks : List Matcher) × (P ≡ finish ks)
+pub one-finish : (P : Point) → Numbered P → toCome P ≡ 1 → (ks : List Matcher) × (P ≡ finish ks)
 unfolding toCome
-one-finish (point ks p m b ts) e = let h = all-some ts in let l = some-instrs p m in absurd (omega arith)
-one-finish (finish ks) e = (ks, refl)
-one-finish beyond e = absurd (omega arith)
+one-finish (point ks p m b ts) n e = let h = all-some ts in let l = some-instrs p m in absurd (omega arith)
+one-finish (finish ks) n e = (ks, refl)
+one-finish (reserve P) (numbered-reserve l n) e = absurd (omega arith)
+one-finish beyond n e = absurd (omega arith)
 
 stands-beyond : {ms : List ℤ} {vars pc : ℕ} {ls : List Line} {P : Point} → Stands ms vars pc ls P → P ≡ beyond → ls ≡ []
 stands-beyond at-beyond e = refl
+stands-beyond (at-reserve s) e = let z : _≡_ {A = ℕ} 0 1 = cc in absurd (omega arith)
 stands-beyond (at-end v) e = let z : _≡_ {A = ℕ} 0 1 = cc in absurd (omega arith)
 stands-beyond (at-tag i us a ps l v) e = let z : _≡_ {A = ℕ} 0 1 = cc in absurd (omega arith)
 stands-beyond (at-wildcard i us ps l v) e = let z : _≡_ {A = ℕ} 0 1 = cc in absurd (omega arith)
@@ -112,6 +111,7 @@ numbered-finish ks n e = go (rw e at n)
 onward : {ms : List ℤ} {vars pc : ℕ} {I : Instr} {P Q : Point} {ls : List Line} → Follows pc I P Q → Numbered P → Stands ms vars pc ls P → Stands ms vars (suc pc) (drop 1 ls) Q
 onward {P = point ks p m b ts} f n s = let g = goes f n (λ e. let z : _≡_ {A = ℕ} 0 1 = cc in omega arith) s in rw (g .lines) (g .stands)
 onward {P = finish ks} f n s = let g = goes f n (λ e. let z : _≡_ {A = ℕ} 0 1 = cc in omega arith) s in rw (g .lines) (g .stands)
+onward {P = reserve P} f n s = let g = goes f n (λ e. let z : _≡_ {A = ℕ} 0 1 = cc in omega arith) s in rw (g .lines) (g .stands)
 onward {P = beyond} after-end n at-beyond = at-beyond
 
 suc-drop : {A : Type 0} (l : List A) (n : ℕ) → drop 1 (drop n l) ≡ drop (suc n) l
@@ -128,14 +128,14 @@ module _ (ms ps : List ℤ) (r : Rule) (w : WellFormed ms ps r) where
   numbers = numbered-at (r .matcher) (r .pattern) 0 (w .numbered .0) (w .numbered .1)
 
   follows : (pc : ℕ) → Follows pc (program (r .matcher) (r .pattern) pc) (pointAt (r .matcher) (r .pattern) pc) (pointAt (r .matcher) (r .pattern) (suc pc))
-  follows = program-follows (r .matcher) (r .pattern) 0 (w .fitting .0) (w .fitting .1)
+  follows = program-follows (r .matcher) (r .pattern) 0 (w .fitting .0) (w .fitting .1) (pattern-read ps (r .pattern) .0 (w .pattern) .2)
 
   stands : (pc : ℕ) → Stands ms vars pc (drop pc (linesOf ms ps)) (pointAt (r .matcher) (r .pattern) pc)
   unfolding pointAt linesOf itemWords vars
   stands zero =
-      let m = matcher-read ms (r .matcher) .0 (w .matcher) .0 in
+      let m = matcher-read ms (r .matcher) .0 (w .matcher) in
       let p = pattern-read ps (r .pattern) .0 (w .pattern) .0 in
-      let a : MatcherAt ms 0 (r .matcher) = rw m (whole-matcher (r .matcher)) in
+      let a : MatcherAt ms 0 (r .matcher) = rw (m .0) (whole-matcher (r .matcher) (m .3)) in
       let e : linesFrom ms 0 0 [] 0 ps ≡ linesFrom ms 0 0 [] 0 (patternWords (r .pattern) ++ []) = rw (append-nil (patternWords (r .pattern)), p) in
       at-tag {ks = []} {p = r .pattern} 0 [] a parts-none e (omega arith)
   stands (suc pc) = rw (← suc-drop (linesOf ms ps) pc) (onward (follows pc) (numbers pc) (stands pc))
@@ -168,15 +168,15 @@ module _ (ms ps : List ℤ) (r : Rule) (w : WellFormed ms ps r) where
   unfolding vars
   few-variables =
       let l = instrs (r .pattern) (r .matcher) in
-      let f = one-finish (pointAt (r .matcher) (r .pattern) l) (in-range (r .matcher) (r .pattern) l ∙ omega arith) in
+      let f = one-finish (pointAt (r .matcher) (r .pattern) l) (numbers l) (in-range (r .matcher) (r .pattern) l ∙ omega arith) in
       let e = stands-finish (f .0) (stands l) (f .1) in
       let n = numbered-finish (f .0) (numbers l) (f .1) in
       omega arith
 
-  pub program-fits : instrs (r .pattern) (r .matcher) ≤ 384
+  pub program-fits : instrs (r .pattern) (r .matcher) ≤ 461
   program-fits =
-      let s = instrs-span (r .pattern) (r .matcher) in
       let p = pattern-read ps (r .pattern) .0 (w .pattern) in
+      let s = instrs-span (r .pattern) (r .matcher) (p .2) in
       let e = ap length (p .0) ∙ length-pattern-words (r .pattern) in
       let l = p .1 in
       omega arith

@@ -10,24 +10,25 @@ use lib.ListN.{length, getD, length-set, replicate, length-replicate, List·getD
 use lib.Seq.{getD-set-same, getD-set-other}
 use lib.IntN.{ℤ, pos}
 use Rattle.rules.specs.Services.{accepted, Rule, ruleOf}
+use Rattle.words.specs.Words.{entries}
 use Rattle.promises.specs.Faults.{rule-accepted}
 use Rattle.program.specs.Program.{program}
 use Rattle.program.specs.Length.{instrs}
 use Rattle.program.specs.Lines.{Line, line, endLine, linesOf, variablesIn, Columns, columns, written, laid}
 use Rattle.program.specs.Meaning.{Means}
 use Rattle.program.specs.Accepted.{lines-length, line-means, few-variables, program-fits}
-use Rattle.program.specs.Bounds.{Small, line-small}
+use Rattle.program.specs.Bounds.{Small, line-small, Reserved, line-reserved}
 
 -- The line at a place of the arrays.
 unfoldable pub lineIn : Columns → ℕ → Line
 lineIn t pc = line (getD (t .op) pc 0) (getD (t .from) pc 0) (getD (t .arg) pc 0) (getD (t .mat) pc 0) (getD (t .con) pc (pos 0))
 
 pub record Sized (t : Columns) : Type 0 where
-  pub op : length (t .op) ≡ 390
-  pub from : length (t .from) ≡ 390
-  pub arg : length (t .arg) ≡ 390
-  pub mat : length (t .mat) ≡ 390
-  pub con : length (t .con) ≡ 390
+  pub op : length (t .op) ≡ entries
+  pub from : length (t .from) ≡ entries
+  pub arg : length (t .arg) ≡ entries
+  pub mat : length (t .mat) ≡ entries
+  pub con : length (t .con) ≡ entries
 
 sized-written : (pc : ℕ) (l : Line) (t : Columns) → Sized t → Sized (written pc l t)
 unfolding written
@@ -39,7 +40,7 @@ sized-written pc l t s = record {
   con = length-set (t .con) pc (l .con) ∙ s .con;
 }
 
-written-same : (pc : ℕ) (l : Line) (t : Columns) → Sized t → pc < 390 → lineIn (written pc l t) pc ≡ l
+written-same : (pc : ℕ) (l : Line) (t : Columns) → Sized t → pc < entries → lineIn (written pc l t) pc ≡ l
 unfolding written lineIn
 written-same pc l t s h =
     rw (
@@ -73,7 +74,7 @@ laid-after pc [] t j h = refl
 laid-after pc (l ∷ ls) t j h = laid-after (suc pc) ls (written pc l t) j (omega arith) ∙ written-other pc j l t (λ e. omega arith)
 
 -- Each line reads back.
-pub laid-line : (pc : ℕ) (ls : List Line) (t : Columns) (j : ℕ) → Sized t → pc + length ls ≤ 390 → j < length ls → lineIn (laid pc ls t) (pc + j) ≡ getD ls j endLine
+pub laid-line : (pc : ℕ) (ls : List Line) (t : Columns) (j : ℕ) → Sized t → pc + length ls ≤ entries → j < length ls → lineIn (laid pc ls t) (pc + j) ≡ getD ls j endLine
 unfolding laid
 laid-line pc [] t j s h l = absurd (omega arith)
 laid-line pc (x ∷ ls) t zero s h l =
@@ -89,7 +90,7 @@ pub record Blank (t : Columns) : Type 0 where
   pub sized : Sized t
   pub ends : (pc : ℕ) → lineIn t pc ≡ endLine
 
-getD-same : {A : Type 0} (n i : ℕ) (a : A) → getD (replicate n a) i a ≡ a
+pub getD-same : {A : Type 0} (n i : ℕ) (a : A) → getD (replicate n a) i a ≡ a
 getD-same zero i a = refl
 getD-same (suc n) zero a = refl
 getD-same (suc n) (suc i) a = getD-same n i a
@@ -97,7 +98,7 @@ getD-same (suc n) (suc i) a = getD-same n i a
 zeros : ℕ → Columns
 zeros n = columns (replicate n 0) (replicate n 0) (replicate n 0) (replicate n 0) (replicate n (pos 0))
 
-zeros-blank : (n : ℕ) → n ≡ 390 → Blank (zeros n)
+zeros-blank : (n : ℕ) → n ≡ entries → Blank (zeros n)
 unfolding zeros lineIn
 zeros-blank n e = record {
   sized = record {
@@ -110,11 +111,11 @@ zeros-blank n e = record {
   ends = λ pc. rw (getD-same {A = ℕ} n pc 0, getD-same n pc (pos 0));
 }
 
-pub blank : Blank (columns (replicate 390 0) (replicate 390 0) (replicate 390 0) (replicate 390 0) (replicate 390 (pos 0)))
+pub blank : Blank (columns (replicate entries 0) (replicate entries 0) (replicate entries 0) (replicate entries 0) (replicate entries (pos 0)))
 unfolding zeros
-blank = zeros-blank 390 refl
+blank = zeros-blank entries refl
 
-pub laid-blank : (ls : List Line) (t : Columns) → Blank t → length ls ≤ 390 → (pc : ℕ) → lineIn (laid 0 ls t) pc ≡ getD ls pc endLine
+pub laid-blank : (ls : List Line) (t : Columns) → Blank t → length ls ≤ entries → (pc : ℕ) → lineIn (laid 0 ls t) pc ≡ getD ls pc endLine
 laid-blank ls t b h pc = go (ltb pc (length ls)) refl
   where
     go : (s : Bool) → ltb pc (length ls) ≡ s → lineIn (laid 0 ls t) pc ≡ getD ls pc endLine
@@ -129,12 +130,14 @@ pub record Holds (ms : List ℤ) (r : Rule) (vars : ℕ) (t : Columns) : Type 0 
   pub means : (pc : ℕ) → pc ≤ instrs (r .pattern) (r .matcher) → Means ms vars (lineIn t pc) (program (r .matcher) (r .pattern) pc)
   pub after : (pc : ℕ) → instrs (r .pattern) (r .matcher) < pc → lineIn t pc ≡ endLine
   pub small : (pc : ℕ) → Small pc (lineIn t pc)
-  pub last : instrs (r .pattern) (r .matcher) ≤ 384
+  pub reserved : (pc k : ℕ) → 0 < k → 11 + k ≤ (lineIn t pc) .op → (lineIn t (pc + k)) .op ≡ 1
+  pub last : instrs (r .pattern) (r .matcher) ≤ 461
   pub few : vars ≤ 16
 
 -- What the compiler leaves in the arrays, if the rule is accepted.
 pub compiled : (ms ps : List ℤ) (r : Rule) → ruleOf ms ps ≡ accepted r → (t : Columns) → Blank t
     → Holds ms r (variablesIn (linesOf ms ps)) (laid 0 (linesOf ms ps) t)
+unfolding Reserved
 compiled ms ps r a t b =
     let w = rule-accepted ms ps r .0 a in
     let n = lines-length ms ps r w in
@@ -144,11 +147,12 @@ compiled ms ps r a t b =
       means = λ pc h. rw (is pc) (line-means ms ps r w pc h);
       after = λ pc h. is pc ∙ List·getD-eq-default (linesOf ms ps) endLine (omega arith);
       small = λ pc. rw (is pc) (line-small ms ps pc);
+      reserved = λ pc k z h. rw (is (pc + k)) (line-reserved ms ps pc k z (rw (is pc) at h));
       last = l;
       few = few-variables ms ps r w;
     }
 
 -- The same, as a caller has it that lent arrays of zeros.
 pub compiled-zeros : (ms ps : List ℤ) (r : Rule) → ruleOf ms ps ≡ accepted r → (vars : ℕ) (t : Columns) → vars ≡ variablesIn (linesOf ms ps)
-    → t ≡ laid 0 (linesOf ms ps) (columns (replicate 390 0) (replicate 390 0) (replicate 390 0) (replicate 390 0) (replicate 390 (pos 0))) → Holds ms r vars t
+    → t ≡ laid 0 (linesOf ms ps) (columns (replicate entries 0) (replicate entries 0) (replicate entries 0) (replicate entries 0) (replicate entries (pos 0))) → Holds ms r vars t
 compiled-zeros ms ps r a vars t e g = rw (e, g) (compiled ms ps r a _ blank)

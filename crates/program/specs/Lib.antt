@@ -3,6 +3,7 @@ pub mod Points
 pub mod Program
 pub mod Length
 pub mod Lines
+pub mod Stack
 pub mod Worked
 pub mod Meaning
 pub mod Numbered

@@ -1,18 +1,21 @@
 -- The compiler on words: the lines of a rule's program, from the matcher's words and the pattern's.
-use Prim.Native.Nat.{ℕ, zero, suc, _+_, _-_, _%_}
+use Prim.Native.Nat.{ℕ, zero, suc, _+_, _-_, _%_, _<_}
 use mathlib.Core.Path.{_≡_, refl, _∙_}
 use mathlib.Core.Bool.{true, false, cond}
 use mathlib.Core.List.{List, [], _∷_, _++_}
+use native.Mathlib.Omega.{arith}
+use borrow.Author.Tests.{ne-eqb}
 use lib.ListN.{length, getD, set}
 use lib.Dec.{eqb, ltb}
 use lib.IntN.{ℤ, pos}
 use Rattle.words.specs.Words.{tagZ, tagAt}
+use Rattle.matchers.specs.Places.{matcherEnd}
 
 -- ---- A line is one instruction in numbers.
 
--- `op`: 0 end, 1 the same atom under something, 2 drop, 3 bind, 4 constant, 5 value under integer, 6 value under a collection, 7 nil, 8 cons under a
--- list, 9 cons under a multiset, 10 join. `from`: the slot of the value for the atom after one that is dropped. `arg`: the variable of 3, 5 and 6.
--- `mat`: the index of the matcher's tag in the matcher's words. `con`: the constant of 4, the number that 5 and 6 add.
+-- `op`: 0 end, 1 the same atom under something, 2 drop, 3 bind, 4 constant, 5 value under integer, 6 value under another matcher, 7 nil, 8 cons under
+-- a list, 9 cons under a multiset, 10 join, 11 to 13 a tuple of 2 to 4 parts. `from`: the slot of the value for the atom after one that is dropped.
+-- `arg`: the variable of 3, 5 and 6. `mat`: the index of the matcher's tag in the matcher's words. `con`: the constant of 4, the number that 5 and 6 add.
 pub record Line : Type 0 where
   pub op : ℕ
   pub from : ℕ
@@ -26,6 +29,14 @@ line o f a i c = record { op = o; from = f; arg = a; mat = i; con = c }
 abbrev pub endLine : Line
 endLine = line 0 0 0 0 (pos 0)
 
+-- Reserved for a tuple's parts beyond two: only the slot is used, no state stands there.
+abbrev pub reservedLine : Line
+reservedLine = line 1 0 0 0 (pos 0)
+
+unfoldable pub reservedLines : ℕ → List Line
+reservedLines zero = []
+reservedLines (suc n) = reservedLine ∷ reservedLines n
+
 -- ---- What a pattern's tag becomes.
 
 -- By the pattern's tag, under a matcher with the tag k. 0: no line of a rule that was accepted.
@@ -38,15 +49,24 @@ opsUnder k =
     ∷ 7  -- nil
     ∷ cond (eqb k 2) 8 (cond (eqb k 3) 9 0)  -- cons
     ∷ 10  -- join
+    ∷ cond (eqb k 4) 11 0  -- tuple
     ∷ []
 
 unfoldable pub opOf : (tag k : ℕ) → ℕ
 unfolding opsUnder
 opOf tag k = getD (opsUnder k) tag 0
 
--- How many operands the words have after the tag.
+-- How many operands the words have after the tag; a tuple's is its width.
 unfoldable pub operandsOf : (op : ℕ) → ℕ
-operandsOf o = cond (ltb o 3) 0 (cond (ltb o 5) 1 (cond (ltb o 7) 2 0))
+operandsOf o = cond (eqb o 11) 1 (cond (ltb o 3) 0 (cond (ltb o 5) 1 (cond (ltb o 7) 2 0)))
+
+-- A tuple of k parts has so many beyond two; and so many places are reserved after the line of a tag with parts, before the words ws.
+unfoldable pub beyondTwo : (k : ℕ) → ℕ
+beyondTwo k = cond (eqb k 3) 1 (cond (eqb k 4) 2 0)
+
+unfoldable pub reservedBy : (op : ℕ) → List ℤ → ℕ
+unfolding beyondTwo tagAt
+reservedBy o ws = cond (eqb o 11) (beyondTwo (tagAt ws 0)) 0
 
 -- Of n operands the first may name a variable (of a rule that was accepted it is below 16), and the last may be the constant or the number to add.
 unfoldable pub argOf : (n : ℕ) → List ℤ → ℕ
@@ -65,39 +85,59 @@ unfoldable pub leafLine : (op i from : ℕ) → List ℤ → Line
 unfolding operandsOf argOf conOf
 leafLine o i f ws = line o f (argOf (operandsOf o) ws) i (conOf (operandsOf o) ws)
 
--- "Cons puts its first part under M", whose words follow the tag of list M or multiset M; join puts it under list M.
+-- The matcher of a first part: "cons puts its first part under M", whose words follow the tag of list M or multiset M; join puts it under list M. A
+-- tuple's matchers follow its width.
 unfoldable pub firstUnder : (op i : ℕ) → ℕ
-firstUnder o i = cond (eqb o 10) i (i + 1)
+firstUnder o i = cond (eqb o 10) i (cond (eqb o 11) (i + 2) (i + 1))
+
+-- That of the second part: the whole's, or the tuple's next.
+unfoldable pub secondUnder : (ms : List ℤ) (op i : ℕ) → ℕ
+unfolding matcherEnd
+secondUnder ms o i = cond (eqb o 11) (matcherEnd ms (i + 2)) i
 
 -- ---- The lines from a place on.
 
--- A second part that waits: the index of its matcher, and the slot where its value will be.
+-- A part that waits: the index of its matcher, the slot where its value will be, and how many parts of the same tuple wait behind it, each in the next
+-- slot.
 pub data Waiting : Type 0 where
-  waits : (mat slot : ℕ) → Waiting
+  waits : (mat slot behind : ℕ) → Waiting
 
 unfoldable pub slotOf : List Waiting → ℕ
 slotOf [] = 0
-slotOf (waits i c ∷ ts) = c
+slotOf (waits i c n ∷ ts) = c
 
--- What follows a tag without parts: the second part that waits; the end, where none does.
-unfoldable pub resumed : List Waiting → (again : ℕ → List Waiting → List Line) → List Line
-resumed [] again = endLine ∷ []
-resumed (waits i c ∷ ts) again = again i ts
+-- What waits when that part is no longer waiting.
+unfoldable pub others : (ms : List ℤ) (i c n : ℕ) → List Waiting → List Waiting
+unfolding matcherEnd
+others ms i c zero ts = ts
+others ms i c (suc n) ts = waits (matcherEnd ms i) (suc c) n ∷ ts
 
--- The lines of a tag at the place pc, and of what follows it, of which `again skip i ts pc` has the lines.
-unfoldable pub taken : (k op i : ℕ) → List Waiting → (pc : ℕ) → List ℤ → (again : ℕ → ℕ → List Waiting → ℕ → List Line) → List Line
-unfolding stripLines leafLine firstUnder slotOf resumed operandsOf
-taken k o i ts pc ws again =
-    cond (ltb 7 o) (line o 0 0 i (pos 0) ∷ again 0 (firstUnder o i) (waits i pc ∷ ts) (suc pc))
-    (stripLines k o i ++ (leafLine o i (slotOf ts) ws ∷ resumed ts (λ j us. again (operandsOf o) j us (suc (pc + length (stripLines k o i))))))
+-- What follows a tag without parts: the part that waits; the end, where none does.
+unfoldable pub resumed : (ms : List ℤ) → List Waiting → (again : ℕ → List Waiting → List Line) → List Line
+unfolding others
+resumed ms [] again = endLine ∷ []
+resumed ms (waits i c n ∷ ts) again = again i (others ms i c n ts)
 
--- After `skip` operands comes a pattern under the matcher at i, then the second parts that wait.
+-- The lines of a tag with parts, n places being reserved, and of a tag without, at the place pc; and of what follows, of which `again skip i ts pc` has
+-- the lines.
+unfoldable pub divided : (ms : List ℤ) (n op i : ℕ) → List Waiting → (pc : ℕ) → (again : ℕ → ℕ → List Waiting → ℕ → List Line) → List Line
+unfolding reservedLines firstUnder secondUnder operandsOf
+divided ms n o i ts pc again =
+    line (o + n) 0 0 i (pos 0) ∷ (reservedLines n ++ again (operandsOf o) (firstUnder o i) (waits (secondUnder ms o i) pc n ∷ ts) (suc (pc + n)))
+
+unfoldable pub taken : (ms : List ℤ) (k op i : ℕ) → List Waiting → (pc : ℕ) → List ℤ → (again : ℕ → ℕ → List Waiting → ℕ → List Line) → List Line
+unfolding divided reservedBy stripLines leafLine slotOf resumed operandsOf
+taken ms k o i ts pc ws again =
+    cond (ltb 7 o) (divided ms (reservedBy o ws) o i ts pc again)
+    (stripLines k o i ++ (leafLine o i (slotOf ts) ws ∷ resumed ms ts (λ j us. again (operandsOf o) j us (suc (pc + length (stripLines k o i))))))
+
+-- After `skip` operands comes a pattern under the matcher at i, then the parts that wait.
 unfoldable pub linesFrom : (ms : List ℤ) (skip i : ℕ) → List Waiting → (pc : ℕ) → List ℤ → List Line
 unfolding taken opOf tagAt
 linesFrom ms skip i ts pc [] = endLine ∷ []
 linesFrom ms (suc skip) i ts pc (w ∷ ws) = linesFrom ms skip i ts pc ws
 linesFrom ms zero i ts pc (w ∷ ws) =
-    taken (tagAt ms i) (opOf (tagZ w) (tagAt ms i)) i ts pc ws (λ skip j us q. linesFrom ms skip j us q ws)
+    taken ms (tagAt ms i) (opOf (tagZ w) (tagAt ms i)) i ts pc ws (λ skip j us q. linesFrom ms skip j us q ws)
 
 unfoldable pub linesOf : (ms ps : List ℤ) → List Line
 unfolding linesFrom
@@ -111,6 +151,11 @@ unfoldable pub variablesIn : List Line → ℕ
 unfolding binding
 variablesIn [] = 0
 variablesIn (l ∷ ls) = binding (l .op) + variablesIn ls
+
+-- A tag with parts is no variable.
+pub binding-none : (o : ℕ) → 7 < o → binding o ≡ 0
+unfolding binding
+binding-none o h = rw (ne-eqb o 3 (λ e. omega arith))
 
 -- ---- The program lies in five arrays, one for each field of a line.
 
@@ -136,21 +181,21 @@ laid pc (l ∷ ls) t = laid (suc pc) ls (written pc l t)
 -- ---- The lines by the tag of the first word, as the code takes it.
 
 lines-word : (ms : List ℤ) (i : ℕ) (ts : List Waiting) (pc : ℕ) (w : ℤ) (ws : List ℤ) → linesFrom ms 0 i ts pc (w ∷ ws)
-    ≡ taken (tagAt ms i) (opOf (tagZ w) (tagAt ms i)) i ts pc ws (λ skip j us q. linesFrom ms skip j us q ws)
+    ≡ taken ms (tagAt ms i) (opOf (tagZ w) (tagAt ms i)) i ts pc ws (λ skip j us q. linesFrom ms skip j us q ws)
 unfolding linesFrom
 lines-word ms i ts pc w ws = refl
 
 module _ (ms : List ℤ) (i : ℕ) (w : ℤ) (k o : ℕ) (g : k ≡ tagAt ms i) (x : o ≡ opOf (tagZ w) k) where
   lines-tag : (ts : List Waiting) (pc : ℕ) (ws : List ℤ)
-      → linesFrom ms 0 i ts pc (w ∷ ws) ≡ taken k o i ts pc ws (λ skip j us q. linesFrom ms skip j us q ws)
+      → linesFrom ms 0 i ts pc (w ∷ ws) ≡ taken ms k o i ts pc ws (λ skip j us q. linesFrom ms skip j us q ws)
   lines-tag ts pc ws = lines-word ms i ts pc w ws ∙ rw (← g, ← x)
 
-  pub lines-split : ltb 7 o ≡ true → (ts : List Waiting) (pc : ℕ) (ws : List ℤ) → linesFrom ms 0 i ts pc (w ∷ ws)
-      ≡ line o 0 0 i (pos 0) ∷ linesFrom ms 0 (firstUnder o i) (waits i pc ∷ ts) (suc pc) ws
+  pub lines-split : ltb 7 o ≡ true → (ts : List Waiting) (pc : ℕ) (ws : List ℤ)
+      → linesFrom ms 0 i ts pc (w ∷ ws) ≡ divided ms (reservedBy o ws) o i ts pc (λ skip j us q. linesFrom ms skip j us q ws)
   unfolding taken
   lines-split l ts pc ws = lines-tag ts pc ws ∙ rw l
 
   pub lines-leaf : ltb 7 o ≡ false → (ts : List Waiting) (pc : ℕ) (ws : List ℤ) → linesFrom ms 0 i ts pc (w ∷ ws)
-      ≡ stripLines k o i ++ (leafLine o i (slotOf ts) ws ∷ resumed ts (λ j us. linesFrom ms (operandsOf o) j us (suc (pc + length (stripLines k o i))) ws))
+      ≡ stripLines k o i ++ (leafLine o i (slotOf ts) ws ∷ resumed ms ts (λ j us. linesFrom ms (operandsOf o) j us (suc (pc + length (stripLines k o i))) ws))
   unfolding taken
   lines-leaf l ts pc ws = lines-tag ts pc ws ∙ rw l

@@ -1,5 +1,5 @@
 -- The variables at each place of a program: what is to do there numbers on from the variables bound so far, and there are never more than 16.
-use Prim.Native.Nat.{ℕ, zero, suc, _+_, _<_, _≤_}
+use Prim.Native.Nat.{ℕ, zero, suc, _+_, _-_, _<_, _≤_}
 use native.Mathlib.Omega.{arith}
 use mathlib.Core.Path.{_≡_, refl, sym, _∙_}
 use mathlib.Core.Bool.{Bool, true, false}
@@ -8,17 +8,18 @@ use lib.ListN.{length, length-append}
 use lib.Dec.{ltb, ltb→lt}
 use lib.IntN.{ℤ, pos, negsuc}
 use Rattle.rules.specs.Numbers.{same}
-use Rattle.rules.specs.Forms.{Matcher, something, Pattern, wildcard, nil, variable, constant, value, cons, join}
+use Rattle.rules.specs.Forms.{Matcher, something, Matchers, Pattern, wildcard, nil, variable, constant, value, cons, join, tuple, Patterns, noPatterns, _▸ᵖ_, countᵖ, span}
 use Rattle.rules.specs.Reading.{Verdict, ok}
-use Rattle.rules.specs.Variables.{isNext, isLeft, variables}
-use Rattle.rules.specs.Search.{isSomething}
+use Rattle.rules.specs.Variables.{isNext, isLeft, variables, variablesAll}
+use Rattle.rules.specs.Fit.{members, isSomething}
 use Rattle.promises.specs.Tests.{and-split}
 use Rattle.promises.specs.Readers.{then-ok}
 use Rattle.promises.specs.Written.{variableTags}
 use Rattle.promises.specs.Pairing.{same-eq}
 use Rattle.promises.specs.Numbering.{variables-found, demand-ok}
-use Rattle.program.specs.Points.{Item, item, Point, point, finish, beyond, enter}
+use Rattle.program.specs.Points.{Item, item, Point, point, finish, reserve, beyond, enter, reserved, firstOf, othersOf, items, parted}
 use Rattle.program.specs.Program.{followOf, pointAt}
+use Rattle.program.specs.Length.{toCome, come-reserved, come-parted, all-some}
 
 -- n variables stand to the left of what waits.
 pub data Waits : ℕ → List Item → Type 0 where
@@ -29,6 +30,7 @@ pub data Numbered : Point → Type 0 where
   numbered : {ms : List Matcher} {p : Pattern} {m b : Matcher} {ts : List Item} {k : ℕ} (at : ℕ)
       → length ms ≤ 16 → variables p at (length ms) ≡ ok k → Waits k ts → Numbered (point ms p m b ts)
   numbered-end : {ms : List Matcher} → length ms ≤ 16 → Numbered (finish ms)
+  numbered-reserve : {P : Point} → 1 ≤ toCome P → Numbered P → Numbered (reserve P)
   numbered-beyond : Numbered beyond
 
 enters : (ms : List Matcher) {n : ℕ} {ts : List Item} → length ms ≤ 16 → length ms ≡ n → Waits n ts → Numbered (enter ms ts)
@@ -51,6 +53,27 @@ bound ms at {n} x b l h w =
     let e : length (ms ++ (b ∷ [])) ≡ n = z ∙ sym f in
     enters (ms ++ (b ∷ [])) (omega arith) e w
 
+-- The parts of a tuple.
+part-waits : (ps : Patterns) (ks : Matchers) {n k : ℕ} {ts : List Item} (at c : ℕ) → variablesAll ps at n ≡ ok k → Waits k ts → Waits n (items ps ks c ts)
+unfolding variablesAll items
+part-waits noPatterns ks {n} {k} at c h w = let e : n ≡ k = cc in rw e w
+part-waits (p ▸ᵖ ps) ks {k = k} at c h w =
+    let r = then-ok _ _ k h in
+    waits {p = p} {m = firstOf ks} {c = c} at (r .1) (part-waits ps (othersOf ks) (at + span p) (suc c) (r .2) w)
+
+parted-numbered : (ms : List Matcher) (ps : Patterns) (ks : Matchers) {k : ℕ} {ts : List Item} (at pc : ℕ) → length ms ≤ 16
+    → variablesAll ps at (length ms) ≡ ok k → Waits k ts → Numbered (parted ms ps ks pc ts)
+unfolding variablesAll parted
+parted-numbered ms noPatterns ks at pc l h w = kept ms l h w
+parted-numbered ms (p ▸ᵖ ps) ks {k = k} at pc l h w =
+    let r = then-ok _ _ k h in
+    numbered {ms = ms} {p = p} at l (r .1) (part-waits ps (othersOf ks) (at + span p) pc (r .2) w)
+
+reserved-numbered : (n : ℕ) {P : Point} → 1 ≤ toCome P → Numbered P → Numbered (reserved n P)
+unfolding reserved
+reserved-numbered zero l h = h
+reserved-numbered (suc n) {P} l h = let e = come-reserved n P in numbered-reserve {P = reserved n P} (omega arith) (reserved-numbered n l h)
+
 next : (pc : ℕ) (p : Pattern) (ms : List Matcher) (m b : Matcher) (ts : List Item) {k : ℕ} (at : ℕ)
     → length ms ≤ 16 → variables p at (length ms) ≡ ok k → Waits k ts → Numbered (followOf pc (point ms p m b ts))
 unfolding followOf variables
@@ -69,6 +92,10 @@ next pc (constant c) ms m b ts at l h w = kept ms l h w
 next pc (value x c) ms m b ts {k = k} at l h w = enters ms l (demand-ok (isLeft x (length ms)) at (length ms) k h .1) w
 next pc (cons p q) ms m b ts {k = k} at l h w = let r = then-ok _ _ k h in numbered _ l (r .1) (waits _ (r .2) w)
 next pc (join p q) ms m b ts {k = k} at l h w = let r = then-ok _ _ k h in numbered _ l (r .1) (waits _ (r .2) w)
+next pc (tuple ps) ms m b ts at l h w =
+    let a = come-parted ms ps (members m) pc ts in
+    let b = all-some ts in
+    reserved-numbered (countᵖ ps - 2) (omega arith) (parted-numbered ms ps (members m) (at + 2) pc l h w)
 
 pub numbered-at : (m : Matcher) (p : Pattern) (at k : ℕ) → variables p at 0 ≡ ok k → (pc : ℕ) → Numbered (pointAt m p pc)
 unfolding pointAt followOf
@@ -78,6 +105,7 @@ numbered-at m p at k h (suc pc) = go (pointAt m p pc) (numbered-at m p at k h pc
     go : (P : Point) → Numbered P → Numbered (followOf pc P)
     go (point ms q j b ts) (numbered i l e w) = next pc q ms j b ts i l e w
     go (finish ms) (numbered-end l) = numbered-beyond
+    go (reserve Q) (numbered-reserve l n) = n
     go beyond numbered-beyond = numbered-beyond
 
 -- What a variable's number is, and which one tag 3 names.

@@ -1,4 +1,4 @@
--- Review's count bounds the steps, and the product of the factors bounds the rows, where no collection has more elements than the cap.
+-- Review's count bounds the steps, and the product of the factors bounds the rows, where the value fits and no collection has more elements than the cap.
 use Prim.Native.Nat.{ℕ, suc, _+_, _*_, _≤_}
 use native.Mathlib.Omega.{arith}
 use native.Mathlib.Nat.{le-trans, mul-le-mul-right, mul-one, mul-assoc}
@@ -6,18 +6,21 @@ use mathlib.Core.Path.{_≡_, refl, sym, ap, _∙_}
 use mathlib.Core.Bool.{Bool, true, false, cond}
 use mathlib.Core.List.{List, [], _∷_, _++_, flatMap, append-nil, append-assoc}
 use lib.ListN.{length, length-map}
-use Rattle.rules.specs.Forms.{Matcher, something, integer, list, multiset, Pattern, wildcard, nil, variable, constant, value, cons, join}
-use Rattle.rules.specs.Forms.{Value, int, collection, Values, empty, _▸_, count}
-use Rattle.rules.specs.Fit.{element}
+use Rattle.rules.specs.Forms.{Matcher, something, integer, list, multiset, tupleOf, Matchers, noMatchers, _▸ᵐ_}
+use Rattle.rules.specs.Forms.{Pattern, wildcard, nil, variable, constant, value, cons, join, tuple, Patterns, noPatterns, _▸ᵖ_}
+use Rattle.rules.specs.Forms.{Value, int, collection, tupled, Values, empty, _▸_, count}
+use Rattle.rules.specs.Fit.{element, members, isSomething}
 use Rattle.rules.specs.Equality.{Bindings, isConstant, isValue, isEmpty, picks, behind}
-use Rattle.rules.specs.Search.{cuts, longer, Halves, consHalves, joinHalves, isSomething, start}
-use Rattle.rules.specs.Review.{Weight, weight, leafSteps, consFactor, weights, total, formula}
-use Rattle.promises.specs.Written.{largest}
-use Rattle.promises.specs.Parts.{cons-parts, join-parts, part-largest}
+use Rattle.rules.specs.Search.{cuts, longer, Halves, consHalves, joinHalves, start}
+use Rattle.rules.specs.Ways.{Way}
+use Rattle.rules.specs.Review.{Weight, weight, leafSteps, consFactor, weights, weightsAll, total, formula}
+use Rattle.promises.specs.Written.{largest, largestOf}
+use Rattle.promises.specs.Parts.{Parts, cons-parts, join-parts, part-largest}
+use Rattle.promises.specs.Suited.{Suits, SuitsEach, cons-suits, join-suits, tuple-suits}
 use Rattle.promises.specs.Lists.{Mem, length-flatMap-le}
-use Rattle.promises.specs.Solve.{Solution, up, numbered, isMultiset, combine, just, whenSo, solve}
+use Rattle.promises.specs.Solve.{Solution, up, numbered, isMultiset, mark, chain, combine, just, whenSo, solve, solveEach}
 use Rattle.promises.specs.Choices.{in-numbered}
-use Rattle.promises.specs.Trace.{Taken, passed, found, onlyIf, visit, trace}
+use Rattle.promises.specs.Trace.{Taken, passed, found, onlyIf, visit, visitEach, trace}
 
 -- ---- A cons or a join has no more choices than its factor says.
 
@@ -38,25 +41,57 @@ cons-count most integer v h = omega arith
 cons-count most (list m) (int x) h = omega arith
 cons-count most (list m) (collection empty) h = omega arith
 cons-count most (list m) (collection (v ▸ vs)) h = omega arith
+cons-count most (list m) (tupled vs) h = omega arith
 cons-count most (multiset m) (int x) h = omega arith
 cons-count most (multiset m) (collection vs) h = simp length-map (omega (arith, length-picks vs))
+cons-count most (multiset m) (tupled vs) h = omega arith
+cons-count most (tupleOf ms) v h = omega arith
 
 join-count : (most : ℕ) (v : Value) → largest v ≤ most → length (joinHalves v) ≤ suc most
 unfolding joinHalves largest
 join-count most (int x) h = omega arith
 join-count most (collection vs) h = simp length-map (omega (arith, length-cuts vs))
+join-count most (tupled vs) h = omega arith
+
+-- A value that fits, with no collection over the cap; and so a tuple's parts.
+abbrev pub Fine : ℕ → Matcher → Value → Type 0
+Fine most m v = Suits m v × (largest v ≤ most)
+
+abbrev FineEach : ℕ → Matchers → Values → Type 0
+FineEach most ms vs = SuitsEach ms vs × (largestOf vs ≤ most)
+
+-- What is taken out of it is so too.
+halves-fine : (most : ℕ) (m k : Matcher) (v : Value) (h : Halves) → Parts h v → Suits k (h .first) × Suits m (h .second) → largest v ≤ most
+    → Fine most k (h .first) × Fine most m (h .second)
+halves-fine most m k v h p s l = ((s .0, le-trans (part-largest (p .first)) l), (s .1, le-trans (part-largest (p .second)) l))
+
+cons-fine : (most : ℕ) (m : Matcher) (v : Value) → Fine most m v → (h : Halves) → Mem h (consHalves m v)
+    → Fine most (element m) (h .first) × Fine most m (h .second)
+cons-fine most m v s h i = halves-fine most m (element m) v h (cons-parts m v h i) (cons-suits m v h i (s .0)) (s .1)
+
+join-fine : (most : ℕ) (m : Matcher) (v : Value) → Fine most m v → (h : Halves) → Mem h (joinHalves v)
+    → Fine most m (h .first) × Fine most m (h .second)
+join-fine most m v s h i = halves-fine most m m v h (join-parts v h i) (join-suits m v h i (s .0)) (s .1)
 
 -- ---- The steps. What an atom costs if what comes after it costs at most `k`.
 
-unfoldable pub horner : ℕ → Pattern → Matcher → ℕ → ℕ
-unfolding leafSteps consFactor element
-horner most wildcard m k = leafSteps m + k
-horner most (variable x) m k = leafSteps m + k
-horner most (constant c) m k = 1 + k
-horner most (value x c) m k = 1 + k
-horner most nil m k = 1 + k
-horner most (cons p q) m k = 1 + consFactor most m * horner most p (element m) (horner most q m k)
-horner most (join p q) m k = 1 + suc most * horner most p m (horner most q m k)
+unfoldable mutual
+  unfolding leafSteps consFactor element members
+
+  pub horner : ℕ → Pattern → Matcher → ℕ → ℕ
+  horner most wildcard m k = leafSteps m + k
+  horner most (variable x) m k = leafSteps m + k
+  horner most (constant c) m k = 1 + k
+  horner most (value x c) m k = 1 + k
+  horner most nil m k = 1 + k
+  horner most (cons p q) m k = 1 + consFactor most m * horner most p (element m) (horner most q m k)
+  horner most (join p q) m k = 1 + suc most * horner most p m (horner most q m k)
+  horner most (tuple ps) m k = 1 + hornerEach most ps (members m) k
+
+  pub hornerEach : ℕ → Patterns → Matchers → ℕ → ℕ
+  hornerEach most noPatterns ms k = k
+  hornerEach most (p ▸ᵖ ps) noMatchers k = k
+  hornerEach most (p ▸ᵖ ps) (m ▸ᵐ ms) k = horner most p m (hornerEach most ps ms k)
 
 leaf-cost : (b : Bool) (ts : List Taken) (n : ℕ) → length ts ≤ n
     → suc (length {A = Taken} (elim b as (λ _. List Taken) [ true ↦ ts | false ↦ passed ∷ ts ])) ≤ cond b 1 2 + n
@@ -72,22 +107,34 @@ both-cost : (f : Halves → List Taken) (hs : List Halves) (a n : ℕ) → lengt
     → suc (length (flatMap f hs)) ≤ 1 + a * n
 both-cost f hs a n i j = omega (arith, length-flatMap-le f n hs j, mul-le-mul-right n i)
 
-pub visit-cost : (most : ℕ) (p : Pattern) (m : Matcher) (v : Value) (e : Bindings) (k : Bindings → List Taken) (n : ℕ)
-    → largest v ≤ most → ((d : Bindings) → length (k d) ≤ n) → length (visit p m v e k) ≤ horner most p m n
-unfolding visit horner
-visit-cost most wildcard m v e k n s h = leaf-cost (isSomething m) (k e) n (h e)
-visit-cost most nil m v e k n s h = test-cost (isEmpty v) (k e) n (h e)
-visit-cost most (variable x) m v e k n s h = leaf-cost (isSomething m) (k (e ++ (v ∷ []))) n (h (e ++ (v ∷ [])))
-visit-cost most (constant c) m v e k n s h = test-cost (isConstant c v) (k e) n (h e)
-visit-cost most (value x c) m v e k n s h = test-cost (isValue m e x c v) (k e) n (h e)
-visit-cost most (cons p q) m v e k n s h = both-cost _ (consHalves m v) (consFactor most m) _ (cons-count most m v s)
-    (λ g i. let j = cons-parts m v g i in
-    visit-cost most p (element m) (g .first) e _ _ (le-trans (part-largest (j .first)) s)
-    (λ d. visit-cost most q m (g .second) d k n (le-trans (part-largest (j .second)) s) h))
-visit-cost most (join p q) m v e k n s h = both-cost _ (joinHalves v) (suc most) _ (join-count most v s)
-    (λ g i. let j = join-parts v g i in
-    visit-cost most p m (g .first) e _ _ (le-trans (part-largest (j .first)) s)
-    (λ d. visit-cost most q m (g .second) d k n (le-trans (part-largest (j .second)) s) h))
+mutual
+  unfolding visit horner largest Suits
+
+  pub visit-cost : (most : ℕ) (p : Pattern) (m : Matcher) (v : Value) (e : Bindings) (k : Bindings → List Taken) (n : ℕ)
+      → Fine most m v → ((d : Bindings) → length (k d) ≤ n) → length (visit p m v e k) ≤ horner most p m n
+  visit-cost most wildcard m v e k n s h = leaf-cost (isSomething m) (k e) n (h e)
+  visit-cost most nil m v e k n s h = test-cost (isEmpty v) (k e) n (h e)
+  visit-cost most (variable x) m v e k n s h = leaf-cost (isSomething m) (k (e ++ (v ∷ []))) n (h (e ++ (v ∷ [])))
+  visit-cost most (constant c) m v e k n s h = test-cost (isConstant c v) (k e) n (h e)
+  visit-cost most (value x c) m v e k n s h = test-cost (isValue m e x c v) (k e) n (h e)
+  visit-cost most (cons p q) m v e k n s h = both-cost _ (consHalves m v) (consFactor most m) _ (cons-count most m v (s .1))
+      (λ g i. let j = cons-fine most m v s g i in
+      visit-cost most p (element m) (g .first) e _ _ (j .0) (λ d. visit-cost most q m (g .second) d k n (j .1) h))
+  visit-cost most (join p q) m v e k n s h = both-cost _ (joinHalves v) (suc most) _ (join-count most v (s .1))
+      (λ g i. let j = join-fine most m v s g i in
+      visit-cost most p m (g .first) e _ _ (j .0) (λ d. visit-cost most q m (g .second) d k n (j .1) h))
+  visit-cost most (tuple ps) m (int x) e k n s h = omega arith
+  visit-cost most (tuple ps) m (collection vs) e k n s h = omega arith
+  visit-cost most (tuple ps) m (tupled vs) e k n s h =
+      omega (arith, visit-each-cost most ps (members m) vs e k n (tuple-suits m vs (s .0), s .1) h)
+
+  visit-each-cost : (most : ℕ) (ps : Patterns) (ms : Matchers) (vs : Values) (e : Bindings) (k : Bindings → List Taken) (n : ℕ)
+      → FineEach most ms vs → ((d : Bindings) → length (k d) ≤ n) → length (visitEach ps ms vs e k) ≤ hornerEach most ps ms n
+  visit-each-cost most noPatterns ms vs e k n s h = h e
+  visit-each-cost most (p ▸ᵖ ps) noMatchers vs e k n s h = h e
+  visit-each-cost most (p ▸ᵖ ps) (m ▸ᵐ ms) empty e k n s h = absurd (s .0)
+  visit-each-cost most (p ▸ᵖ ps) (m ▸ᵐ ms) (v ▸ vs) e k n s h =
+      visit-cost most p m v e _ _ (s .0 .0, omega (arith, s .1)) (λ d. visit-each-cost most ps ms vs d k n (s .0 .1, omega (arith, s .1)) h)
 
 -- ---- Review's formula is that cost.
 
@@ -100,24 +147,34 @@ unfolding total nested
 total-nested a [] = sym (mul-one a)
 total-nested a (t ∷ ts) = omega (arith, total-nested (a * t .factor) ts)
 
-horner-nested : (most : ℕ) (p : Pattern) (m : Matcher) (ts : List Weight) → horner most p m (nested ts) ≡ nested (weights most p m ++ ts)
-unfolding horner weights nested weight
-horner-nested most wildcard m ts = omega arith
-horner-nested most nil m ts = omega arith
-horner-nested most (variable x) m ts = omega arith
-horner-nested most (constant c) m ts = omega arith
-horner-nested most (value x c) m ts = omega arith
-horner-nested most (cons p q) m ts =
-    rw (append-assoc (weights most p (element m)) (weights most q m) ts, horner-nested most q m ts, horner-nested most p (element m) (weights most q m ++ ts))
-horner-nested most (join p q) m ts =
-    rw (append-assoc (weights most p m) (weights most q m) ts, horner-nested most q m ts, horner-nested most p m (weights most q m ++ ts))
+mutual
+  unfolding horner weights nested weight
+
+  horner-nested : (most : ℕ) (p : Pattern) (m : Matcher) (ts : List Weight) → horner most p m (nested ts) ≡ nested (weights most p m ++ ts)
+  horner-nested most wildcard m ts = omega arith
+  horner-nested most nil m ts = omega arith
+  horner-nested most (variable x) m ts = omega arith
+  horner-nested most (constant c) m ts = omega arith
+  horner-nested most (value x c) m ts = omega arith
+  horner-nested most (cons p q) m ts =
+      rw (append-assoc (weights most p (element m)) (weights most q m) ts, horner-nested most q m ts, horner-nested most p (element m) (weights most q m ++ ts))
+  horner-nested most (join p q) m ts =
+      rw (append-assoc (weights most p m) (weights most q m) ts, horner-nested most q m ts, horner-nested most p m (weights most q m ++ ts))
+  horner-nested most (tuple ps) m ts = omega (arith, horner-nested-each most ps (members m) ts)
+
+  horner-nested-each : (most : ℕ) (ps : Patterns) (ms : Matchers) (ts : List Weight)
+      → hornerEach most ps ms (nested ts) ≡ nested (weightsAll most ps ms ++ ts)
+  horner-nested-each most noPatterns ms ts = refl
+  horner-nested-each most (p ▸ᵖ ps) noMatchers ts = refl
+  horner-nested-each most (p ▸ᵖ ps) (m ▸ᵐ ms) ts = ap (horner most p m) (horner-nested-each most ps ms ts)
+      ∙ horner-nested most p m (weightsAll most ps ms ++ ts) ∙ ap nested (sym (append-assoc (weights most p m) (weightsAll most ps ms) ts))
 
 pub horner-formula : (most : ℕ) (p : Pattern) (m : Matcher) → horner most p m 1 ≡ formula most p m
 unfolding formula nested
 horner-formula most p m = horner-nested most p m [] ∙ ap nested (append-nil (weights most p m)) ∙ sym (total-nested 1 (weights most p m) ∙ omega arith)
 
 -- THE BOUND: the whole search has at most as many states as review says.
-pub steps-bound : (most : ℕ) (m : Matcher) (p : Pattern) (v : Value) → largest v ≤ most → length (trace (start m p v ∷ [])) ≤ formula most p m
+pub steps-bound : (most : ℕ) (m : Matcher) (p : Pattern) (v : Value) → Fine most m v → length (trace (start m p v ∷ [])) ≤ formula most p m
 unfolding trace start
 steps-bound most m p v s = rw (← horner-formula most p m, append-nil (visit p m v [] (λ d. found d ∷ [])))
     (visit-cost most p m v [] (λ d. found d ∷ []) 1 s (λ d. omega arith))
@@ -138,13 +195,18 @@ unfolding numbered
 length-numbered [] = refl
 length-numbered (h ∷ hs) = ap suc (length-map (numbered hs) up ∙ length-numbered hs)
 
+chain-count : (w : Way) (ss : List Solution) (g : Bindings → List Solution) (x y : ℕ) → length ss ≤ x → ((d : Bindings) → length (g d) ≤ y)
+    → length (chain w ss g) ≤ x * y
+unfolding chain
+chain-count w ss g x y i h = le-trans (length-flatMap-le _ y ss (λ s k. simp length-map (h (s .bound)))) (mul-le-mul-right y i)
+
 combine-count : (b : Bool) (f : Value → List Solution) (g : Value → Bindings → List Solution) (hs : List Halves) (n x y : ℕ) → length hs ≤ n
     → ((h : Halves) → Mem h hs → length (f (h .first)) ≤ x) → ((h : Halves) → Mem h hs → (d : Bindings) → length (g (h .second) d) ≤ y)
     → length (combine b f g hs) ≤ n * (x * y)
 unfolding combine
 combine-count b f g hs n x y i hf hg =
     le-trans (length-flatMap-le _ (x * y) (numbered hs) (λ c m. let j = in-numbered hs c m in
-    le-trans (length-flatMap-le _ y (f (c .halves .first)) (λ s k. simp length-map (hg (c .halves) j (s .bound)))) (mul-le-mul-right y (hf (c .halves) j))))
+    chain-count (mark b (c .no)) (f (c .halves .first)) (g (c .halves .second)) x y (hf (c .halves) j) (hg (c .halves) j)))
     (rw (length-numbered hs) (mul-le-mul-right (x * y) i))
 
 when-count : (b : Bool) (e : Bindings) → length (whenSo b e) ≤ 1
@@ -152,18 +214,32 @@ unfolding whenSo just
 when-count true e = omega arith
 when-count false e = omega arith
 
-pub rows-bound : (most : ℕ) (p : Pattern) (m : Matcher) (v : Value) (e : Bindings) → largest v ≤ most → length (solve p m v e) ≤ product (weights most p m)
-unfolding solve weights weight product just
-rows-bound most wildcard m v e s = omega arith
-rows-bound most nil m v e s = when-count (isEmpty v) e
-rows-bound most (variable x) m v e s = omega arith
-rows-bound most (constant c) m v e s = when-count (isConstant c v) e
-rows-bound most (value x c) m v e s = when-count (isValue m e x c v) e
-rows-bound most (cons p q) m v e s = rw (product-append (weights most p (element m)) (weights most q m))
-    (combine-count (isMultiset m) (λ a. solve p (element m) a e) (λ a d. solve q m a d) (consHalves m v) _ _ _ (cons-count most m v s)
-    (λ h i. rows-bound most p (element m) (h .first) e (le-trans (part-largest (cons-parts m v h i .first)) s))
-    (λ h i d. rows-bound most q m (h .second) d (le-trans (part-largest (cons-parts m v h i .second)) s)))
-rows-bound most (join p q) m v e s = rw (product-append (weights most p m) (weights most q m))
-    (combine-count true (λ a. solve p m a e) (λ a d. solve q m a d) (joinHalves v) _ _ _ (join-count most v s)
-    (λ h i. rows-bound most p m (h .first) e (le-trans (part-largest (join-parts v h i .first)) s))
-    (λ h i d. rows-bound most q m (h .second) d (le-trans (part-largest (join-parts v h i .second)) s)))
+mutual
+  unfolding solve weights weight product just largest Suits
+
+  pub rows-bound : (most : ℕ) (p : Pattern) (m : Matcher) (v : Value) (e : Bindings) → Fine most m v → length (solve p m v e) ≤ product (weights most p m)
+  rows-bound most wildcard m v e s = omega arith
+  rows-bound most nil m v e s = when-count (isEmpty v) e
+  rows-bound most (variable x) m v e s = omega arith
+  rows-bound most (constant c) m v e s = when-count (isConstant c v) e
+  rows-bound most (value x c) m v e s = when-count (isValue m e x c v) e
+  rows-bound most (cons p q) m v e s = rw (product-append (weights most p (element m)) (weights most q m))
+      (combine-count (isMultiset m) (λ a. solve p (element m) a e) (λ a d. solve q m a d) (consHalves m v) _ _ _ (cons-count most m v (s .1))
+      (λ h i. rows-bound most p (element m) (h .first) e (cons-fine most m v s h i .0))
+      (λ h i d. rows-bound most q m (h .second) d (cons-fine most m v s h i .1)))
+  rows-bound most (join p q) m v e s = rw (product-append (weights most p m) (weights most q m))
+      (combine-count true (λ a. solve p m a e) (λ a d. solve q m a d) (joinHalves v) _ _ _ (join-count most v (s .1))
+      (λ h i. rows-bound most p m (h .first) e (join-fine most m v s h i .0))
+      (λ h i d. rows-bound most q m (h .second) d (join-fine most m v s h i .1)))
+  rows-bound most (tuple ps) m (int x) e s = omega arith
+  rows-bound most (tuple ps) m (collection vs) e s = omega arith
+  rows-bound most (tuple ps) m (tupled vs) e s = omega (arith, rows-bound-each most ps (members m) vs e (tuple-suits m vs (s .0), s .1))
+
+  rows-bound-each : (most : ℕ) (ps : Patterns) (ms : Matchers) (vs : Values) (e : Bindings) → FineEach most ms vs
+      → length (solveEach ps ms vs e) ≤ product (weightsAll most ps ms)
+  rows-bound-each most noPatterns ms vs e s = omega arith
+  rows-bound-each most (p ▸ᵖ ps) noMatchers vs e s = omega arith
+  rows-bound-each most (p ▸ᵖ ps) (m ▸ᵐ ms) empty e s = absurd (s .0)
+  rows-bound-each most (p ▸ᵖ ps) (m ▸ᵐ ms) (v ▸ vs) e s = rw (product-append (weights most p m) (weightsAll most ps ms))
+      (chain-count [] (solve p m v e) (λ d. solveEach ps ms vs d) _ _ (rows-bound most p m v e (s .0 .0, omega (arith, s .1)))
+      (λ d. rows-bound-each most ps ms vs d (s .0 .1, omega (arith, s .1))))

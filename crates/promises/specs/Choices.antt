@@ -8,7 +8,7 @@ use mathlib.Core.Option.{Option, none, some}
 use mathlib.Core.List.{List, [], _∷_, map, List·Memᴰ·head, List·Memᴰ·tail, List·Memᴰ·not-nil, List·Memᴰ·cases-cons, List·Memᴰ·eq-of-singleton, Memᴰ·map, Memᴰ·of-map}
 use lib.ListN.{getElem?}
 use lib.Dec.{T, leb, leb→le, leb·zero, leb·suc-zero, leb·suc-suc}
-use Rattle.rules.specs.Forms.{Matcher, something, integer, list, multiset, Value, int, collection, Values, empty, _▸_, count}
+use Rattle.rules.specs.Forms.{Matcher, something, integer, list, multiset, tupleOf, Value, int, collection, tupled, Values, empty, _▸_, count}
 use Rattle.rules.specs.Equality.{Pick, picks, behind}
 use Rattle.rules.specs.Search.{Cut, cuts, longer, Halves, consHalves, joinHalves}
 use Rattle.rules.specs.Ways.{Way, at, without, front, back, ConsBy, JoinBy}
@@ -131,10 +131,13 @@ cons-sound (list m) (int x) c i = absurd (List·Memᴰ·not-nil i)
 cons-sound (list m) (collection empty) c i = absurd (List·Memᴰ·not-nil i)
 cons-sound (list m) (collection (v ▸ vs)) c i =
     let e = List·Memᴰ·eq-of-singleton i in (refl, ap (λ (y : Numbered). y .halves .first) e, ap (λ (y : Numbered). y .halves .second) e)
+cons-sound (list m) (tupled vs) c i = absurd (List·Memᴰ·not-nil i)
 cons-sound (multiset m) (int x) c i = absurd (List·Memᴰ·not-nil i)
 cons-sound (multiset m) (collection vs) c i =
     let r = picked-some (at vs (c .no)) (without vs (c .no)) (c .halves) (sym (pick-nth vs (c .no)) ∙ numbered-nth (map pickHalves (picks vs)) c i) in
     (c .no, refl, r .0, r .1)
+cons-sound (multiset m) (tupled vs) c i = absurd (List·Memᴰ·not-nil i)
+cons-sound (tupleOf ms) v c i = absurd (List·Memᴰ·not-nil i)
 
 pub cons-complete : (m : Matcher) (v : Value) (here : Way) (a b : Value) → ConsBy m v here a b → Made (isMultiset m) (consHalves m v) here a b
 unfolding consHalves numbered isMultiset mark ConsBy pickHalves optMap picked
@@ -148,6 +151,7 @@ cons-complete (list m) (collection (x ▸ xs)) here a b h = record {
   way = sym (h .0);
   is = sym (ap₂ halves (h .1) (h .2));
 }
+cons-complete (list m) (tupled vs) here a b h = absurd h
 cons-complete (multiset m) (int x) here a b h = absurd h
 cons-complete (multiset m) (collection vs) here a b h =
     let e : getElem? (map pickHalves (picks vs)) (h .0) ≡ some (halves a (collection (without vs (h .0)))) =
@@ -158,6 +162,8 @@ cons-complete (multiset m) (collection vs) here a b h =
       way = sym (h .1);
       is = ap (halves a) (sym (h .3));
     }
+cons-complete (multiset m) (tupled vs) here a b h = absurd h
+cons-complete (tupleOf ms) v here a b h = absurd h
 
 pub join-sound : (v : Value) (c : Numbered) → Mem c (numbered (joinHalves v)) → JoinBy v (mark true (c .no)) (c .halves .first) (c .halves .second)
 unfolding joinHalves numbered mark JoinBy cutHalves
@@ -166,6 +172,7 @@ join-sound (collection vs) c i =
     let r = cut-some (leb (c .no) (count vs)) (front vs (c .no)) (back vs (c .no)) (c .halves)
     (sym (cut-nth vs (c .no)) ∙ numbered-nth (map cutHalves (cuts vs)) c i) in
     (c .no, refl, leb→le (c .no) (count vs) (r .0), r .1, r .2)
+join-sound (tupled vs) c i = absurd (List·Memᴰ·not-nil i)
 
 pub join-complete : (v : Value) (here : Way) (a b : Value) → JoinBy v here a b → Made true (joinHalves v) here a b
 unfolding joinHalves numbered mark JoinBy cutHalves optMap cutAt
@@ -179,3 +186,4 @@ join-complete (collection vs) here a b h =
       way = sym (h .1);
       is = ap₂ halves (sym (h .3)) (sym (h .4));
     }
+join-complete (tupled vs) here a b h = absurd h

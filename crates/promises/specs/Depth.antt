@@ -7,10 +7,10 @@ use mathlib.Core.Option.{Option, none, some}
 use mathlib.Core.List.{List, [], _∷_}
 use lib.ListN.{length, length-append}
 use lib.IntN.{ℤ}
-use Rattle.rules.specs.Forms.{Pattern}
-use Rattle.rules.specs.Reading.{Verdict, ok, fault, _then_, Got, Reader, give, _>>=_, known, entry}
-use Rattle.rules.specs.Reading.{PatternTag, alone, operand, operands, parts, patternTags, patternParts, pattern}
-use Rattle.promises.specs.Readers.{Sound}
+use Rattle.rules.specs.Forms.{Pattern, noPatterns, _▸ᵖ_}
+use Rattle.rules.specs.Reading.{Verdict, ok, fault, _then_, Got, Reader, give, _>>=_, known, entry, times, width}
+use Rattle.rules.specs.Reading.{PatternTag, alone, operand, operands, parts, wide, patternTags, patternParts, pattern}
+use Rattle.promises.specs.Readers.{Sound, bind-ok, known-ok}
 use Rattle.promises.specs.ReadPattern.{pattern-sound}
 
 -- What is left is no longer than what there was.
@@ -20,6 +20,19 @@ Shorter {A} r = (at : ℕ) (ws : List ℤ) (g : Got A) → r at ws ≡ ok g → 
 pattern-shorter : (n : ℕ) → Shorter (pattern n)
 unfolding Shorter Sound
 pattern-shorter n at ws g e = omega (arith, simp length-append at (ap length (pattern-sound n at ws g e .0)))
+
+give-shorter : {A : Type 0} (a : A) → Shorter (give a)
+unfolding Shorter give
+give-shorter a at ws g e = let q : ws ≡ g .rest = cc in omega (arith, ap length q)
+
+known-shorter : {A : Type 0} (f : ℤ → Option A) → Shorter (known f)
+unfolding Shorter
+known-shorter f at ws g e = omega (arith, ap length (known-ok f at ws g e .1))
+
+bind-shorter : {A B : Type 0} (r : Reader A) (k : A → Reader B) → Shorter r → ((a : A) → Shorter (k a)) → Shorter (r >>= k)
+unfolding Shorter
+bind-shorter r k f h at ws g e =
+    let b = bind-ok r k at ws g e in le-trans (h (b .0 .it) (b .0 .next) (b .0 .rest) g (b .2)) (f at ws (b .0) (b .1))
 
 -- Two readers that agree on no more than n words.
 Agree : {A : Type 0} → ℕ → Reader A → Reader A → Type 0
@@ -39,12 +52,28 @@ same-agree : {A : Type 0} (n : ℕ) (r : Reader A) → Agree n r r
 unfolding Agree
 same-agree n r at ws i = refl
 
+-- So many forms, one after the other.
+module _ {A As : Type 0} (no : As) (more : A → As → As) where
+  times-shorter : (r : Reader A) → Shorter r → (k : ℕ) → Shorter (times no more r k)
+  unfolding times
+  times-shorter r f zero = give-shorter no
+  times-shorter r f (suc k) = bind-shorter r _ f (λ a. bind-shorter (times no more r k) _ (times-shorter r f k) (λ l. give-shorter (more a l)))
+
+  times-agree : (n : ℕ) (r s : Reader A) → Shorter r → Agree n r s → (k : ℕ) → Agree n (times no more r k) (times no more s k)
+  unfolding times
+  times-agree n r s f h zero = same-agree n (give no)
+  times-agree n r s f h (suc k) = bind-agree n r s _ _ f h (λ a. bind-agree n (times no more r k) (times no more s k) _ _
+      (times-shorter r f k) (times-agree n r s f h k) (λ l. same-agree n (give (more a l))))
+
 parts-agree : (n : ℕ) (r s : Reader Pattern) → Shorter r → Agree n r s → (t : PatternTag) → Agree n (patternParts r t) (patternParts s t)
 unfolding patternParts
 parts-agree n r s f h (alone p) = same-agree n (give p)
 parts-agree n r s f h (operand k) = same-agree n (patternParts r (operand k))
 parts-agree n r s f h (operands k) = same-agree n (patternParts r (operands k))
 parts-agree n r s f h (parts k) = bind-agree n r s _ _ f h (λ p. bind-agree n r s _ _ f h (λ q. same-agree n (give (k p q))))
+parts-agree n r s f h (wide k) = bind-agree n (known width) (known width) _ _ (known-shorter width) (same-agree n (known width))
+    (λ i. bind-agree n (times noPatterns _▸ᵖ_ r i) (times noPatterns _▸ᵖ_ s i) _ _
+    (times-shorter noPatterns _▸ᵖ_ r f i) (times-agree noPatterns _▸ᵖ_ n r s f h i) (λ ps. same-agree n (give (k ps))))
 
 known-agree : {A B : Type 0} (f : ℤ → Option A) (k l : A → Reader B) (at : ℕ) (w : ℤ) (ws : List ℤ) → ((a : A) → k a (suc at) ws ≡ l a (suc at) ws)
     → (known f >>= k) at (w ∷ ws) ≡ (known f >>= l) at (w ∷ ws)

@@ -1,15 +1,16 @@
 -- The solutions of a pattern are exactly the ways that can be followed down it: section 5 and section 4 agree.
 use mathlib.Core.Path.{_≡_, sym, ap, ap₂, _∙_, subst}
 use mathlib.Core.Bool.{Bool, true, false}
-use mathlib.Core.List.{List, [], _∷_, _++_, List·Memᴰ·head, List·Memᴰ·not-nil, List·Memᴰ·eq-of-singleton, Memᴰ·cast, Memᴰ·map, Memᴰ·of-map}
+use mathlib.Core.List.{List, [], _∷_, _++_, List·Memᴰ·head, List·Memᴰ·not-nil, List·Memᴰ·eq-of-singleton, Memᴰ·cast}
 use lib.Dec.{T}
-use Rattle.rules.specs.Forms.{Matcher, Pattern, wildcard, nil, variable, constant, value, cons, join, Value}
-use Rattle.rules.specs.Fit.{element}
+use Rattle.rules.specs.Forms.{Matcher, Matchers, noMatchers, _▸ᵐ_, Value, int, collection, tupled, Values, empty, _▸_}
+use Rattle.rules.specs.Forms.{Pattern, wildcard, nil, variable, constant, value, cons, join, tuple, Patterns, noPatterns, _▸ᵖ_}
+use Rattle.rules.specs.Fit.{element, members}
 use Rattle.rules.specs.Equality.{Bindings, isConstant, isValue, isEmpty}
 use Rattle.rules.specs.Search.{Halves, consHalves, joinHalves}
-use Rattle.rules.specs.Ways.{Way, ConsBy, JoinBy, Both, Follows}
+use Rattle.rules.specs.Ways.{Way, ConsBy, JoinBy, Both, Next, Follows, FollowsAll}
 use Rattle.promises.specs.Lists.{Mem, mem-flatMap, of-flatMap}
-use Rattle.promises.specs.Solve.{Solution, Numbered, numbered, isMultiset, mark, extend, combine, just, whenSo, solve}
+use Rattle.promises.specs.Solve.{Solution, Numbered, numbered, isMultiset, mark, extend, chain, combine, just, whenSo, solve, solveEach, in-chain, of-chain}
 use Rattle.promises.specs.Choices.{Made, cons-sound, cons-complete, join-sound, join-complete}
 
 abbrev pub solution : Way → Bindings → Solution
@@ -47,20 +48,19 @@ module _ (b : Bool) (hs : List Halves) (By : Way → Value → Value → Type 0)
   unfolding combine extend
   both-sound made hf hg s i =
       let x = of-flatMap _ (numbered hs) i in
-      let y = of-flatMap _ (f (x .0 .halves .first)) (x .2) in
-      let z = Memᴰ·of-map (extend (mark b (x .0 .no)) (y .0)) (g (x .0 .halves .second) (y .0 .bound)) (y .2) in
+      let y = of-chain (mark b (x .0 .no)) (f (x .0 .halves .first)) (g (x .0 .halves .second)) s (x .2) in
       record {
         here = mark b (x .0 .no);
         one = y .0 .way;
-        two = z .0 .way;
+        two = y .1 .way;
         a = x .0 .halves .first;
         b = x .0 .halves .second;
         between = y .0 .bound;
         divided = made (x .0) (x .1);
-        first = hf (x .0 .halves .first) (y .0) (y .1);
-        second = subst (λ (t : Solution). Second (x .0 .halves .second) (y .0 .bound) (z .0 .way) (t .bound)) (z .2)
-            (hg (x .0 .halves .second) (y .0 .bound) (z .0) (z .1));
-        way = ap (λ (t : Solution). t .way) (z .2);
+        first = hf (x .0 .halves .first) (y .0) (y .2);
+        second = subst (λ (t : Solution). Second (x .0 .halves .second) (y .0 .bound) (y .1 .way) (t .bound)) (y .4)
+            (hg (x .0 .halves .second) (y .0 .bound) (y .1) (y .3));
+        way = ap (λ (t : Solution). t .way) (y .4);
       }
 
   both-complete : ((here : Way) (x y : Value) → By here x y → Made b hs here x y)
@@ -72,36 +72,89 @@ module _ (b : Bool) (hs : List Halves) (By : Way → Value → Value → Type 0)
       let c = made (h .here) (h .a) (h .b) (h .divided) in
       Memᴰ·cast (ap (λ x. solution x d) (sym (h .way) ∙ ap (λ x. x ++ (h .one ++ h .two)) (sym (c .way))))
       (mem-flatMap _ (c .member)
-      (mem-flatMap _ (subst (λ (z : Halves). Mem (solution (h .one) (h .between)) (f (z .first))) (sym (c .is)) (hf (h .a) (h .one) (h .between) (h .first)))
-      (Memᴰ·map (extend (mark b (c .c .no)) (solution (h .one) (h .between)))
-      (subst (λ (z : Halves). Mem (solution (h .two) d) (g (z .second) (h .between))) (sym (c .is)) (hg (h .b) (h .between) (h .two) d (h .second))))))
+      (in-chain (mark b (c .c .no)) (f (c .c .halves .first)) (g (c .c .halves .second)) (solution (h .one) (h .between)) (solution (h .two) d)
+      (subst (λ (z : Halves). Mem (solution (h .one) (h .between)) (f (z .first))) (sym (c .is)) (hf (h .a) (h .one) (h .between) (h .first)))
+      (subst (λ (z : Halves). Mem (solution (h .two) d) (g (z .second) (h .between))) (sym (c .is)) (hg (h .b) (h .between) (h .two) d (h .second)))))
+
+-- ---- A part of a tuple and then the others.
+
+module _ (First Others : Bindings → Way → Bindings → Type 0) (e : Bindings) (ss : List Solution) (g : Bindings → List Solution) where
+  next-sound : ((s : Solution) → Mem s ss → First e (s .way) (s .bound))
+      → ((d : Bindings) (s : Solution) → Mem s (g d) → Others d (s .way) (s .bound))
+      → (s : Solution) → Mem s (chain [] ss g) → Next First Others e (s .way) (s .bound)
+  unfolding extend
+  next-sound hf hg s i =
+      let y = of-chain [] ss g s i in
+      record {
+        one = y .0 .way;
+        two = y .1 .way;
+        between = y .0 .bound;
+        first = hf (y .0) (y .2);
+        others = subst (λ (t : Solution). Others (y .0 .bound) (y .1 .way) (t .bound)) (y .4) (hg (y .0 .bound) (y .1) (y .3));
+        way = ap (λ (t : Solution). t .way) (y .4);
+      }
+
+  next-complete : ((w : Way) (d : Bindings) → First e w d → Mem (solution w d) ss)
+      → ((c : Bindings) (w : Way) (d : Bindings) → Others c w d → Mem (solution w d) (g c))
+      → (w : Way) (d : Bindings) → Next First Others e w d → Mem (solution w d) (chain [] ss g)
+  unfolding extend
+  next-complete hf hg w d h = Memᴰ·cast (ap (λ x. solution x d) (sym (h .way)))
+      (in-chain [] ss g (solution (h .one) (h .between)) (solution (h .two) d)
+      (hf (h .one) (h .between) (h .first)) (hg (h .between) (h .two) d (h .others)))
 
 -- ---- Sound and complete.
 
-pub sound : (p : Pattern) (m : Matcher) (v : Value) (e : Bindings) (s : Solution) → Mem s (solve p m v e) → Follows p m v e (s .way) (s .bound)
-unfolding solve Follows
-sound wildcard m v e s i = just-sound e s i
-sound nil m v e s i = when-sound (isEmpty v) e s i
-sound (variable x) m v e s i = just-sound (e ++ (v ∷ [])) s i
-sound (constant c) m v e s i = when-sound (isConstant c v) e s i
-sound (value x c) m v e s i = when-sound (isValue m e x c v) e s i
-sound (cons p q) m v e s i =
-    both-sound (isMultiset m) (consHalves m v) (ConsBy m v) (Follows p (element m)) (Follows q m) e (λ a. solve p (element m) a e) (solve q m)
-    (cons-sound m v) (λ a t j. sound p (element m) a e t j) (λ a d t j. sound q m a d t j) s i
-sound (join p q) m v e s i =
-    both-sound true (joinHalves v) (JoinBy v) (Follows p m) (Follows q m) e (λ a. solve p m a e) (solve q m)
-    (join-sound v) (λ a t j. sound p m a e t j) (λ a d t j. sound q m a d t j) s i
+mutual
+  unfolding solve Follows
 
-pub complete : (p : Pattern) (m : Matcher) (v : Value) (e : Bindings) (w : Way) (d : Bindings) → Follows p m v e w d → Mem (solution w d) (solve p m v e)
-unfolding solve Follows
-complete wildcard m v e w d h = just-complete e w d (h .0) (h .1)
-complete nil m v e w d h = when-complete (isEmpty v) e w d (h .0) (h .1) (h .2)
-complete (variable x) m v e w d h = just-complete (e ++ (v ∷ [])) w d (h .0) (h .1)
-complete (constant c) m v e w d h = when-complete (isConstant c v) e w d (h .0) (h .1) (h .2)
-complete (value x c) m v e w d h = when-complete (isValue m e x c v) e w d (h .0) (h .1) (h .2)
-complete (cons p q) m v e w d h =
-    both-complete (isMultiset m) (consHalves m v) (ConsBy m v) (Follows p (element m)) (Follows q m) e (λ a. solve p (element m) a e) (solve q m)
-    (cons-complete m v) (λ a u c j. complete p (element m) a e u c j) (λ a b u c j. complete q m a b u c j) w d h
-complete (join p q) m v e w d h =
-    both-complete true (joinHalves v) (JoinBy v) (Follows p m) (Follows q m) e (λ a. solve p m a e) (solve q m)
-    (join-complete v) (λ a u c j. complete p m a e u c j) (λ a b u c j. complete q m a b u c j) w d h
+  pub sound : (p : Pattern) (m : Matcher) (v : Value) (e : Bindings) (s : Solution) → Mem s (solve p m v e) → Follows p m v e (s .way) (s .bound)
+  sound wildcard m v e s i = just-sound e s i
+  sound nil m v e s i = when-sound (isEmpty v) e s i
+  sound (variable x) m v e s i = just-sound (e ++ (v ∷ [])) s i
+  sound (constant c) m v e s i = when-sound (isConstant c v) e s i
+  sound (value x c) m v e s i = when-sound (isValue m e x c v) e s i
+  sound (cons p q) m v e s i =
+      both-sound (isMultiset m) (consHalves m v) (ConsBy m v) (Follows p (element m)) (Follows q m) e (λ a. solve p (element m) a e) (solve q m)
+      (cons-sound m v) (λ a t j. sound p (element m) a e t j) (λ a d t j. sound q m a d t j) s i
+  sound (join p q) m v e s i =
+      both-sound true (joinHalves v) (JoinBy v) (Follows p m) (Follows q m) e (λ a. solve p m a e) (solve q m)
+      (join-sound v) (λ a t j. sound p m a e t j) (λ a d t j. sound q m a d t j) s i
+  sound (tuple ps) m (int x) e s i = absurd (List·Memᴰ·not-nil i)
+  sound (tuple ps) m (collection vs) e s i = absurd (List·Memᴰ·not-nil i)
+  sound (tuple ps) m (tupled vs) e s i = sound-each ps (members m) vs e s i
+
+  sound-each : (ps : Patterns) (ms : Matchers) (vs : Values) (e : Bindings) (s : Solution) → Mem s (solveEach ps ms vs e)
+      → FollowsAll ps ms vs e (s .way) (s .bound)
+  sound-each noPatterns ms vs e s i = just-sound e s i
+  sound-each (p ▸ᵖ ps) noMatchers vs e s i = just-sound e s i
+  sound-each (p ▸ᵖ ps) (m ▸ᵐ ms) empty e s i = just-sound e s i
+  sound-each (p ▸ᵖ ps) (m ▸ᵐ ms) (v ▸ vs) e s i =
+      next-sound (Follows p m v) (FollowsAll ps ms vs) e (solve p m v e) (solveEach ps ms vs)
+      (λ t j. sound p m v e t j) (λ d t j. sound-each ps ms vs d t j) s i
+
+mutual
+  unfolding solve Follows
+
+  pub complete : (p : Pattern) (m : Matcher) (v : Value) (e : Bindings) (w : Way) (d : Bindings) → Follows p m v e w d → Mem (solution w d) (solve p m v e)
+  complete wildcard m v e w d h = just-complete e w d (h .0) (h .1)
+  complete nil m v e w d h = when-complete (isEmpty v) e w d (h .0) (h .1) (h .2)
+  complete (variable x) m v e w d h = just-complete (e ++ (v ∷ [])) w d (h .0) (h .1)
+  complete (constant c) m v e w d h = when-complete (isConstant c v) e w d (h .0) (h .1) (h .2)
+  complete (value x c) m v e w d h = when-complete (isValue m e x c v) e w d (h .0) (h .1) (h .2)
+  complete (cons p q) m v e w d h =
+      both-complete (isMultiset m) (consHalves m v) (ConsBy m v) (Follows p (element m)) (Follows q m) e (λ a. solve p (element m) a e) (solve q m)
+      (cons-complete m v) (λ a u c j. complete p (element m) a e u c j) (λ a b u c j. complete q m a b u c j) w d h
+  complete (join p q) m v e w d h =
+      both-complete true (joinHalves v) (JoinBy v) (Follows p m) (Follows q m) e (λ a. solve p m a e) (solve q m)
+      (join-complete v) (λ a u c j. complete p m a e u c j) (λ a b u c j. complete q m a b u c j) w d h
+  complete (tuple ps) m (int x) e w d h = absurd h
+  complete (tuple ps) m (collection vs) e w d h = absurd h
+  complete (tuple ps) m (tupled vs) e w d h = complete-each ps (members m) vs e w d h
+
+  complete-each : (ps : Patterns) (ms : Matchers) (vs : Values) (e : Bindings) (w : Way) (d : Bindings) → FollowsAll ps ms vs e w d
+      → Mem (solution w d) (solveEach ps ms vs e)
+  complete-each noPatterns ms vs e w d h = just-complete e w d (h .0) (h .1)
+  complete-each (p ▸ᵖ ps) noMatchers vs e w d h = just-complete e w d (h .0) (h .1)
+  complete-each (p ▸ᵖ ps) (m ▸ᵐ ms) empty e w d h = just-complete e w d (h .0) (h .1)
+  complete-each (p ▸ᵖ ps) (m ▸ᵐ ms) (v ▸ vs) e w d h = next-complete (Follows p m v) (FollowsAll ps ms vs) e (solve p m v e) (solveEach ps ms vs)
+      (λ u c j. complete p m v e u c j) (λ b u c j. complete-each ps ms vs b u c j) w d h

@@ -12,14 +12,16 @@ pub mod Pairing
 pub mod Sums
 pub mod Written
 pub mod Readers
+pub mod Counted
 pub mod ReadMatcher
 pub mod ReadPattern
 pub mod Depth
 pub mod ReadTarget
 pub mod Parts
 pub mod Budget
-pub mod Bound
 pub mod Numbering
+pub mod Suited
+pub mod Bound
 pub mod Room
 pub mod Faults
 pub mod Reviewing

@@ -1,7 +1,7 @@
--- What document 01 demands, as theorems about its definitions. Each is stated here and proved elsewhere; what it assumes stands before its arrows, and
--- nothing else is assumed. The words that the statements use are defined in Trace (order, seen), Solve (founds), Listing (Listing), Budget (rowsOf,
--- report, Full, Outcome), Matching (states, ways, rowsOfWays), Bound (product), Written (the words and the numbers of the forms), Faults, Reviewing
--- (Review, TooBig, countOf) and Pairing (greedy).
+-- What document 01 demands, tuples of document 02 included, as theorems about its definitions. Each is stated here and proved elsewhere; what it assumes
+-- stands before its arrows, and nothing else is assumed. The words that the statements use are defined in Trace (order, seen), Solve (founds), Listing
+-- (Listing), Budget (rowsOf, report, Full, Outcome), Matching (states, ways, rowsOfWays), Bound (product), Written (the words, the numbers and the widths
+-- of the forms), Faults, Reviewing (Review, TooBig, countOf) and Pairing (greedy).
 use Prim.Native.Nat.{ℕ, suc, _*_, _≤_, _<_}
 use mathlib.Core.Path.{_≡_, sym, _∙_}
 use mathlib.Core.Logic.{_↔_}
@@ -9,7 +9,7 @@ use mathlib.Core.List.{List, [], _∷_, _++_, map}
 use lib.ListN.{length, take, drop}
 use lib.Dec.{T}
 use lib.IntN.{ℤ, pos}
-use Rattle.rules.specs.Forms.{Matcher, Pattern, Value, Values, collection, multiset, words}
+use Rattle.rules.specs.Forms.{Matcher, Pattern, Value, Values, int, collection, tupled, empty, _▸_, multiset, words}
 use Rattle.rules.specs.Reading.{ok, readMatcher, readPattern, readTarget}
 use Rattle.rules.specs.Variables.{variables}
 use Rattle.rules.specs.Equality.{Bindings, equal}
@@ -17,7 +17,7 @@ use Rattle.rules.specs.Search.{run, start}
 use Rattle.rules.specs.Ways.{Way, Good}
 use Rattle.rules.specs.Review.{weights}
 use Rattle.rules.specs.Services.{accepted, Rule, ruleOf, targetOf, Matched, turnedAway, carriedOut, match, Reviewed, review}
-use Rattle.promises.specs.Written.{matcherWords, patternWords, levels, largest, deepest, variableTags}
+use Rattle.promises.specs.Written.{matcherWords, patternWords, levels, largest, deepest, variableTags, Widthsᵐ, Widthsᵖ, Widths, pair-largest}
 use Rattle.promises.specs.Trace.{order, seen, trace-order}
 use Rattle.promises.specs.Solve.{Solution, founds, founds-start}
 use Rattle.promises.specs.Listing.{Listing, solve-listing, listing-unique}
@@ -29,7 +29,7 @@ use Rattle.promises.specs.ReadPattern.{pattern-read, pattern-once}
 use Rattle.promises.specs.ReadTarget.{target-read, target-once}
 use Rattle.promises.specs.Faults.{Fault, Judgement, Sane, sane-exactly, rule-accepted, match-turned, match-judged, refused-exactly, fault-once, not-both}
 use Rattle.promises.specs.Reviewing.{Review, TooBig, countOf, review-judged, count-is, answer-10}
-use Rattle.promises.specs.Matching.{states, ways, rowsOfWays, outcome, result, answer-0, answer-7, answer-8, full-stands, first-ways, all-ways, no-row}
+use Rattle.promises.specs.Matching.{states, ways, rowsOfWays, outcome, result, answer-0, answer-7, answer-8, full-stands, first-ways, all-ways, no-row, way-binds}
 use Rattle.promises.specs.Matching.{steps-bounded, rows-bounded, room-enough, tags-counted}
 
 -- ---- Determined: two results that a contract allows agree in every number and every word of the room.
@@ -92,6 +92,10 @@ module _ (ms ps ts : List ℤ) (budget : ℕ) (room : List ℤ) (r : Rule) (v : 
   pub all-rows : it .answer ≡ 0 → it .rows ≡ length (ways r v)
   all-rows = all-ways ms ps ts budget room r v sane
 
+  -- Each row has a value for each variable.
+  pub rows-whole : (w : Way) (e : Bindings) → Good (r .matcher) (r .pattern) v w e → length e ≡ variableTags (r .pattern)
+  rows-whole = way-binds ms ps ts budget room r v sane
+
   -- ---- No row: answer 0 with 0 rows exactly when no state remains and no good way exists.
 
   pub no-row-exactly : (it .answer ≡ 0) × (it .rows ≡ 0)
@@ -130,7 +134,11 @@ pub variables-counted : (ms ps : List ℤ) (r : Rule) → ruleOf ms ps ≡ accep
     → (variables (r .pattern) 0 0 ≡ ok (variableTags (r .pattern))) × (variableTags (r .pattern) ≤ 16)
 variables-counted ms ps r e = tags-counted ms ps r (rule-accepted ms ps r .0 e)
 
--- The count bounds every run on a target whose collections, nested ones too, have at most `most` elements.
+-- A tuple's width is no collection's size: a pair of integers keeps to every cap.
+pub pair-keeps-cap : (x y : ℤ) → largest (tupled (int x ▸ int y ▸ empty)) ≡ 0
+pair-keeps-cap = pair-largest
+
+-- The count bounds every run on a target whose collections, nested ones and those inside a tuple too, have at most `most` elements.
 module _ (ms ps ts : List ℤ) (budget : ℕ) (room : List ℤ) (r : Rule) (v : Value)
     (rule : ruleOf ms ps ≡ accepted r) (target : targetOf (r .matcher) ts ≡ accepted v)
     (most : ℕ) (small : largest v ≤ most) where
@@ -166,7 +174,7 @@ module _ (ms ps ts : List ℤ) where
   pub fault-or-run : (a i : ℕ) (r : Rule) (v : Value) → Fault ms ps ts a i → Sane ms ps ts r v → ⊥
   fault-or-run = not-both ms ps ts
 
--- ---- Multiset equality: pairing off is marking off greedily; and equality is symmetric and transitive under every matcher.
+-- ---- Multiset equality: pairing off is marking off greedily; and equality is symmetric and transitive under every matcher, the one at tag 3.
 
 pub pairing-is-greedy : (m : Matcher) (vs ws : Values) → equal (multiset m) (collection vs) (collection ws) ≡ greedy (equal m) vs ws
 pairing-is-greedy = multisets-greedy
@@ -177,23 +185,25 @@ equal-symmetric m = equal-equiv m .symm
 pub equal-transitive : (m : Matcher) (a b c : Value) → T (equal m a b) → T (equal m b c) → T (equal m a c)
 equal-transitive m = equal-equiv m .tran
 
--- ---- Words are read one way: what is read is what some matcher, pattern or value in the limits writes out, and no words are written by two.
+-- ---- Words are read one way: what is read is what some matcher, pattern or value in the limits writes out, and no words are written by two. `Widths`:
+-- every tuple has 2 to 4 parts.
 
-pub reads-matchers : (ms : List ℤ) (m : Matcher) → readMatcher ms ≡ ok m ↔ (ms ≡ matcherWords m) × (levels m ≤ 4)
+pub reads-matchers : (ms : List ℤ) (m : Matcher) → readMatcher ms ≡ ok m ↔ (ms ≡ matcherWords m) × (length ms ≤ 64) × (levels m ≤ 4) × Widthsᵐ m
 reads-matchers = matcher-read
 
-pub reads-patterns : (ps : List ℤ) (p : Pattern) → readPattern ps ≡ ok p ↔ (ps ≡ patternWords p) × (length ps ≤ 256)
+pub reads-patterns : (ps : List ℤ) (p : Pattern) → readPattern ps ≡ ok p ↔ (ps ≡ patternWords p) × (length ps ≤ 256) × Widthsᵖ p
 reads-patterns = pattern-read
 
-pub reads-targets : (ts : List ℤ) (v : Value) → readTarget ts ≡ ok v ↔ (ts ≡ words v) × (length ts ≤ 1024) × (largest v ≤ 64) × (deepest v ≤ 8)
+pub reads-targets : (ts : List ℤ) (v : Value)
+    → readTarget ts ≡ ok v ↔ (ts ≡ words v) × (length ts ≤ 1024) × (largest v ≤ 64) × (deepest v ≤ 8) × Widths v
 reads-targets = target-read
 
-pub one-matcher : (m k : Matcher) → levels m ≤ 4 → levels k ≤ 4 → matcherWords m ≡ matcherWords k → m ≡ k
+pub one-matcher : (m k : Matcher) → (levels m ≤ 4) × Widthsᵐ m → (levels k ≤ 4) × Widthsᵐ k → matcherWords m ≡ matcherWords k → m ≡ k
 one-matcher = matcher-once
 
-pub one-pattern : (p q : Pattern) → length (patternWords p) ≤ 256 → patternWords p ≡ patternWords q → p ≡ q
+pub one-pattern : (p q : Pattern) → length (patternWords p) ≤ 256 → Widthsᵖ p → Widthsᵖ q → patternWords p ≡ patternWords q → p ≡ q
 one-pattern = pattern-once
 
 pub one-value : (v w : Value) → length (words v) ≤ 1024
-    → (largest v ≤ 64) × (deepest v ≤ 8) → (largest w ≤ 64) × (deepest w ≤ 8) → words v ≡ words w → v ≡ w
+    → (largest v ≤ 64) × (deepest v ≤ 8) × Widths v → (largest w ≤ 64) × (deepest w ≤ 8) × Widths w → words v ≡ words w → v ≡ w
 one-value = target-once

@@ -22,9 +22,10 @@ use Rattle.promises.specs.Solve.{Solution, solve, founds, founds-start}
 use Rattle.promises.specs.Listing.{solve-listing}
 use Rattle.promises.specs.Budget.{report, Full, Outcome, done, spent, full}
 use Rattle.promises.specs.Budget.{walk-outcome, walk-full, full-rows, answers-0, answers-7, answers-8, steps-most, first-rows}
+use Rattle.promises.specs.Suited.{Suits, fits-suits}
 use Rattle.promises.specs.Bound.{product, steps-bound, rows-bound}
 use Rattle.promises.specs.Numbering.{variables-found}
-use Rattle.promises.specs.Room.{rows-words}
+use Rattle.promises.specs.Room.{follows-binds, rows-words}
 use Rattle.promises.specs.ReadTarget.{target-read}
 use Rattle.promises.specs.Reviewing.{countOf}
 use Rattle.promises.specs.Faults.{Sane, WellFormed, match-ran}
@@ -139,6 +140,16 @@ module _ (ms ps ts : List ℤ) (budget : ℕ) (room : List ℤ) (r : Rule) (v : 
         (a, all-ways a ∙ z),
   )
 
+  -- ---- What fits.
+
+  suits : Suits (r .matcher) v
+  suits = fits-suits (r .matcher) v 0 (sane .target .fit)
+
+  -- One value for each variable.
+  pub way-binds : (w : Way) (e : Bindings) → Good (r .matcher) (r .pattern) v w e → length e ≡ variableTags (r .pattern)
+  unfolding Good
+  way-binds w e g = follows-binds (r .pattern) (r .matcher) v [] w e 0 [] (sane .rule .fitting .0) (sane .rule .fitting .1) suits g ∙ omega arith
+
   -- ---- Review's numbers.
 
   module _ (most : ℕ) (small : largest v ≤ most) where
@@ -146,19 +157,19 @@ module _ (ms ps ts : List ℤ) (budget : ℕ) (room : List ℤ) (r : Rule) (v : 
     unfolding carriedOut states countOf
     steps-bounded =
         let q = ap (λ (x : Matched). x .steps) result in
-        omega (arith, steps-most budget (length room) (states r v) ran outcome, steps-bound most (r .matcher) (r .pattern) v small)
+        omega (arith, steps-most budget (length room) (states r v) ran outcome, steps-bound most (r .matcher) (r .pattern) v (suits, small))
 
     pub rows-bounded : it .rows ≤ product (weights most (r .pattern) (r .matcher))
     unfolding ways
-    rows-bounded = le-trans (first-ways .0) (rows-bound most (r .pattern) (r .matcher) v [] small)
+    rows-bounded = le-trans (first-ways .0) (rows-bound most (r .pattern) (r .matcher) v [] (suits, small))
 
     pub room-enough : countOf most r ≤ budget
         → product (weights most (r .pattern) (r .matcher)) * variableTags (r .pattern) * length ts ≤ length room → it .answer ≡ 0
     unfolding states countOf
     room-enough b h = answer-0 .1 (
-      le-trans (steps-bound most (r .matcher) (r .pattern) v small) b,
+      le-trans (steps-bound most (r .matcher) (r .pattern) v (suits, small)) b,
       λ f. let k = full-rows budget (length room) (states r v) f .1 in
-          let w = rows-words most (r .matcher) (r .pattern) v small in
+          let w = rows-words most (r .matcher) (r .pattern) v (suits, small) in
           let l : length ts ≡ size v = ap length (target-read ts v .0 (sane .target .target) .0) ∙ length-words v in
           let e = ap (λ n. product (weights most (r .pattern) (r .matcher)) * variableTags (r .pattern) * n) l
           ∙ mul-assoc (product (weights most (r .pattern) (r .matcher))) (variableTags (r .pattern)) (size v) in

@@ -3,15 +3,16 @@ use Prim.Native.Nat.{_<_, zero-le, suc-le-suc}
 use mathlib.Core.Path.{_≡_, refl, ap, subst, subst₂}
 use mathlib.Core.Logic.{_⊎_, inl, inr}
 use mathlib.Core.Bool.{Bool, true, false}
-use mathlib.Core.List.{List, [], _∷_, _++_, map, flatMap, List·Memᴰ·not-nil, Memᴰ·of-map}
-use Rattle.rules.specs.Forms.{Matcher, something, integer, list, multiset, Pattern, wildcard, nil, variable, constant, value, cons, join}
-use Rattle.rules.specs.Forms.{Value, int, collection, empty, _▸_}
-use Rattle.rules.specs.Fit.{element}
+use mathlib.Core.List.{List, [], _∷_, _++_, List·Memᴰ·not-nil, Memᴰ·of-map}
+use Rattle.rules.specs.Forms.{Matcher, something, integer, list, multiset, tupleOf, Matchers, noMatchers, _▸ᵐ_}
+use Rattle.rules.specs.Forms.{Pattern, wildcard, nil, variable, constant, value, cons, join, tuple, Patterns, noPatterns, _▸ᵖ_}
+use Rattle.rules.specs.Forms.{Value, int, collection, tupled, Values, empty, _▸_}
+use Rattle.rules.specs.Fit.{element, members}
 use Rattle.rules.specs.Equality.{Bindings, isConstant, isValue, isEmpty}
 use Rattle.rules.specs.Search.{Halves, consHalves, joinHalves}
 use Rattle.rules.specs.Ways.{Way, _≺_}
-use Rattle.promises.specs.Lists.{Mem, Pairwise, of-flatMap, pairwise-weaken, pairwise-map, pairwise-flatMap}
-use Rattle.promises.specs.Solve.{Solution, Numbered, up, numbered, isMultiset, mark, extend, combine, just, whenSo, solve}
+use Rattle.promises.specs.Lists.{Mem, Pairwise, pairwise-weaken, pairwise-map, pairwise-flatMap}
+use Rattle.promises.specs.Solve.{Solution, Numbered, up, numbered, isMultiset, mark, extend, chain, combine, just, whenSo, solve, solveEach, of-chain}
 
 -- Two ways of one pattern differ at some choice, so neither is the other's beginning.
 
@@ -63,31 +64,35 @@ cons-fine integer v = tt
 cons-fine (list m) (int x) = tt
 cons-fine (list m) (collection empty) = tt
 cons-fine (list m) (collection (v ▸ vs)) = tt
+cons-fine (list m) (tupled vs) = tt
 cons-fine (multiset m) v = tt
+cons-fine (tupleOf ms) v = tt
+
+chain-in-order : (w : Way) (ss : List Solution) (g : Bindings → List Solution) → Pairwise Earlier ss → ((d : Bindings) → Pairwise Earlier (g d))
+    → Pairwise Earlier (chain w ss g)
+unfolding chain extend
+chain-in-order w ss g hs hg = pairwise-flatMap Earlier Earlier _ ss hs
+    (λ s. pairwise-map Earlier Earlier (extend w s) (g (s .bound)) (λ t r h. append-≪ w _ _ (append-≪ (s .way) _ _ h)) (hg (s .bound)))
+    (λ s r h x y m n.
+    let i = Memᴰ·of-map (extend w s) (g (s .bound)) m in
+    let j = Memᴰ·of-map (extend w r) (g (r .bound)) n in
+    subst₂ Earlier (i .2) (j .2) (append-≪ w _ _ (≪-append (s .way) (r .way) _ _ h)))
 
 module _ (f : Value → List Solution) (g : Value → Bindings → List Solution)
     (hf : (a : Value) → Pairwise Earlier (f a)) (hg : (a : Value) (d : Bindings) → Pairwise Earlier (g a d)) where
   -- The solutions after one choice.
   abbrev under : Bool → Numbered → List Solution
-  under b c = flatMap (λ s. map (extend (mark b (c .no)) s) (g (c .halves .second) (s .bound))) (f (c .halves .first))
+  under b c = chain (mark b (c .no)) (f (c .halves .first)) (g (c .halves .second))
 
   under-in-order : (b : Bool) (c : Numbered) → Pairwise Earlier (under b c)
-  unfolding extend
-  under-in-order b c = pairwise-flatMap Earlier Earlier _ (f (c .halves .first)) (hf (c .halves .first))
-      (λ s. pairwise-map Earlier Earlier (extend (mark b (c .no)) s) (g (c .halves .second) (s .bound))
-      (λ t r h. append-≪ (mark b (c .no)) _ _ (append-≪ (s .way) _ _ h)) (hg (c .halves .second) (s .bound)))
-      (λ s r h x y m n.
-      let i = Memᴰ·of-map (extend (mark b (c .no)) s) (g (c .halves .second) (s .bound)) m in
-      let j = Memᴰ·of-map (extend (mark b (c .no)) r) (g (c .halves .second) (r .bound)) n in
-      subst₂ Earlier (i .2) (j .2) (append-≪ (mark b (c .no)) _ _ (≪-append (s .way) (r .way) _ _ h)))
+  under-in-order b c = chain-in-order (mark b (c .no)) (f (c .halves .first)) (g (c .halves .second)) (hf (c .halves .first)) (hg (c .halves .second))
 
   -- A solution under a numbered choice begins with that number.
   begins : (c : Numbered) (x : Solution) → Mem x (under true c) → (w : Way) × (c .no ∷ w ≡ x .way)
   unfolding extend mark
   begins c x m =
-      let i = of-flatMap _ (f (c .halves .first)) m in
-      let j = Memᴰ·of-map (extend (mark true (c .no)) (i .0)) (g (c .halves .second) (i .0 .bound)) (i .2) in
-      (i .0 .way ++ j .0 .way, ap (λ (z : Solution). z .way) (j .2))
+      let i = of-chain (mark true (c .no)) (f (c .halves .first)) (g (c .halves .second)) x m in
+      (i .0 .way ++ i .1 .way, ap (λ (z : Solution). z .way) (i .4))
 
   in-order : (b : Bool) (hs : List Halves) → Fine b hs → Pairwise Earlier (combine b f g hs)
   unfolding combine
@@ -107,17 +112,29 @@ unfolding whenSo
 single-or-none true e = single e
 single-or-none false e = tt
 
-solve-in-order : (p : Pattern) (m : Matcher) (v : Value) (e : Bindings) → Pairwise Earlier (solve p m v e)
-unfolding solve
-solve-in-order wildcard m v e = single e
-solve-in-order nil m v e = single-or-none (isEmpty v) e
-solve-in-order (variable x) m v e = single (e ++ (v ∷ []))
-solve-in-order (constant c) m v e = single-or-none (isConstant c v) e
-solve-in-order (value x c) m v e = single-or-none (isValue m e x c v) e
-solve-in-order (cons p q) m v e =
-    in-order (λ a. solve p (element m) a e) (λ a d. solve q m a d) (λ a. solve-in-order p (element m) a e) (λ a d. solve-in-order q m a d) (isMultiset m) (consHalves m v) (cons-fine m v)
-solve-in-order (join p q) m v e =
-    in-order (λ a. solve p m a e) (λ a d. solve q m a d) (λ a. solve-in-order p m a e) (λ a d. solve-in-order q m a d) true (joinHalves v) tt
+mutual
+  unfolding solve
+
+  solve-in-order : (p : Pattern) (m : Matcher) (v : Value) (e : Bindings) → Pairwise Earlier (solve p m v e)
+  solve-in-order wildcard m v e = single e
+  solve-in-order nil m v e = single-or-none (isEmpty v) e
+  solve-in-order (variable x) m v e = single (e ++ (v ∷ []))
+  solve-in-order (constant c) m v e = single-or-none (isConstant c v) e
+  solve-in-order (value x c) m v e = single-or-none (isValue m e x c v) e
+  solve-in-order (cons p q) m v e =
+      in-order (λ a. solve p (element m) a e) (λ a d. solve q m a d) (λ a. solve-in-order p (element m) a e) (λ a d. solve-in-order q m a d) (isMultiset m) (consHalves m v) (cons-fine m v)
+  solve-in-order (join p q) m v e =
+      in-order (λ a. solve p m a e) (λ a d. solve q m a d) (λ a. solve-in-order p m a e) (λ a d. solve-in-order q m a d) true (joinHalves v) tt
+  solve-in-order (tuple ps) m (int x) e = tt
+  solve-in-order (tuple ps) m (collection vs) e = tt
+  solve-in-order (tuple ps) m (tupled vs) e = each-in-order ps (members m) vs e
+
+  each-in-order : (ps : Patterns) (ms : Matchers) (vs : Values) (e : Bindings) → Pairwise Earlier (solveEach ps ms vs e)
+  each-in-order noPatterns ms vs e = single e
+  each-in-order (p ▸ᵖ ps) noMatchers vs e = single e
+  each-in-order (p ▸ᵖ ps) (m ▸ᵐ ms) empty e = single e
+  each-in-order (p ▸ᵖ ps) (m ▸ᵐ ms) (v ▸ vs) e =
+      chain-in-order [] (solve p m v e) (λ d. solveEach ps ms vs d) (solve-in-order p m v e) (λ d. each-in-order ps ms vs d)
 
 -- Each way once, the smaller first.
 pub solve-increasing : (p : Pattern) (m : Matcher) (v : Value) (e : Bindings) → Pairwise (λ s t. s .way ≺ t .way) (solve p m v e)

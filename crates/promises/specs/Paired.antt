@@ -42,9 +42,9 @@ Paired E empty empty = Unit {0}
 Paired E empty (w ▸ ws) = ⊥
 Paired E (v ▸ vs) ws = (w : Value) × (us : Values) × T (E v w) × Ins w us ws × Paired E vs us
 
-pub record Equiv (E : Value → Value → Bool) : Type 0 where
-  pub symm : (a b : Value) → T (E a b) → T (E b a)
-  pub tran : (a b c : Value) → T (E a b) → T (E b c) → T (E a c)
+pub record Equiv {A : Type 0} (E : A → A → Bool) : Type 0 where
+  pub symm : (a b : A) → T (E a b) → T (E b a)
+  pub tran : (a b c : A) → T (E a b) → T (E b c) → T (E a c)
 
 module _ (E : Value → Value → Bool) (eq : Equiv E) where
   -- What is paired off stays so if an element of the right side gives way to an equal one at another place.

@@ -1,5 +1,5 @@
--- Equality of multisets: symmetric and transitive under every matcher; and each element may be paired with the first equal one that is left, so that
--- what a program does is what the definition says.
+-- Equality of values: symmetric and transitive under every matcher; and in multisets each element may be paired with the first equal one that is left,
+-- so that what a program does is what the definition says.
 use Prim.Native.Nat.{ℕ}
 use mathlib.Core.Path.{_≡_, refl, sym, ap, _∙_, subst}
 use mathlib.Core.Logic.{inl, inr, ⊎-elim}
@@ -10,8 +10,8 @@ use lib.Dec.{T, eqb→eq, eqb-refl}
 use lib.IntN.{ℤ, pos, negsuc}
 use native.Mathlib.Nat.{suc-ne-zero}
 use Rattle.rules.specs.Numbers.{same}
-use Rattle.rules.specs.Forms.{Matcher, something, integer, list, multiset, Value, int, collection, Values, empty, _▸_}
-use Rattle.rules.specs.Equality.{Pick, picks, behind, any, inOrder, pairedOff, equal}
+use Rattle.rules.specs.Forms.{Matcher, something, integer, list, multiset, tupleOf, Matchers, noMatchers, _▸ᵐ_, Value, int, collection, tupled, Values, empty, _▸_}
+use Rattle.rules.specs.Equality.{Pick, picks, behind, any, inOrder, pairedOff, equal, equalParts}
 use Rattle.promises.specs.Tests.{and-split, and-join, or-left, or-right, bool-ext}
 use Rattle.promises.specs.Lists.{Mem}
 use Rattle.promises.specs.Paired.{Ins, Paired, Equiv, exchange, paired-symm, paired-tran}
@@ -189,46 +189,122 @@ in-order-tran E eq (u ▸ us) (v ▸ vs) (w ▸ ws) s t =
     let a = and-split (E u v) (inOrder E us vs) s in let b = and-split (E v w) (inOrder E vs ws) t in
     and-join (E u w) (inOrder E us ws) (eq .tran u v w (a .0) (b .0)) (in-order-tran E eq us vs ws (a .1) (b .1))
 
+-- The equality that a matcher's own rests on: its elements', or its parts'.
 abbrev Below : Matcher → Type 0
 Below something = Unit {0}
 Below integer = Unit {0}
 Below (list m) = Equiv (equal m)
 Below (multiset m) = Equiv (equal m)
+Below (tupleOf ms) = Equiv (equalParts ms)
 
 equal-symm : (m : Matcher) (a b : Value) → Below m → T (equal m a b) → T (equal m b a)
 unfolding equal
 equal-symm something a b eq t = t
 equal-symm integer (int x) (int y) eq t = subst (λ z. T (same z x)) (same-eq x y t) (same-refl x)
 equal-symm integer (int x) (collection ws) eq t = absurd t
+equal-symm integer (int x) (tupled ws) eq t = absurd t
 equal-symm integer (collection vs) b eq t = absurd t
+equal-symm integer (tupled vs) b eq t = absurd t
 equal-symm (list m) (int x) b eq t = absurd t
 equal-symm (list m) (collection vs) (int y) eq t = absurd t
 equal-symm (list m) (collection vs) (collection ws) eq t = in-order-symm (equal m) eq vs ws t
+equal-symm (list m) (collection vs) (tupled ws) eq t = absurd t
+equal-symm (list m) (tupled vs) b eq t = absurd t
 equal-symm (multiset m) (int x) b eq t = absurd t
 equal-symm (multiset m) (collection vs) (int y) eq t = absurd t
 equal-symm (multiset m) (collection vs) (collection ws) eq t = true-paired-off (equal m) ws vs (paired-symm (equal m) eq vs ws (paired-off-true (equal m) vs ws t))
+equal-symm (multiset m) (collection vs) (tupled ws) eq t = absurd t
+equal-symm (multiset m) (tupled vs) b eq t = absurd t
+equal-symm (tupleOf ms) (int x) b eq t = absurd t
+equal-symm (tupleOf ms) (collection vs) b eq t = absurd t
+equal-symm (tupleOf ms) (tupled vs) (int y) eq t = absurd t
+equal-symm (tupleOf ms) (tupled vs) (collection ws) eq t = absurd t
+equal-symm (tupleOf ms) (tupled vs) (tupled ws) eq t = eq .symm vs ws t
 
 equal-tran : (m : Matcher) (a b c : Value) → Below m → T (equal m a b) → T (equal m b c) → T (equal m a c)
 unfolding equal
 equal-tran something a b c eq s t = s
 equal-tran integer (int x) (int y) c eq s t = subst (λ z. T (equal integer (int z) c)) (sym (same-eq x y s)) t
 equal-tran integer (int x) (collection ws) c eq s t = absurd s
+equal-tran integer (int x) (tupled ws) c eq s t = absurd s
 equal-tran integer (collection vs) b c eq s t = absurd s
+equal-tran integer (tupled vs) b c eq s t = absurd s
 equal-tran (list m) (int x) b c eq s t = absurd s
 equal-tran (list m) (collection us) (int y) c eq s t = absurd s
 equal-tran (list m) (collection us) (collection vs) (int z) eq s t = t
 equal-tran (list m) (collection us) (collection vs) (collection ws) eq s t = in-order-tran (equal m) eq us vs ws s t
+equal-tran (list m) (collection us) (collection vs) (tupled ws) eq s t = t
+equal-tran (list m) (collection us) (tupled vs) c eq s t = absurd s
+equal-tran (list m) (tupled us) b c eq s t = absurd s
 equal-tran (multiset m) (int x) b c eq s t = absurd s
 equal-tran (multiset m) (collection us) (int y) c eq s t = absurd s
 equal-tran (multiset m) (collection us) (collection vs) (int z) eq s t = t
 equal-tran (multiset m) (collection us) (collection vs) (collection ws) eq s t =
     true-paired-off (equal m) us ws (paired-tran (equal m) eq us vs ws (paired-off-true (equal m) us vs s) (paired-off-true (equal m) vs ws t))
+equal-tran (multiset m) (collection us) (collection vs) (tupled ws) eq s t = t
+equal-tran (multiset m) (collection us) (tupled vs) c eq s t = absurd s
+equal-tran (multiset m) (tupled us) b c eq s t = absurd s
+equal-tran (tupleOf ms) (int x) b c eq s t = absurd s
+equal-tran (tupleOf ms) (collection us) b c eq s t = absurd s
+equal-tran (tupleOf ms) (tupled us) (int y) c eq s t = absurd s
+equal-tran (tupleOf ms) (tupled us) (collection vs) c eq s t = absurd s
+equal-tran (tupleOf ms) (tupled us) (tupled vs) (int z) eq s t = t
+equal-tran (tupleOf ms) (tupled us) (tupled vs) (collection ws) eq s t = t
+equal-tran (tupleOf ms) (tupled us) (tupled vs) (tupled ws) eq s t = eq .tran us vs ws s t
 
-pub equal-equiv : (m : Matcher) → Equiv (equal m)
-equal-equiv something = record { symm = λ a b t. equal-symm something a b tt t; tran = λ a b c s t. equal-tran something a b c tt s t }
-equal-equiv integer = record { symm = λ a b t. equal-symm integer a b tt t; tran = λ a b c s t. equal-tran integer a b c tt s t }
-equal-equiv (list m) = record { symm = λ a b t. equal-symm (list m) a b (equal-equiv m) t; tran = λ a b c s t. equal-tran (list m) a b c (equal-equiv m) s t }
-equal-equiv (multiset m) = record { symm = λ a b t. equal-symm (multiset m) a b (equal-equiv m) t; tran = λ a b c s t. equal-tran (multiset m) a b c (equal-equiv m) s t }
+equal-by : (m : Matcher) → Below m → Equiv (equal m)
+equal-by m eq = record { symm = λ a b t. equal-symm m a b eq t; tran = λ a b c s t. equal-tran m a b c eq s t }
+
+-- Part by part.
+parts-symm : (m : Matcher) (ms : Matchers) → Equiv (equal m) → Equiv (equalParts ms) → (vs ws : Values)
+    → T (equalParts (m ▸ᵐ ms) vs ws) → T (equalParts (m ▸ᵐ ms) ws vs)
+unfolding equalParts
+parts-symm m ms eq all empty ws t = absurd t
+parts-symm m ms eq all (v ▸ vs) empty t = absurd t
+parts-symm m ms eq all (v ▸ vs) (w ▸ ws) t =
+    let s = and-split (equal m v w) (equalParts ms vs ws) t in and-join (equal m w v) (equalParts ms ws vs) (eq .symm v w (s .0)) (all .symm vs ws (s .1))
+
+parts-tran : (m : Matcher) (ms : Matchers) → Equiv (equal m) → Equiv (equalParts ms) → (us vs ws : Values)
+    → T (equalParts (m ▸ᵐ ms) us vs) → T (equalParts (m ▸ᵐ ms) vs ws) → T (equalParts (m ▸ᵐ ms) us ws)
+unfolding equalParts
+parts-tran m ms eq all empty vs ws s t = absurd s
+parts-tran m ms eq all (u ▸ us) empty ws s t = absurd s
+parts-tran m ms eq all (u ▸ us) (v ▸ vs) empty s t = t
+parts-tran m ms eq all (u ▸ us) (v ▸ vs) (w ▸ ws) s t =
+    let a = and-split (equal m u v) (equalParts ms us vs) s in let b = and-split (equal m v w) (equalParts ms vs ws) t in
+    and-join (equal m u w) (equalParts ms us ws) (eq .tran u v w (a .0) (b .0)) (all .tran us vs ws (a .1) (b .1))
+
+no-parts : Equiv (equalParts noMatchers)
+unfolding equalParts
+no-parts = record { symm = symm; tran = tran }
+  where
+    symm : (vs ws : Values) → T (equalParts noMatchers vs ws) → T (equalParts noMatchers ws vs)
+    symm empty empty t = tt
+    symm empty (w ▸ ws) t = absurd t
+    symm (v ▸ vs) ws t = absurd t
+
+    tran : (us vs ws : Values) → T (equalParts noMatchers us vs) → T (equalParts noMatchers vs ws) → T (equalParts noMatchers us ws)
+    tran empty empty ws s t = t
+    tran empty (v ▸ vs) ws s t = absurd s
+    tran (u ▸ us) vs ws s t = absurd s
+
+-- Both values of a tag 3, its variable's and its atom's, are compared under the one matcher at the tag, also where the variable stands under another
+-- of the same shape: so this says that it does not matter which of the two stands on which side, and which of several equal elements is marked off.
+-- It says nothing of the variable's own matcher: {1 2} and {2 1} are equal under a multiset and not under a list.
+mutual
+  pub equal-equiv : (m : Matcher) → Equiv (equal m)
+  equal-equiv something = equal-by something tt
+  equal-equiv integer = equal-by integer tt
+  equal-equiv (list m) = equal-by (list m) (equal-equiv m)
+  equal-equiv (multiset m) = equal-by (multiset m) (equal-equiv m)
+  equal-equiv (tupleOf ms) = equal-by (tupleOf ms) (parts-equiv ms)
+
+  pub parts-equiv : (ms : Matchers) → Equiv (equalParts ms)
+  parts-equiv noMatchers = no-parts
+  parts-equiv (m ▸ᵐ ms) = record {
+    symm = λ vs ws t. parts-symm m ms (equal-equiv m) (parts-equiv ms) vs ws t;
+    tran = λ us vs ws s t. parts-tran m ms (equal-equiv m) (parts-equiv ms) us vs ws s t;
+  }
 
 -- Multisets are compared by pairing each element with the first equal one that is left.
 pub multisets-greedy : (m : Matcher) (vs ws : Values) → equal (multiset m) (collection vs) (collection ws) ≡ greedy (equal m) vs ws

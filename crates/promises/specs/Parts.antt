@@ -4,7 +4,7 @@ use native.Mathlib.Omega.{arith}
 use mathlib.Core.Path.{sym, subst}
 use mathlib.Core.Logic.{⊎-elim}
 use mathlib.Core.List.{List·Memᴰ·not-nil, List·Memᴰ·cases-cons, List·Memᴰ·eq-of-singleton, Memᴰ·of-map}
-use Rattle.rules.specs.Forms.{Matcher, something, integer, list, multiset, Value, int, collection, Values, empty, _▸_, count, size, sizeAll}
+use Rattle.rules.specs.Forms.{Matcher, something, integer, list, multiset, tupleOf, Value, int, collection, tupled, Values, empty, _▸_, count, size, sizeAll}
 use Rattle.rules.specs.Equality.{Pick, picks, behind}
 use Rattle.rules.specs.Search.{Cut, cuts, longer, Halves, consHalves, joinHalves}
 use Rattle.promises.specs.Written.{largest, largestOf}
@@ -26,7 +26,7 @@ all (v ▸ vs) = kept (all vs)
 
 -- ---- The halves are parts.
 
-pick-among : (vs : Values) (p : Pick) → Mem p (picks vs) → Among (p .one ▸ empty) vs × Among (p .others) vs
+pub pick-among : (vs : Values) (p : Pick) → Mem p (picks vs) → Among (p .one ▸ empty) vs × Among (p .others) vs
 unfolding picks behind
 pick-among empty p m = absurd (List·Memᴰ·not-nil m)
 pick-among (v ▸ vs) p m = ⊎-elim
@@ -35,7 +35,7 @@ pick-among (v ▸ vs) p m = ⊎-elim
     subst (λ (p : Pick). Among (p .one ▸ empty) (v ▸ vs) × Among (p .others) (v ▸ vs)) (r .2) (left (i .0), kept (i .1)))
     (List·Memᴰ·cases-cons m)
 
-cut-among : (vs : Values) (c : Cut) → Mem c (cuts vs) → Among (c .front) vs × Among (c .back) vs
+pub cut-among : (vs : Values) (c : Cut) → Mem c (cuts vs) → Among (c .front) vs × Among (c .back) vs
 unfolding cuts longer
 cut-among empty c m = subst (λ (c : Cut). Among (c .front) empty × Among (c .back) empty) (sym (List·Memᴰ·eq-of-singleton m)) (none, none)
 cut-among (v ▸ vs) c m = ⊎-elim
@@ -56,10 +56,13 @@ cons-parts (list m) (int x) h i = absurd (List·Memᴰ·not-nil i)
 cons-parts (list m) (collection empty) h i = absurd (List·Memᴰ·not-nil i)
 cons-parts (list m) (collection (v ▸ vs)) h i =
     subst (λ (h : Halves). Parts h (collection (v ▸ vs))) (sym (List·Memᴰ·eq-of-singleton i)) (record { first = element (kept none); second = elements (left (all vs)) })
+cons-parts (list m) (tupled vs) h i = absurd (List·Memᴰ·not-nil i)
 cons-parts (multiset m) (int x) h i = absurd (List·Memᴰ·not-nil i)
 cons-parts (multiset m) (collection vs) h i =
     let r = Memᴰ·of-map _ (picks vs) i in let s = pick-among vs (r .0) (r .1) in
     subst (λ (h : Halves). Parts h (collection vs)) (r .2) (record { first = element (s .0); second = elements (s .1) })
+cons-parts (multiset m) (tupled vs) h i = absurd (List·Memᴰ·not-nil i)
+cons-parts (tupleOf ms) v h i = absurd (List·Memᴰ·not-nil i)
 
 pub join-parts : (v : Value) (h : Halves) → Mem h (joinHalves v) → Parts h v
 unfolding joinHalves
@@ -67,6 +70,7 @@ join-parts (int x) h i = absurd (List·Memᴰ·not-nil i)
 join-parts (collection vs) h i =
     let r = Memᴰ·of-map _ (cuts vs) i in let s = cut-among vs (r .0) (r .1) in
     subst (λ (h : Halves). Parts h (collection vs)) (r .2) (record { first = elements (s .0); second = elements (s .1) })
+join-parts (tupled vs) h i = absurd (List·Memᴰ·not-nil i)
 
 -- ---- A part is no larger.
 

@@ -3,24 +3,34 @@ use Prim.Native.Nat.{ℕ, _+_, _*_, _≤_}
 use native.Mathlib.Omega.{arith}
 use native.Mathlib.Nat.{le-refl, le-trans, mul-le-mul-right, zero-add}
 use mathlib.Core.Path.{_≡_, refl, sym, ap, _∙_, subst}
+use mathlib.Core.Bool.{Bool, true, _&&_}
 use mathlib.Core.List.{List, [], _∷_, _++_, map, append-assoc, append-nil, Memᴰ·of-map}
 use lib.ListN.{length, length-append, length-map}
+use lib.Dec.{eqb, eqb→eq}
 use lib.IntN.{ℤ}
-use Rattle.rules.specs.Forms.{Matcher, Pattern, wildcard, nil, variable, constant, value, cons, join, Value, words, size}
-use Rattle.rules.specs.Fit.{element}
+use Rattle.rules.specs.Forms.{Matcher, Matchers, noMatchers, _▸ᵐ_, countᵐ}
+use Rattle.rules.specs.Forms.{Pattern, wildcard, nil, variable, constant, value, cons, join, tuple, Patterns, noPatterns, _▸ᵖ_, countᵖ, span}
+use Rattle.rules.specs.Forms.{Value, int, collection, tupled, Values, empty, _▸_, words, size, sizeAll}
+use Rattle.rules.specs.Reading.{Verdict, ok, _then_}
+use Rattle.rules.specs.Variables.{demand}
+use Rattle.rules.specs.Fit.{element, members, takes, fits, fitsParts}
 use Rattle.rules.specs.Equality.{Bindings}
 use Rattle.rules.specs.Search.{Halves, row, consHalves, joinHalves, start}
-use Rattle.rules.specs.Ways.{Way, ConsBy, JoinBy, Follows}
+use Rattle.rules.specs.Ways.{Way, ConsBy, JoinBy, Follows, FollowsAll}
 use Rattle.rules.specs.Review.{weights}
-use Rattle.promises.specs.Written.{variableTags, length-words, largest}
+use Rattle.promises.specs.Tests.{and-split}
+use Rattle.promises.specs.Written.{variableTags, variableTagsAll, length-words}
+use Rattle.promises.specs.Readers.{then-ok}
+use Rattle.promises.specs.Numbering.{demand-ok}
 use Rattle.promises.specs.Lists.{Mem, length-flatMap-le}
 use Rattle.promises.specs.Trace.{trace}
-use Rattle.promises.specs.Solve.{Solution, solve, founds-start}
-use Rattle.promises.specs.Choices.{in-numbered, cons-complete, join-complete}
+use Rattle.promises.specs.Solve.{Solution, isMultiset, solve, founds-start}
+use Rattle.promises.specs.Choices.{in-numbered, Made, cons-complete, join-complete}
 use Rattle.promises.specs.GoodWays.{sound}
-use Rattle.promises.specs.Parts.{Parts, cons-parts, join-parts, part-size}
+use Rattle.promises.specs.Parts.{cons-parts, join-parts, part-size}
+use Rattle.promises.specs.Suited.{Suits, SuitsEach, cons-suits, join-suits, tuple-suits}
 use Rattle.promises.specs.Budget.{rowsOf}
-use Rattle.promises.specs.Bound.{product, rows-bound}
+use Rattle.promises.specs.Bound.{Fine, product, rows-bound}
 
 row-append : (e d : Bindings) → row (e ++ d) ≡ row e ++ row d
 unfolding row
@@ -32,49 +42,106 @@ unfolding row
 row-bind e v = ap length (row-append e (v ∷ [])) ∙ length-append (row e) (words v ++ [])
     ∙ ap (λ n. length (row e) + n) (ap length (append-nil (words v)) ∙ length-words v)
 
-consBy-parts : (m : Matcher) (v : Value) (here : Way) (a b : Value) → ConsBy m v here a b → Parts (record { first = a; second = b }) v
-consBy-parts m v here a b h =
-    let c = cons-complete m v here a b h in
-    subst (λ (g : Halves). Parts g v) (c .is) (cons-parts m v (c .c .halves) (in-numbered (consHalves m v) (c .c) (c .member)))
+made-member : (b : Bool) (hs : List Halves) (here : Way) (x y : Value) → Made b hs here x y → Mem (record { first = x; second = y }) hs
+made-member b hs here x y c = subst (λ (g : Halves). Mem g hs) (c .is) (in-numbered hs (c .c) (c .member))
 
-joinBy-parts : (v : Value) (here : Way) (a b : Value) → JoinBy v here a b → Parts (record { first = a; second = b }) v
-joinBy-parts v here a b h =
-    let c = join-complete v here a b h in
-    subst (λ (g : Halves). Parts g v) (c .is) (join-parts v (c .c .halves) (in-numbered (joinHalves v) (c .c) (c .member)))
+cons-member : (m : Matcher) (v : Value) (here : Way) (a b : Value) → ConsBy m v here a b → Mem (record { first = a; second = b }) (consHalves m v)
+cons-member m v here a b h = made-member (isMultiset m) (consHalves m v) here a b (cons-complete m v here a b h)
 
--- One binding for each variable.
-pub follows-binds : (p : Pattern) (m : Matcher) (v : Value) (e : Bindings) (w : Way) (d : Bindings) → Follows p m v e w d
-    → length d ≡ length e + variableTags p
-unfolding Follows variableTags
-follows-binds wildcard m v e w d h = ap length (h .1) ∙ omega arith
-follows-binds nil m v e w d h = ap length (h .2) ∙ omega arith
-follows-binds (variable x) m v e w d h = ap length (h .1) ∙ length-append e (v ∷ [])
-follows-binds (constant c) m v e w d h = ap length (h .2) ∙ omega arith
-follows-binds (value x c) m v e w d h = ap length (h .2) ∙ omega arith
-follows-binds (cons p q) m v e w d h =
-    omega (arith, follows-binds p (element m) (h .a) e (h .one) (h .between) (h .first), follows-binds q m (h .b) (h .between) (h .two) d (h .second))
-follows-binds (join p q) m v e w d h =
-    omega (arith, follows-binds p m (h .a) e (h .one) (h .between) (h .first), follows-binds q m (h .b) (h .between) (h .two) d (h .second))
+join-member : (v : Value) (here : Way) (a b : Value) → JoinBy v here a b → Mem (record { first = a; second = b }) (joinHalves v)
+join-member v here a b h = made-member true (joinHalves v) here a b (join-complete v here a b h)
 
--- At most n more words for each variable, where the value has at most n.
-follows-row : (p : Pattern) (m : Matcher) (v : Value) (e : Bindings) (w : Way) (d : Bindings) (n : ℕ) → Follows p m v e w d → size v ≤ n
-    → length (row d) ≤ length (row e) + variableTags p * n
-unfolding Follows variableTags
-follows-row wildcard m v e w d n h s = let q = ap (λ (z : Bindings). length (row z)) (h .1) in omega arith
-follows-row nil m v e w d n h s = let q = ap (λ (z : Bindings). length (row z)) (h .2) in omega arith
-follows-row (variable x) m v e w d n h s = let q = ap (λ (z : Bindings). length (row z)) (h .1) ∙ row-bind e v in omega arith
-follows-row (constant c) m v e w d n h s = let q = ap (λ (z : Bindings). length (row z)) (h .2) in omega arith
-follows-row (value x c) m v e w d n h s = let q = ap (λ (z : Bindings). length (row z)) (h .2) in omega arith
-follows-row (cons p q) m v e w d n h s =
-    let k = consBy-parts m v (h .here) (h .a) (h .b) (h .divided) in
-    let i = follows-row p (element m) (h .a) e (h .one) (h .between) n (h .first) (le-trans (part-size (k .first)) s) in
-    let j = follows-row q m (h .b) (h .between) (h .two) d n (h .second) (le-trans (part-size (k .second)) s) in
-    omega arith
-follows-row (join p q) m v e w d n h s =
-    let k = joinBy-parts v (h .here) (h .a) (h .b) (h .divided) in
-    let i = follows-row p m (h .a) e (h .one) (h .between) n (h .first) (le-trans (part-size (k .first)) s) in
-    let j = follows-row q m (h .b) (h .between) (h .two) d n (h .second) (le-trans (part-size (k .second)) s) in
-    omega arith
+-- ---- One binding for each variable, where the pattern and the value fit: a tuple's parts are then as many as its patterns.
+
+-- A cons or a join that fits: its tag is taken, and both parts fit.
+both-fit : (b : Bool) (at : ℕ) (ks : List Matcher) (f g : List Matcher → Verdict (List Matcher)) (ls : List Matcher)
+    → (demand b at ks then λ x. f x then λ y. g y) ≡ ok ls → (x y : List Matcher) × (f x ≡ ok y) × (g y ≡ ok ls)
+both-fit b at ks f g ls e =
+    let s = then-ok (demand b at ks) (λ x. f x then λ y. g y) ls e in let t = then-ok (f (s .0)) g ls (s .2) in (s .0, t .0, t .1, t .2)
+
+mutual
+  unfolding Follows variableTags fits Suits countᵖ countᵐ
+
+  pub follows-binds : (p : Pattern) (m : Matcher) (v : Value) (e : Bindings) (w : Way) (d : Bindings) (at : ℕ) (ks ls : List Matcher)
+      → fits p m at ks ≡ ok ls → Suits m v → Follows p m v e w d → length d ≡ length e + variableTags p
+  follows-binds wildcard m v e w d at ks ls f s h = ap length (h .1) ∙ omega arith
+  follows-binds nil m v e w d at ks ls f s h = ap length (h .2) ∙ omega arith
+  follows-binds (variable x) m v e w d at ks ls f s h = ap length (h .1) ∙ length-append e (v ∷ [])
+  follows-binds (constant c) m v e w d at ks ls f s h = ap length (h .2) ∙ omega arith
+  follows-binds (value x c) m v e w d at ks ls f s h = ap length (h .2) ∙ omega arith
+  follows-binds (cons p q) m v e w d at ks ls f s h =
+      let t = both-fit (takes m 5) at ks (fits p (element m) (at + 1)) (fits q m (at + 1 + span p)) ls f in
+      let u = cons-suits m v (record { first = h .a; second = h .b }) (cons-member m v (h .here) (h .a) (h .b) (h .divided)) s in
+      omega (
+        arith,
+        follows-binds p (element m) (h .a) e (h .one) (h .between) (at + 1) (t .0) (t .1) (t .2) (u .0) (h .first),
+        follows-binds q m (h .b) (h .between) (h .two) d (at + 1 + span p) (t .1) ls (t .3) (u .1) (h .second),
+      )
+  follows-binds (join p q) m v e w d at ks ls f s h =
+      let t = both-fit (takes m 6) at ks (fits p m (at + 1)) (fits q m (at + 1 + span p)) ls f in
+      let u = join-suits m v (record { first = h .a; second = h .b }) (join-member v (h .here) (h .a) (h .b) (h .divided)) s in
+      omega (
+        arith,
+        follows-binds p m (h .a) e (h .one) (h .between) (at + 1) (t .0) (t .1) (t .2) (u .0) (h .first),
+        follows-binds q m (h .b) (h .between) (h .two) d (at + 1 + span p) (t .1) ls (t .3) (u .1) (h .second),
+      )
+  follows-binds (tuple ps) m (int x) e w d at ks ls f s h = absurd h
+  follows-binds (tuple ps) m (collection vs) e w d at ks ls f s h = absurd h
+  follows-binds (tuple ps) m (tupled vs) e w d at ks ls f s h =
+      let t = then-ok (demand (takes m 7 && eqb (countᵖ ps) (countᵐ (members m))) at ks) (λ x. fitsParts ps (members m) (at + 2) x) ls f in
+      let b = and-split (takes m 7) (eqb (countᵖ ps) (countᵐ (members m)))
+      (demand-ok (takes m 7 && eqb (countᵖ ps) (countᵐ (members m))) at ks (t .0) (t .1) .0) in
+      follows-binds-each ps (members m) vs e w d (at + 2) (t .0) ls (t .2) (eqb→eq (countᵖ ps) (countᵐ (members m)) (b .1)) (tuple-suits m vs s) h
+
+  follows-binds-each : (ps : Patterns) (ms : Matchers) (vs : Values) (e : Bindings) (w : Way) (d : Bindings) (at : ℕ) (ks ls : List Matcher)
+      → fitsParts ps ms at ks ≡ ok ls → countᵖ ps ≡ countᵐ ms → SuitsEach ms vs → FollowsAll ps ms vs e w d → length d ≡ length e + variableTagsAll ps
+  follows-binds-each noPatterns ms vs e w d at ks ls f c s h = ap length (h .1) ∙ omega arith
+  follows-binds-each (p ▸ᵖ ps) noMatchers vs e w d at ks ls f c s h = omega arith
+  follows-binds-each (p ▸ᵖ ps) (m ▸ᵐ ms) empty e w d at ks ls f c s h = absurd s
+  follows-binds-each (p ▸ᵖ ps) (m ▸ᵐ ms) (v ▸ vs) e w d at ks ls f c s h =
+      let t = then-ok (fits p m at ks) (λ x. fitsParts ps ms (at + span p) x) ls f in
+      omega (
+        arith,
+        follows-binds p m v e (h .one) (h .between) at ks (t .0) (t .1) (s .0) (h .first),
+        follows-binds-each ps ms vs (h .between) (h .two) d (at + span p) (t .0) ls (t .2) (omega arith) (s .1) (h .others),
+      )
+
+-- ---- At most n more words for each variable, where the value has at most n.
+
+mutual
+  unfolding Follows variableTags size
+
+  follows-row : (p : Pattern) (m : Matcher) (v : Value) (e : Bindings) (w : Way) (d : Bindings) (n : ℕ) → Follows p m v e w d → size v ≤ n
+      → length (row d) ≤ length (row e) + variableTags p * n
+  follows-row wildcard m v e w d n h s = let q = ap (λ (z : Bindings). length (row z)) (h .1) in omega arith
+  follows-row nil m v e w d n h s = let q = ap (λ (z : Bindings). length (row z)) (h .2) in omega arith
+  follows-row (variable x) m v e w d n h s = let q = ap (λ (z : Bindings). length (row z)) (h .1) ∙ row-bind e v in omega arith
+  follows-row (constant c) m v e w d n h s = let q = ap (λ (z : Bindings). length (row z)) (h .2) in omega arith
+  follows-row (value x c) m v e w d n h s = let q = ap (λ (z : Bindings). length (row z)) (h .2) in omega arith
+  follows-row (cons p q) m v e w d n h s =
+      let k = cons-parts m v (record { first = h .a; second = h .b }) (cons-member m v (h .here) (h .a) (h .b) (h .divided)) in
+      let i = follows-row p (element m) (h .a) e (h .one) (h .between) n (h .first) (le-trans (part-size (k .first)) s) in
+      let j = follows-row q m (h .b) (h .between) (h .two) d n (h .second) (le-trans (part-size (k .second)) s) in
+      omega arith
+  follows-row (join p q) m v e w d n h s =
+      let k = join-parts v (record { first = h .a; second = h .b }) (join-member v (h .here) (h .a) (h .b) (h .divided)) in
+      let i = follows-row p m (h .a) e (h .one) (h .between) n (h .first) (le-trans (part-size (k .first)) s) in
+      let j = follows-row q m (h .b) (h .between) (h .two) d n (h .second) (le-trans (part-size (k .second)) s) in
+      omega arith
+  follows-row (tuple ps) m (int x) e w d n h s = absurd h
+  follows-row (tuple ps) m (collection vs) e w d n h s = absurd h
+  follows-row (tuple ps) m (tupled vs) e w d n h s = follows-row-each ps (members m) vs e w d n h (omega arith)
+
+  follows-row-each : (ps : Patterns) (ms : Matchers) (vs : Values) (e : Bindings) (w : Way) (d : Bindings) (n : ℕ)
+      → FollowsAll ps ms vs e w d → sizeAll vs ≤ n
+      → length (row d) ≤ length (row e) + variableTagsAll ps * n
+  follows-row-each noPatterns ms vs e w d n h s = let q = ap (λ (z : Bindings). length (row z)) (h .1) in omega arith
+  follows-row-each (p ▸ᵖ ps) noMatchers vs e w d n h s = let q = ap (λ (z : Bindings). length (row z)) (h .1) in omega arith
+  follows-row-each (p ▸ᵖ ps) (m ▸ᵐ ms) empty e w d n h s = let q = ap (λ (z : Bindings). length (row z)) (h .1) in omega arith
+  follows-row-each (p ▸ᵖ ps) (m ▸ᵐ ms) (v ▸ vs) e w d n h s =
+      let i = follows-row p m v e (h .one) (h .between) n (h .first) (omega arith) in
+      let j = follows-row-each ps ms vs (h .between) (h .two) d n (h .others) (omega arith) in
+      omega arith
 
 row-words : (m : Matcher) (p : Pattern) (v : Value) (e : Bindings) → Mem e (map (λ (t : Solution). t .bound) (solve p m v []))
     → length (row e) ≤ variableTags p * size v
@@ -85,7 +152,7 @@ row-words m p v e i =
     (rw zero-add at (follows-row p m v [] (r .0 .way) (r .0 .bound) (size v) (sound p m v [] (r .0) (r .1)) (le-refl (size v))))
 
 -- All rows of the search.
-pub rows-words : (most : ℕ) (m : Matcher) (p : Pattern) (v : Value) → largest v ≤ most
+pub rows-words : (most : ℕ) (m : Matcher) (p : Pattern) (v : Value) → Fine most m v
     → length (rowsOf (trace (start m p v ∷ []))) ≤ product (weights most p m) * (variableTags p * size v)
 unfolding rowsOf
 rows-words most m p v s = rw (founds-start m p v)

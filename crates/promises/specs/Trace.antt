@@ -1,16 +1,17 @@
 -- The states of the search tree in the order in which a run takes them up, by recursion on the pattern; and that a run with a budget is a
 -- walk along this list that ends when the budget does.
 use Prim.Native.Nat.{ℕ, zero, suc, _-_}
-use mathlib.Core.Path.{_≡_, refl, sym, ap, _∙_}
+use mathlib.Core.Path.{_≡_, refl, sym, ap, _∙_, fun-ext}
 use mathlib.Core.Bool.{Bool, true, false}
 use mathlib.Core.List.{List, [], _∷_, _++_, map, flatMap, append-nil}
 use lib.ListN.{length, take}
 use lib.Dec.{leb}
-use Rattle.rules.specs.Forms.{Matcher, something, Pattern, wildcard, nil, variable, constant, value, cons, join}
-use Rattle.rules.specs.Forms.{Value}
-use Rattle.rules.specs.Fit.{element}
+use Rattle.rules.specs.Forms.{Matcher, something, Matchers, noMatchers, _▸ᵐ_}
+use Rattle.rules.specs.Forms.{Pattern, wildcard, nil, variable, constant, value, cons, join, tuple, Patterns, noPatterns, _▸ᵖ_}
+use Rattle.rules.specs.Forms.{Value, int, collection, tupled, Values, empty, _▸_}
+use Rattle.rules.specs.Fit.{element, members, isSomething}
 use Rattle.rules.specs.Equality.{Bindings, isConstant, isValue, isEmpty}
-use Rattle.rules.specs.Search.{Halves, consHalves, joinHalves, Atom, atom, State, state, isSomething, dropIf, after}
+use Rattle.rules.specs.Search.{Halves, consHalves, joinHalves, Atom, atom, State, state, dropIf, atoms, apart, after}
 use Rattle.rules.specs.Search.{row, Run, stopped, step, rowStep, run}
 use Rattle.promises.specs.Lists.{flatMap-append, flatMap-map}
 
@@ -23,16 +24,32 @@ unfoldable pub onlyIf : Bool → List Taken → List Taken
 onlyIf true ts = ts
 onlyIf false ts = []
 
+-- What the parts of a tuple give; of another value there are none.
+unfoldable pub ofParts : {A : Type 0} → (Values → List A) → Value → List A
+ofParts f (int x) = []
+ofParts f (collection vs) = []
+ofParts f (tupled vs) = f vs
+
 -- The states from an atom on; `k` are those that come after it is matched, from the bindings then held.
-unfoldable pub visit : Pattern → Matcher → Value → Bindings → (Bindings → List Taken) → List Taken
-unfolding isSomething isConstant isValue isEmpty consHalves joinHalves element flatMap onlyIf
-visit wildcard m v e k = passed ∷ elim (isSomething m) [ true ↦ k e | false ↦ passed ∷ k e ]
-visit (variable x) m v e k = passed ∷ elim (isSomething m) [ true ↦ k (e ++ (v ∷ [])) | false ↦ passed ∷ k (e ++ (v ∷ [])) ]
-visit (constant c) m v e k = passed ∷ onlyIf (isConstant c v) (k e)
-visit (value x c) m v e k = passed ∷ onlyIf (isValue m e x c v) (k e)
-visit nil m v e k = passed ∷ onlyIf (isEmpty v) (k e)
-visit (cons p q) m v e k = passed ∷ flatMap (λ h. visit p (element m) (h .first) e (λ d. visit q m (h .second) d k)) (consHalves m v)
-visit (join p q) m v e k = passed ∷ flatMap (λ h. visit p m (h .first) e (λ d. visit q m (h .second) d k)) (joinHalves v)
+unfoldable mutual
+  unfolding isSomething isConstant isValue isEmpty consHalves joinHalves element members flatMap onlyIf ofParts
+
+  pub visit : Pattern → Matcher → Value → Bindings → (Bindings → List Taken) → List Taken
+  visit wildcard m v e k = passed ∷ elim (isSomething m) [ true ↦ k e | false ↦ passed ∷ k e ]
+  visit (variable x) m v e k = passed ∷ elim (isSomething m) [ true ↦ k (e ++ (v ∷ [])) | false ↦ passed ∷ k (e ++ (v ∷ [])) ]
+  visit (constant c) m v e k = passed ∷ onlyIf (isConstant c v) (k e)
+  visit (value x c) m v e k = passed ∷ onlyIf (isValue m e x c v) (k e)
+  visit nil m v e k = passed ∷ onlyIf (isEmpty v) (k e)
+  visit (cons p q) m v e k = passed ∷ flatMap (λ h. visit p (element m) (h .first) e (λ d. visit q m (h .second) d k)) (consHalves m v)
+  visit (join p q) m v e k = passed ∷ flatMap (λ h. visit p m (h .first) e (λ d. visit q m (h .second) d k)) (joinHalves v)
+  visit (tuple ps) m v e k = passed ∷ ofParts (λ vs. visitEach ps (members m) vs e k) v
+
+  -- The atoms of a tuple's parts, in order.
+  pub visitEach : Patterns → Matchers → Values → Bindings → (Bindings → List Taken) → List Taken
+  visitEach noPatterns ms vs e k = k e
+  visitEach (p ▸ᵖ ps) noMatchers vs e k = k e
+  visitEach (p ▸ᵖ ps) (m ▸ᵐ ms) empty e k = k e
+  visitEach (p ▸ᵖ ps) (m ▸ᵐ ms) (v ▸ vs) e k = visit p m v e (λ d. visitEach ps ms vs d k)
 
 unfoldable pub visitAll : List Atom → Bindings → List Taken
 unfolding visit
@@ -81,6 +98,21 @@ halves : (p : Pattern) (m : Matcher) (q : Pattern) (k : Matcher) (older : List A
 unfolding trace
 halves p m q k older e hs = sym (flatMap-map visitState _ hs)
 
+each : (ps : Patterns) (ms : Matchers) (vs : Values) (older : List Atom) (e : Bindings)
+    → visitEach ps ms vs e (λ d. visitAll older d) ≡ visitAll (atoms ps ms vs ++ older) e
+unfolding visitEach visitAll atoms
+each noPatterns ms vs older e = refl
+each (p ▸ᵖ ps) noMatchers vs older e = refl
+each (p ▸ᵖ ps) (m ▸ᵐ ms) empty older e = refl
+each (p ▸ᵖ ps) (m ▸ᵐ ms) (v ▸ vs) older e = ap (visit p m v e) (fun-ext (λ d. each ps ms vs older d))
+
+parted : (ps : Patterns) (ms : Matchers) (v : Value) (older : List Atom) (e : Bindings)
+    → ofParts (λ vs. visitEach ps ms vs e (λ d. visitAll older d)) v ≡ trace (apart ps ms v older e)
+unfolding ofParts apart trace
+parted ps ms (int x) older e = refl
+parted ps ms (collection vs) older e = refl
+parted ps ms (tupled vs) older e = each ps ms vs older e ∙ sym (append-nil (visitAll (atoms ps ms vs ++ older) e))
+
 pub tree : (p : Pattern) (m : Matcher) (v : Value) (older : List Atom) (e : Bindings) → visitAll (atom p m v ∷ older) e ≡ passed ∷ trace (after p m v older e)
 unfolding visitAll after
 tree wildcard m v older e = ap {B = List Taken} (λ r. passed ∷ r) (leaf (isSomething m) (atom wildcard something v) older e e refl)
@@ -90,6 +122,7 @@ tree (constant c) m v older e = ap {B = List Taken} (λ r. passed ∷ r) (test (
 tree (value x c) m v older e = ap {B = List Taken} (λ r. passed ∷ r) (test (isValue m e x c v) older e)
 tree (cons p q) m v older e = ap {B = List Taken} (λ r. passed ∷ r) (halves p (element m) q m older e (consHalves m v))
 tree (join p q) m v older e = ap {B = List Taken} (λ r. passed ∷ r) (halves p m q m older e (joinHalves v))
+tree (tuple ps) m v older e = ap {B = List Taken} (λ r. passed ∷ r) (parted ps (members m) v older e)
 
 -- ---- A run walks along the trace.
 

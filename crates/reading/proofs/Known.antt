@@ -3,17 +3,13 @@
 use mathlib.Core.Path.{_≡_, refl, sym, _∙_, ap}
 use mathlib.Core.Option.{Option, none, some}
 use mathlib.Core.List.{List, [], _∷_}
-use Prim.Native.Nat.{ℕ, zero, suc, _≤_, _<_}
+use Prim.Native.Nat.{ℕ, zero, suc, _≤_}
 use native.Mathlib.Omega.{arith}
-use borrow.Author.Tests.{lt-ltb, le-ltb}
-use lib.ListN.{length, getD, getElem?, drop, length-drop}
+use lib.ListN.{length, getElem?, drop}
 use lib.Seq.{drop-nil}
 use lib.IntN.{ℤ, pos, negsuc}
-use Rattle.rules.specs.Reading.{Verdict, ok, fault, _then_, Got, Reader, known, entry, ended}
+use Rattle.rules.specs.Reading.{Verdict, ok, fault, Got, known, entry}
 use Rattle.words.specs.Words.{tagZ, tagAt}
-use Rattle.reading.specs.Tests.{tested, restAt}
-use Rattle.reading.specs.declared.Tested.{Tested}
-use Rattle.reading.specs.declared.Tested.the-variants.{Passed, Fault}
 
 pub past : {A : Type 0} (table : List A) (i : ℕ) → length table ≤ i → getElem? table i ≡ none
 past [] i h = refl
@@ -47,23 +43,3 @@ module _ {A : Type 0} (table : List A) (few : length table ≤ 2147483648) where
 
   pub known-at : (s : List ℤ) (at t : ℕ) → t ≡ tagAt s at → known (entry table) at (drop at s) ≡ meant at (drop (suc at) s) (getElem? table t)
   known-at s at t e = rw e (known-from s at at)
-
--- A form whose next word has the index e.
-pub ended-at : {A : Type 0} (s : List ℤ) (e : ℕ) (a : A) → tested (ended (record { it = a; next = e; rest = drop e s })) ≡ restAt s e
-unfolding tested ended restAt
-ended-at {A} s e a = go (drop e s) refl
-  where
-    go : (us : List ℤ) → drop e s ≡ us → tested {A = A} (ended (record { it = a; next = e; rest = us })) ≡ restAt s e
-    go [] p = let l : length s ≤ e = omega (arith, simp length-drop at (ap length p)) in rw (le-ltb e (length s) l)
-    go (w ∷ ws) p = let l : e < length s = omega (arith, simp length-drop at (ap length p)) in rw (lt-ltb e (length s) l)
-
--- What was read does not matter to a test.
-pub tested-map : {A B : Type 0} (f : A → B) (x : Verdict (Got A))
-    → tested ((x then λ g. ok (record { it = f (g .it); next = g .next; rest = g .rest })) then ended) ≡ tested (x then ended)
-unfolding tested _then_ ended
-tested-map {A} {B} f (ok g) = go (g .rest)
-  where
-    go : (us : List ℤ) → tested {A = B} (ended (record { it = f (g .it); next = g .next; rest = us })) ≡ tested {A = A} (ended (record { it = g .it; next = g .next; rest = us }))
-    go [] = refl
-    go (w ∷ ws) = refl
-tested-map f (fault i) = refl

@@ -1,2 +1,3 @@
--- What the proof of test 1 uses.
+-- What the proofs of test 1 use.
 pub mod Laws
+pub mod Steps

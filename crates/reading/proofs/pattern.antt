@@ -1,3 +1,3 @@
 -- What the proof of test 2 uses.
-pub mod Walk
+pub mod Walked
 pub mod Steps

@@ -1,4 +1,3 @@
 -- What the proofs of test 5 use.
 pub mod Values
 pub mod Steps
-pub mod Whole

@@ -1,19 +1,21 @@
 // Test 2: the words are one whole pattern.
 use super::Tested;
+use super::between;
 use super::table::Row;
 use super::table::row_of;
 use words::tag_at;
 ghost use mathlib.Core.Path.{_≡_};
+ghost use Prim.Native.Nat.{_≤_};
+ghost use lib.ListN.{length};
 ghost use Rattle.rules.specs.Reading.{readPattern};
 ghost use Rattle.reading.specs.Tests.{tested};
+ghost use Rattle.reading.specs.Patterns.{readsP};
 
-// Whether the words are one whole pattern: so many operands of the tag before are to be skipped, so many patterns are still to come.
-pub fn test_pattern(s: &[i32]) -> Tested
-    ensures { λ r. ⌜ r ≡ tested (readPattern (now (s .entry))) ⌝ }
+// Whether words that are few are one whole pattern: so many operands of the tag before are to be skipped, so many patterns are still to come.
+fn walk(s: &[i32]) -> Tested
+    requires { do ⌜ length (now s) ≤ 256 ⌝ }
+    ensures { λ r. ⌜ r ≡ readsP 0 1 0 (now (s .entry)) ⌝ }
 {
-    if 256 < s.len() {
-        return Tested::Fault(256);
-    }
     let mut skip: u32 = 0;
     let mut need: u32 = 1;
     let mut at: usize = 0;
@@ -32,6 +34,15 @@ pub fn test_pattern(s: &[i32]) -> Tested
                     need = need - 1 + parts;
                     at += 1;
                 }
+                Row::Wide(_) => {
+                    let k = tag_at(s, at + 1);
+                    if !between(2, k, 4) {
+                        return Tested::Fault(at + 1);
+                    }
+                    skip = 1;
+                    need = need - 1 + k;
+                    at += 1;
+                }
             }
         }
     }
@@ -40,4 +51,14 @@ pub fn test_pattern(s: &[i32]) -> Tested
     } else {
         Tested::Fault(at)
     }
+}
+
+// Whether the words are one whole pattern.
+pub fn test_pattern(s: &[i32]) -> Tested
+    ensures { λ r. ⌜ r ≡ tested (readPattern (now (s .entry))) ⌝ }
+{
+    if 256 < s.len() {
+        return Tested::Fault(256);
+    }
+    walk(s)
 }

@@ -4,7 +4,7 @@ use mathlib.Core.Option.{none, some}
 use mathlib.Core.List.{List, [], _∷_, map}
 use lib.IntN.{ℤ}
 use Rattle.rules.specs.Numbers.{same, plus}
-use Rattle.rules.specs.Forms.{Matcher, something, integer, list, multiset, Value, int, collection, Values, empty, _▸_}
+use Rattle.rules.specs.Forms.{Matcher, something, integer, list, multiset, tupleOf, Matchers, noMatchers, _▸ᵐ_, Value, int, collection, tupled, Values, empty, _▸_}
 use Rattle.rules.specs.Reading.{entry}
 
 -- The values bound so far: entry v is variable v's. (Variables are numbered from left to right and atoms are taken up from left to right, so that
@@ -45,30 +45,52 @@ pairedOff eq empty empty = true
 pairedOff eq empty (w ▸ ws) = false
 pairedOff eq (v ▸ vs) ws = any (λ p. eq v (p .one) && pairedOff eq vs (p .others)) (picks ws)
 
--- Equality under a matcher. (Under something nothing is compared: no tag 3 stands there.)
-unfoldable pub equal : Matcher → Value → Value → Bool
-unfolding same inOrder pairedOff
-equal something v w = false
-equal integer (int x) (int y) = same x y
-equal integer (int x) (collection ws) = false
-equal integer (collection vs) w = false
-equal (list m) (int x) w = false
-equal (list m) (collection vs) (int y) = false
-equal (list m) (collection vs) (collection ws) = inOrder (λ a b. equal m a b) vs ws
-equal (multiset m) (int x) w = false
-equal (multiset m) (collection vs) (int y) = false
-equal (multiset m) (collection vs) (collection ws) = pairedOff (λ a b. equal m a b) vs ws
+-- Equality under a matcher; "two tuples are equal part by part". (Under something nothing is compared: no tag 3 stands there.)
+unfoldable mutual
+  unfolding same inOrder pairedOff
+
+  pub equal : Matcher → Value → Value → Bool
+  equal something v w = false
+  equal integer (int x) (int y) = same x y
+  equal integer (int x) (collection ws) = false
+  equal integer (int x) (tupled ws) = false
+  equal integer (collection vs) w = false
+  equal integer (tupled vs) w = false
+  equal (list m) (int x) w = false
+  equal (list m) (collection vs) (int y) = false
+  equal (list m) (collection vs) (collection ws) = inOrder (λ a b. equal m a b) vs ws
+  equal (list m) (collection vs) (tupled ws) = false
+  equal (list m) (tupled vs) w = false
+  equal (multiset m) (int x) w = false
+  equal (multiset m) (collection vs) (int y) = false
+  equal (multiset m) (collection vs) (collection ws) = pairedOff (λ a b. equal m a b) vs ws
+  equal (multiset m) (collection vs) (tupled ws) = false
+  equal (multiset m) (tupled vs) w = false
+  equal (tupleOf ms) (int x) w = false
+  equal (tupleOf ms) (collection vs) w = false
+  equal (tupleOf ms) (tupled vs) (int y) = false
+  equal (tupleOf ms) (tupled vs) (collection ws) = false
+  equal (tupleOf ms) (tupled vs) (tupled ws) = equalParts ms vs ws
+
+  pub equalParts : Matchers → Values → Values → Bool
+  equalParts noMatchers empty empty = true
+  equalParts noMatchers empty (w ▸ ws) = false
+  equalParts noMatchers (v ▸ vs) ws = false
+  equalParts (m ▸ᵐ ms) empty ws = false
+  equalParts (m ▸ᵐ ms) (v ▸ vs) empty = false
+  equalParts (m ▸ᵐ ms) (v ▸ vs) (w ▸ ws) = equal m v w && equalParts ms vs ws
 
 -- Tag 2: the constant integer c against v.
 unfoldable pub isConstant : ℤ → Value → Bool
 unfolding equal
 isConstant c v = equal integer (int c) v
 
--- A value, plus c. (At a collection c is 0.)
+-- A value, plus c. (At a collection or a tuple c is 0.)
 unfoldable pub raised : ℤ → Value → Value
 unfolding plus
 raised c (int x) = int (plus x c)
 raised c (collection vs) = collection vs
+raised c (tupled vs) = tupled vs
 
 -- Tag 3: the value of variable x, plus c, against v.
 unfoldable pub isValue : Matcher → Bindings → ℤ → ℤ → Value → Bool
@@ -80,3 +102,4 @@ unfoldable pub isEmpty : Value → Bool
 isEmpty (int x) = false
 isEmpty (collection empty) = true
 isEmpty (collection (v ▸ vs)) = false
+isEmpty (tupled vs) = false

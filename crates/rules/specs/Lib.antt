@@ -13,4 +13,5 @@ pub mod Review
 pub mod Services
 pub mod Tables
 pub mod Worked
+pub mod WorkedTuples
 pub mod Refusals

@@ -4,11 +4,12 @@ use mathlib.Core.Bool.{true, false}
 use mathlib.Core.Option.{Option, none, some}
 use mathlib.Core.List.{List, [], _∷_}
 use lib.ListN.{length, getElem?}
+use mathlib.Core.Bool.{_&&_}
 use lib.Dec.{leb}
 use lib.IntN.{ℤ, pos, negsuc}
-use Rattle.rules.specs.Forms.{Matcher, something, integer, list, multiset}
-use Rattle.rules.specs.Forms.{Pattern, wildcard, variable, constant, value, nil, cons, join}
-use Rattle.rules.specs.Forms.{Value, int, collection, Values, empty, _▸_}
+use Rattle.rules.specs.Forms.{Matcher, something, integer, list, multiset, tupleOf, Matchers, noMatchers, _▸ᵐ_}
+use Rattle.rules.specs.Forms.{Pattern, wildcard, variable, constant, value, nil, cons, join, tuple, Patterns, noPatterns, _▸ᵖ_}
+use Rattle.rules.specs.Forms.{Value, int, collection, tupled, Values, empty, _▸_}
 
 -- What a test finds: `ok` with what it was after, or the place of the fault.
 pub data Verdict (A : Type 0) : Type 0 where
@@ -68,13 +69,26 @@ whole r ws = r 0 ws then ended
 unfoldable pub limited : {A : Type 0} → ℕ → (List ℤ → Verdict A) → List ℤ → Verdict A
 limited most r ws = elim (leb (length ws) most) [ true ↦ r ws | false ↦ fault most ]
 
--- ---- Matcher: 0 something; 1 integer; 2 M list of M; 3 M multiset of M.
+-- n forms, one after the other, gathered from the right.
+unfoldable pub times : {A As : Type 0} → As → (A → As → As) → Reader A → ℕ → Reader As
+unfolding _>>=_ give
+times none′ more part zero at ws = give none′ at ws
+times none′ more part (suc n) at ws = (part >>= λ a. (λ i us. times none′ more part n i us) >>= λ as′. give (more a as′)) at ws
+
+-- A tuple's width: "k from 2 to 4".
+unfoldable pub width : ℤ → Option ℕ
+width (pos n) = elim (leb 2 n && leb n 4) [ true ↦ some n | false ↦ none ]
+width (negsuc n) = none
+
+-- ---- Matcher, at most 64 words: 0 something; 1 integer; 2 M list of M; 3 M multiset of M; 4 k and k matchers, a tuple.
 
 pub data MatcherTag : Type 0 where
   bare : Matcher → MatcherTag
   of : (Matcher → Matcher) → MatcherTag
+  ofAll : (Matchers → Matcher) → MatcherTag
 
--- `left` tags 2 or 3 may still come; with none left the table ends before them, so that one is a fault at its own place.
+-- `left` lists, multisets or tuples may still stand one inside the other; with none left the table ends before them, so that one is a fault at its
+-- own place.
 unfoldable pub matcherTags : (left : ℕ) → List MatcherTag
 matcherTags zero = bare something ∷ bare integer ∷ []
 matcherTags (suc left) =
@@ -82,30 +96,33 @@ matcherTags (suc left) =
     ∷ bare integer  -- 1    integer
     ∷ of list  -- 2 M  list of M
     ∷ of multiset  -- 3 M  multiset of M
+    ∷ ofAll tupleOf  -- 4 k ..  tuple of k matchers
     ∷ []
 
 unfoldable pub matcherParts : Reader Matcher → MatcherTag → Reader Matcher
-unfolding _>>=_ give
+unfolding _>>=_ give known width times
 matcherParts part (bare m) = give m
 matcherParts part (of f) = part >>= λ m. give (f m)
+matcherParts part (ofAll f) = known width >>= λ k. times noMatchers _▸ᵐ_ part k >>= λ ms. give (f ms)
 
 unfoldable pub matcher : (left : ℕ) → Reader Matcher
 unfolding _>>=_ known entry matcherTags matcherParts
 matcher zero at ws = (known (entry (matcherTags zero)) >>= matcherParts (λ i us. fault i)) at ws
 matcher (suc left) at ws = (known (entry (matcherTags (suc left))) >>= matcherParts (λ i us. matcher left i us)) at ws
 
--- "At most four tags 2 or 3."
+-- Four levels along each path.
 unfoldable pub readMatcher : List ℤ → Verdict Matcher
-unfolding matcher whole
-readMatcher = whole (matcher 4)
+unfolding matcher whole limited
+readMatcher = limited 64 (whole (matcher 4))
 
--- ---- Pattern, at most 256 words. A tag has no operand, one or two; or two parts.
+-- ---- Pattern, at most 256 words. A tag has no operand, one or two; or two parts; or a width and so many parts.
 
 pub data PatternTag : Type 0 where
   alone : Pattern → PatternTag
   operand : (ℤ → Pattern) → PatternTag
   operands : (ℤ → ℤ → Pattern) → PatternTag
   parts : (Pattern → Pattern → Pattern) → PatternTag
+  wide : (Patterns → Pattern) → PatternTag
 
 unfoldable pub patternTags : List PatternTag
 patternTags =
@@ -116,14 +133,16 @@ patternTags =
     ∷ alone nil  -- 4      nil
     ∷ parts cons  -- 5 p q  cons: an element and the rest
     ∷ parts join  -- 6 p q  join: a front and a back
+    ∷ wide tuple  -- 7 k ..  tuple of k patterns
     ∷ []
 
 unfoldable pub patternParts : Reader Pattern → PatternTag → Reader Pattern
-unfolding _>>=_ give word
+unfolding _>>=_ give word known width times
 patternParts part (alone p) = give p
 patternParts part (operand f) = word >>= λ x. give (f x)
 patternParts part (operands f) = word >>= λ x. word >>= λ y. give (f x y)
 patternParts part (parts f) = part >>= λ p. part >>= λ q. give (f p q)
+patternParts part (wide f) = known width >>= λ k. times noPatterns _▸ᵖ_ part k >>= λ ps. give (f ps)
 
 -- A pattern in which no more than `depth` tags stand one inside the other. Each is a word, so 256 are enough for 256 words.
 unfoldable pub pattern : (depth : ℕ) → Reader Pattern
@@ -135,42 +154,39 @@ unfoldable pub readPattern : List ℤ → Verdict Pattern
 unfolding pattern whole limited
 readPattern = limited 256 (whole (pattern 256))
 
--- ---- Target, at most 1,024 words: 0 x is the integer x; 1 n and then n values is a collection.
+-- ---- Target, at most 1,024 words: 0 x is the integer x; 1 n and then n values is a collection; 2 k and then k values is a tuple.
 
 pub data TargetTag : Type 0 where
   one : (ℤ → Value) → TargetTag
-  many : (Values → Value) → TargetTag
-
--- `depth` collections may still stand one inside the other; with none left the table ends before tag 1, so that one is a fault at its own place.
-unfoldable pub targetTags : (depth : ℕ) → List TargetTag
-targetTags zero = one int ∷ []
-targetTags (suc depth) =
-    one int  -- 0 x    the integer x
-    ∷ many collection  -- 1 n ..  n values
-    ∷ []
+  many : (ℤ → Option ℕ) → (Values → Value) → TargetTag
 
 -- "A collection has at most 64 elements."
 unfoldable pub atMost64 : ℤ → Option ℕ
 atMost64 (pos n) = elim (leb n 64) [ true ↦ some n | false ↦ none ]
 atMost64 (negsuc n) = none
 
--- n values, one after the other.
-unfoldable pub times : Reader Value → ℕ → Reader Values
-unfolding _>>=_ give
-times part zero at ws = give empty at ws
-times part (suc n) at ws = (part >>= λ v. (λ i us. times part n i us) >>= λ vs. give (v ▸ vs)) at ws
+-- `depth` collections or tuples may still stand one inside the other; with none left the table ends before them, so that one is a fault at its own
+-- place.
+unfoldable pub targetTags : (depth : ℕ) → List TargetTag
+unfolding atMost64 width
+targetTags zero = one int ∷ []
+targetTags (suc depth) =
+    one int  -- 0 x    the integer x
+    ∷ many atMost64 collection  -- 1 n ..  n values
+    ∷ many width tupled  -- 2 k ..  k values
+    ∷ []
 
 unfoldable pub targetParts : Reader Value → TargetTag → Reader Value
-unfolding _>>=_ give word known atMost64 times
+unfolding _>>=_ give word known times
 targetParts part (one f) = word >>= λ x. give (f x)
-targetParts part (many f) = known atMost64 >>= λ n. times part n >>= λ vs. give (f vs)
+targetParts part (many number f) = known number >>= λ n. times empty _▸_ part n >>= λ vs. give (f vs)
 
 unfoldable pub target : (depth : ℕ) → Reader Value
 unfolding _>>=_ known entry targetTags targetParts
 target zero at ws = (known (entry (targetTags zero)) >>= targetParts (λ i us. fault i)) at ws
 target (suc depth) at ws = (known (entry (targetTags (suc depth))) >>= targetParts (λ i us. target depth i us)) at ws
 
--- "A collection may stand inside collections to depth 8."
+-- Eight levels along each path.
 unfoldable pub readTarget : List ℤ → Verdict Value
 unfolding target whole limited
 readTarget = limited 1024 (whole (target 8))

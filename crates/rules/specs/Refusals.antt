@@ -28,6 +28,11 @@ deep zero = []
 deep (suc zero) = nums (1 ∷ 0 ∷ [])
 deep (suc (suc n)) = nums (1 ∷ 1 ∷ []) ++ deep (suc n)
 
+-- n nested pairs, each with an integer beside the next.
+abbrev deepPairs : ℕ → List ℤ
+deepPairs zero = nums (0 ∷ 5 ∷ [])
+deepPairs (suc n) = nums (2 ∷ 2 ∷ 0 ∷ 1 ∷ []) ++ deepPairs n
+
 -- n nested collections, and in the innermost an integer.
 abbrev deepInt : ℕ → List ℤ
 deepInt zero = nums (0 ∷ 5 ∷ [])
@@ -50,6 +55,10 @@ listInteger = nums (2 ∷ 1 ∷ [])
 abbrev multisetInteger : List ℤ
 multisetInteger = nums (3 ∷ 1 ∷ [])
 
+-- a pair of integers
+abbrev pair : List ℤ
+pair = nums (4 ∷ 2 ∷ 1 ∷ 1 ∷ [])
+
 abbrev wildcard : List ℤ
 wildcard = nums (0 ∷ [])
 
@@ -61,7 +70,7 @@ table =
     -- 1 matcher
     refuses none none none 1 0  -- cut short
     ∷ refuses (nums (2 ∷ 3 ∷ [])) none none 1 2
-    ∷ refuses (nums (4 ∷ [])) none none 1 0  -- a wrong tag
+    ∷ refuses (nums (5 ∷ [])) none none 1 0  -- a wrong tag
     ∷ refuses (minus 1 ∷ []) none none 1 0
     ∷ refuses (nums (3 ∷ 9 ∷ [])) none none 1 1
     ∷ refuses (nums (1 ∷ 1 ∷ [])) none none 1 1  -- left over
@@ -69,13 +78,26 @@ table =
     ∷ passes (nums (2 ∷ 2 ∷ 2 ∷ 2 ∷ 1 ∷ [])) wildcard (braces []) 1 3  -- four tags 2 or 3
     ∷ refuses (nums (2 ∷ 2 ∷ 2 ∷ 2 ∷ 2 ∷ 1 ∷ [])) wildcard (braces []) 1 4  -- a fifth
     ∷ refuses (nums (2 ∷ 3 ∷ 2 ∷ 3 ∷ 3 ∷ [])) wildcard (braces []) 1 4  -- a fifth that also ends the slice
-    ∷ refuses (replicate 2000 (pos 1)) none none 1 1
+    ∷ refuses (replicate 64 (pos 1)) none none 1 1  -- 64 words, left over
+    ∷ refuses (replicate 65 (pos 1)) none none 1 64  -- 65 words, before any other look
+    ∷ refuses (nums (4 ∷ [])) none none 1 1  -- a tuple cut short
+    ∷ refuses (nums (4 ∷ 2 ∷ 1 ∷ [])) none none 1 3
+    ∷ refuses (nums (4 ∷ 1 ∷ 1 ∷ [])) none none 1 1  -- a width out of range
+    ∷ refuses (nums (4 ∷ 5 ∷ 1 ∷ [])) none none 1 1
+    ∷ refuses (pos 4 ∷ minus 2 ∷ []) none none 1 1
+    ∷ passes (nums (4 ∷ 2 ∷ 2 ∷ 2 ∷ 2 ∷ 1 ∷ 2 ∷ 2 ∷ 2 ∷ 1 ∷ [])) wildcard (nums (2 ∷ 2 ∷ []) ++ braces [] ++ braces []) 1 3  -- four levels along each path
+    ∷ refuses (nums (2 ∷ 2 ∷ 2 ∷ 4 ∷ 2 ∷ 2 ∷ 1 ∷ 1 ∷ [])) none none 1 5  -- a fifth level
+    ∷ refuses (nums (2 ∷ 2 ∷ 2 ∷ 2 ∷ 4 ∷ [])) none none 1 4
     -- 2 pattern
     ∷ refuses integer none none 2 0  -- cut short
     ∷ refuses integer (nums (1 ∷ [])) none 2 1
     ∷ refuses integer (nums (3 ∷ 0 ∷ [])) none 2 2
     ∷ refuses integer (nums (5 ∷ 0 ∷ [])) none 2 2
-    ∷ refuses integer (nums (7 ∷ [])) none 2 0  -- a wrong tag
+    ∷ refuses integer (nums (8 ∷ [])) none 2 0  -- a wrong tag
+    ∷ refuses integer (nums (7 ∷ [])) none 2 1  -- a tuple cut short
+    ∷ refuses integer (nums (7 ∷ 3 ∷ 0 ∷ 0 ∷ [])) none 2 4
+    ∷ refuses integer (nums (7 ∷ 1 ∷ 0 ∷ [])) none 2 1  -- a width out of range
+    ∷ refuses integer (nums (7 ∷ 5 ∷ 0 ∷ [])) none 2 1
     ∷ refuses integer (pos 5 ∷ pos 0 ∷ minus 1 ∷ []) none 2 2
     ∷ refuses integer (nums (0 ∷ 0 ∷ [])) none 2 1  -- left over
     ∷ passes multisetInteger (chain 127) (braces []) 0 1  -- 255 words
@@ -102,13 +124,23 @@ table =
     ∷ refuses listInteger (nums (6 ∷ 0 ∷ 5 ∷ 4 ∷ 0 ∷ [])) none 4 3  -- nil under integer
     ∷ refuses listInteger (nums (6 ∷ 1 ∷ 0 ∷ 3 ∷ 0 ∷ 1 ∷ [])) none 4 3  -- c is not 0 at a list
     ∷ refuses (nums (2 ∷ 0 ∷ [])) (nums (6 ∷ 1 ∷ 0 ∷ 3 ∷ 0 ∷ 0 ∷ [])) none 4 3  -- something occurs
-    ∷ refuses listInteger (nums (5 ∷ 1 ∷ 0 ∷ 3 ∷ 0 ∷ 0 ∷ [])) none 4 3  -- the variable stands under another matcher
+    ∷ refuses listInteger (nums (5 ∷ 1 ∷ 0 ∷ 3 ∷ 0 ∷ 0 ∷ [])) none 4 3  -- the variable stands under a matcher of another shape
+    ∷ refuses (nums (4 ∷ 2 ∷ 2 ∷ 0 ∷ 2 ∷ 1 ∷ [])) (nums (7 ∷ 2 ∷ 1 ∷ 0 ∷ 3 ∷ 0 ∷ 0 ∷ [])) none 4 4  -- something is a shape of its own
+    ∷ refuses pair (nums (7 ∷ 3 ∷ 0 ∷ 0 ∷ 0 ∷ [])) none 4 0  -- unequal widths
+    ∷ refuses integer (nums (7 ∷ 2 ∷ 0 ∷ 0 ∷ [])) none 4 0
+    ∷ refuses pair (nums (5 ∷ 0 ∷ 0 ∷ [])) none 4 0
+    ∷ refuses pair (nums (7 ∷ 2 ∷ 0 ∷ 4 ∷ [])) none 4 3
     -- 5 target
     ∷ refuses something wildcard none 5 0  -- cut short
     ∷ refuses something wildcard (nums (0 ∷ [])) 5 1
     ∷ refuses something wildcard (nums (1 ∷ [])) 5 1
     ∷ refuses something wildcard (nums (1 ∷ 2 ∷ 0 ∷ 7 ∷ [])) 5 4
-    ∷ refuses something wildcard (nums (2 ∷ [])) 5 0  -- a wrong tag
+    ∷ refuses something wildcard (nums (3 ∷ [])) 5 0  -- a wrong tag
+    ∷ refuses something wildcard (nums (2 ∷ [])) 5 1  -- a tuple cut short
+    ∷ refuses something wildcard (nums (2 ∷ 2 ∷ 0 ∷ 1 ∷ [])) 5 4
+    ∷ refuses something wildcard (nums (2 ∷ 1 ∷ 0 ∷ 1 ∷ [])) 5 1  -- a width out of range
+    ∷ refuses something wildcard (nums (2 ∷ 5 ∷ 0 ∷ 1 ∷ [])) 5 1
+    ∷ refuses something wildcard (deepPairs 9) 5 32  -- a tuple too deep
     ∷ refuses something wildcard (nums (1 ∷ 1 ∷ 3 ∷ 0 ∷ [])) 5 2
     ∷ refuses something wildcard (nums (0 ∷ 7 ∷ 7 ∷ [])) 5 2  -- left over
     ∷ refuses something wildcard (pos 1 ∷ minus 1 ∷ []) 5 1  -- a wrong count
@@ -124,6 +156,10 @@ table =
     ∷ refuses integer wildcard (braces []) 6 0
     ∷ refuses multisetInteger wildcard (nums (0 ∷ 7 ∷ [])) 6 0
     ∷ refuses listInteger wildcard (nums (1 ∷ 2 ∷ 0 ∷ 7 ∷ 1 ∷ 0 ∷ [])) 6 4
+    ∷ refuses pair wildcard (nums (2 ∷ 3 ∷ 0 ∷ 1 ∷ 0 ∷ 2 ∷ 0 ∷ 3 ∷ [])) 6 0  -- unequal widths
+    ∷ refuses pair wildcard (braces []) 6 0
+    ∷ refuses pair wildcard (nums (2 ∷ 2 ∷ 0 ∷ 1 ∷ 1 ∷ 0 ∷ [])) 6 4
+    ∷ refuses listInteger wildcard (nums (2 ∷ 2 ∷ 0 ∷ 1 ∷ 0 ∷ 2 ∷ [])) 6 0
     ∷ refuses (nums (3 ∷ 2 ∷ 1 ∷ [])) wildcard (nums (1 ∷ 2 ∷ 1 ∷ 1 ∷ 0 ∷ 5 ∷ 0 ∷ 7 ∷ [])) 6 6
     -- the order of the tests
     ∷ refuses (nums (9 ∷ [])) (replicate 257 (pos 0)) none 1 0

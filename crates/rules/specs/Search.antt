@@ -5,10 +5,10 @@ use mathlib.Core.List.{List, [], _∷_, _++_, map}
 use lib.ListN.{length}
 use lib.Dec.{leb}
 use lib.IntN.{ℤ}
-use Rattle.rules.specs.Forms.{Matcher, something, integer, list, multiset}
-use Rattle.rules.specs.Forms.{Pattern, wildcard, variable, constant, value, nil, cons, join}
-use Rattle.rules.specs.Forms.{Value, int, collection, Values, empty, _▸_, words}
-use Rattle.rules.specs.Fit.{element}
+use Rattle.rules.specs.Forms.{Matcher, something, integer, list, multiset, tupleOf, Matchers, noMatchers, _▸ᵐ_}
+use Rattle.rules.specs.Forms.{Pattern, wildcard, variable, constant, value, nil, cons, join, tuple, Patterns, noPatterns, _▸ᵖ_}
+use Rattle.rules.specs.Forms.{Value, int, collection, tupled, Values, empty, _▸_, words}
+use Rattle.rules.specs.Fit.{element, members, isSomething}
 use Rattle.rules.specs.Equality.{Bindings, Pick, picks, isConstant, isValue, isEmpty}
 
 -- ---- What a cons and a join divide a value into, in the order in which the states follow.
@@ -26,8 +26,11 @@ consHalves integer v = []
 consHalves (list m) (int x) = []
 consHalves (list m) (collection empty) = []
 consHalves (list m) (collection (v ▸ vs)) = record { first = v; second = collection vs } ∷ []
+consHalves (list m) (tupled vs) = []
 consHalves (multiset m) (int x) = []
 consHalves (multiset m) (collection vs) = map (λ p. record { first = p .one; second = collection (p .others) }) (picks vs)
+consHalves (multiset m) (tupled vs) = []
+consHalves (tupleOf ms) v = []
 
 pub record Cut : Type 0 where
   pub front : Values
@@ -46,6 +49,7 @@ unfoldable pub joinHalves : Value → List Halves
 unfolding cuts
 joinHalves (int x) = []
 joinHalves (collection vs) = map (λ c. record { first = collection (c .front); second = collection (c .back) }) (cuts vs)
+joinHalves (tupled vs) = []
 
 -- ---- States.
 
@@ -56,20 +60,28 @@ pub data Atom : Type 0 where
 pub data State : Type 0 where
   state : List Atom → Bindings → State
 
-unfoldable pub isSomething : Matcher → Bool
-isSomething something = true
-isSomething integer = false
-isSomething (list m) = false
-isSomething (multiset m) = false
-
 -- "If equal, the atom is dropped; else none follows."
 unfoldable pub dropIf : Bool → List Atom → Bindings → List State
 dropIf true older e = state older e ∷ []
 dropIf false older e = []
 
+-- The k atoms of a tuple's parts, in order.
+unfoldable pub atoms : Patterns → Matchers → Values → List Atom
+atoms noPatterns ms vs = []
+atoms (p ▸ᵖ ps) noMatchers vs = []
+atoms (p ▸ᵖ ps) (m ▸ᵐ ms) empty = []
+atoms (p ▸ᵖ ps) (m ▸ᵐ ms) (v ▸ vs) = atom p m v ∷ atoms ps ms vs
+
+-- A tuple: "one state follows with k atoms in order".
+unfoldable pub apart : Patterns → Matchers → Value → (older : List Atom) → Bindings → List State
+unfolding atoms
+apart ps ms (int x) older e = []
+apart ps ms (collection vs) older e = []
+apart ps ms (tupled vs) older e = state (atoms ps ms vs ++ older) e ∷ []
+
 -- The states that follow when the atom (p, m, v) is taken up: "new atoms stand before the older ones, first part first".
 unfoldable pub after : Pattern → Matcher → Value → (older : List Atom) → Bindings → List State
-unfolding isSomething dropIf isConstant isValue isEmpty element consHalves joinHalves
+unfolding isSomething dropIf isConstant isValue isEmpty element members consHalves joinHalves apart
 after wildcard m v older e = elim (isSomething m) [
   | true ↦ state older e ∷ []
   | false ↦ state (atom wildcard something v ∷ older) e ∷ []
@@ -83,6 +95,7 @@ after (value x c) m v older e = dropIf (isValue m e x c v) older e
 after nil m v older e = dropIf (isEmpty v) older e
 after (cons p q) m v older e = map (λ h. state (atom p (element m) (h .first) ∷ atom q m (h .second) ∷ older) e) (consHalves m v)
 after (join p q) m v older e = map (λ h. state (atom p m (h .first) ∷ atom q m (h .second) ∷ older) e) (joinHalves v)
+after (tuple ps) m v older e = apart ps (members m) v older e
 
 -- "The first state has one atom."
 unfoldable pub start : Matcher → Pattern → Value → State

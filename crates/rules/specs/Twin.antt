@@ -7,13 +7,13 @@ use mathlib.Core.Logic.{_↔_}
 use mathlib.Core.Option.{Option, none, some}
 use mathlib.Core.List.{List, [], _∷_, _++_, append-nil, append-assoc}
 use lib.Dec.{T, leb, leb→le, le→leb}
-use Rattle.rules.specs.Forms.{Matcher, something, integer, list, multiset}
-use Rattle.rules.specs.Forms.{Pattern, wildcard, variable, constant, value, nil, cons, join}
-use Rattle.rules.specs.Forms.{Value, int, collection, Values, empty, _▸_, count}
-use Rattle.rules.specs.Fit.{element}
+use Rattle.rules.specs.Forms.{Matcher, something, integer, list, multiset, tupleOf, Matchers, noMatchers, _▸ᵐ_}
+use Rattle.rules.specs.Forms.{Pattern, wildcard, variable, constant, value, nil, cons, join, tuple, Patterns, noPatterns, _▸ᵖ_}
+use Rattle.rules.specs.Forms.{Value, int, collection, tupled, Values, empty, _▸_, count}
+use Rattle.rules.specs.Fit.{element, members}
 use Rattle.rules.specs.Equality.{Bindings, isConstant, isValue, isEmpty}
-use Rattle.rules.specs.Ways.{Way, at, without, front, back, ConsBy, JoinBy, Both, Follows, Good}
-use Rattle.rules.specs.Following.{_thenₒ_, Divided, divided, consBy, cutBy, joinBy, Followed, followed, ifSo, follow, allUsed, bindingsBy}
+use Rattle.rules.specs.Ways.{Way, at, without, front, back, ConsBy, JoinBy, Both, Next, Parts, Follows, FollowsAll, Good}
+use Rattle.rules.specs.Following.{_thenₒ_, Divided, divided, consBy, cutBy, joinBy, Followed, followed, ifSo, parted, follow, followAll, allUsed, bindingsBy}
 
 absurd-none : {A : Type 0} {B : Type 0} (b : B) → none ≡ some b → A
 absurd-none b e = let z : _≡_ {A = ℕ} 0 1 = cc in absurd (omega arith)
@@ -41,13 +41,17 @@ cons-by integer v here a b r h = absurd h
 cons-by (list m) (int x) here a b r h = absurd h
 cons-by (list m) (collection empty) here a b r h = absurd h
 cons-by (list m) (collection (x ▸ xs)) here a b r h = rw (h .0, h .1, h .2)
+cons-by (list m) (tupled vs) here a b r h = absurd h
 cons-by (multiset m) (int x) here a b r h = absurd h
 cons-by (multiset m) (collection vs) here a b r h = rw (h .1, h .2, h .3)
+cons-by (multiset m) (tupled vs) here a b r h = absurd h
+cons-by (tupleOf ms) v here a b r h = absurd h
 
 join-by : (v : Value) (here : Way) (a b : Value) (r : Way) → JoinBy v here a b → joinBy v (here ++ r) ≡ some (divided a b r)
 unfolding JoinBy joinBy divided cutBy
 join-by (int x) here a b r h = absurd h
 join-by (collection vs) here a b r h = rw (h .1, true-path (leb (h .0) (count vs)) (le→leb (h .0) (count vs) (h .2)), h .3, h .4)
+join-by (tupled vs) here a b r h = absurd h
 
 module _ (by : Way → Option Divided) (F : Value → Bindings → Way → Option Followed) (G : Value → Bindings → Way → Option Followed) where
   -- How a cons or a join is followed.
@@ -93,17 +97,53 @@ module _ (by : Way → Option Divided) (F : Value → Bindings → Way → Optio
           },
         )
 
-follows-follow : (p : Pattern) (m : Matcher) (v : Value) (e : Bindings) (w : Way) (d : Bindings) (r : Way) → Follows p m v e w d → follow p m v e (w ++ r) ≡ some (followed d r)
-unfolding Follows follow followed
-follows-follow wildcard m v e w d r h = rw (h .0, h .1)
-follows-follow (variable x) m v e w d r h = rw (h .0, h .1)
-follows-follow (constant c) m v e w d r h = if-so (isConstant c v) e d w r (h .0) (h .1) (h .2)
-follows-follow (value x c) m v e w d r h = if-so (isValue m e x c v) e d w r (h .0) (h .1) (h .2)
-follows-follow nil m v e w d r h = if-so (isEmpty v) e d w r (h .0) (h .1) (h .2)
-follows-follow (cons p q) m v e w d r h = both-by (consBy m v) (λ a x y. follow p (element m) a x y) (λ b x y. follow q m b x y) (ConsBy m v) _ _
-    (cons-by m v) (λ a. follows-follow p (element m) a) (λ b. follows-follow q m b) e w d r h
-follows-follow (join p q) m v e w d r h = both-by (joinBy v) (λ a x y. follow p m a x y) (λ b x y. follow q m b x y) (JoinBy v) _ _
-    (join-by v) (λ a. follows-follow p m a) (λ b. follows-follow q m b) e w d r h
+-- One part of a tuple and then the others, both ways.
+module _ (F G : Bindings → Way → Option Followed) (P Q : Bindings → Way → Bindings → Type 0) where
+  next-by : ((e : Bindings) (w : Way) (d : Bindings) (r : Way) → P e w d → F e (w ++ r) ≡ some (followed d r))
+      → ((e : Bindings) (w : Way) (d : Bindings) (r : Way) → Q e w d → G e (w ++ r) ≡ some (followed d r))
+      → (e : Bindings) (w : Way) (d : Bindings) (r : Way) → Next P Q e w d → (F e (w ++ r) thenₒ λ f. G (f .bound) (f .left)) ≡ some (followed d r)
+  unfolding _thenₒ_ followed
+  next-by f g e w d r h =
+      let shape : w ++ r ≡ h .one ++ (h .two ++ r) = sym (ap (λ u. u ++ r) (h .way)) ∙ simp append-assoc in
+      rw (shape, f e (h .one) (h .between) (h .two ++ r) (h .first)) (g (h .between) (h .two) d r (h .others))
+
+  by-next : ((e : Bindings) (w : Way) (x : Followed) → F e w ≡ some x → (u : Way) × (u ++ x .left ≡ w) × P e u (x .bound))
+      → ((e : Bindings) (w : Way) (x : Followed) → G e w ≡ some x → (u : Way) × (u ++ x .left ≡ w) × Q e u (x .bound))
+      → (e : Bindings) (w : Way) (x : Followed) → (F e w thenₒ λ f. G (f .bound) (f .left)) ≡ some x → (u : Way) × (u ++ x .left ≡ w) × Next P Q e u (x .bound)
+  by-next f g e w x h =
+      let d = then-some (F e w) _ x h in
+      let k = f e w (d .0) (d .1) in
+      let l = g (d .0 .bound) (d .0 .left) x (d .2) in
+      let p : (k .0 ++ l .0) ++ x .left ≡ k .0 ++ (l .0 ++ x .left) = simp append-assoc in (
+        k .0 ++ l .0,
+        p ∙ ap {B = Way} (λ u. k .0 ++ u) (l .1) ∙ k .1,
+        record { one = k .0; two = l .0; between = d .0 .bound; first = k .2; others = l .2; way = refl },
+      )
+
+mutual
+  unfolding Follows follow followed
+
+  follows-follow : (p : Pattern) (m : Matcher) (v : Value) (e : Bindings) (w : Way) (d : Bindings) (r : Way) → Follows p m v e w d → follow p m v e (w ++ r) ≡ some (followed d r)
+  follows-follow wildcard m v e w d r h = rw (h .0, h .1)
+  follows-follow (variable x) m v e w d r h = rw (h .0, h .1)
+  follows-follow (constant c) m v e w d r h = if-so (isConstant c v) e d w r (h .0) (h .1) (h .2)
+  follows-follow (value x c) m v e w d r h = if-so (isValue m e x c v) e d w r (h .0) (h .1) (h .2)
+  follows-follow nil m v e w d r h = if-so (isEmpty v) e d w r (h .0) (h .1) (h .2)
+  follows-follow (cons p q) m v e w d r h = both-by (consBy m v) (λ a x y. follow p (element m) a x y) (λ b x y. follow q m b x y) (ConsBy m v) _ _
+      (cons-by m v) (λ a. follows-follow p (element m) a) (λ b. follows-follow q m b) e w d r h
+  follows-follow (join p q) m v e w d r h = both-by (joinBy v) (λ a x y. follow p m a x y) (λ b x y. follow q m b x y) (JoinBy v) _ _
+      (join-by v) (λ a. follows-follow p m a) (λ b. follows-follow q m b) e w d r h
+  follows-follow (tuple ps) m (int x) e w d r h = absurd h
+  follows-follow (tuple ps) m (collection vs) e w d r h = absurd h
+  follows-follow (tuple ps) m (tupled vs) e w d r h = follows-follow-all ps (members m) vs e w d r h
+
+  follows-follow-all : (ps : Patterns) (ms : Matchers) (vs : Values) (e : Bindings) (w : Way) (d : Bindings) (r : Way) → FollowsAll ps ms vs e w d
+      → followAll ps ms vs e (w ++ r) ≡ some (followed d r)
+  follows-follow-all noPatterns ms vs e w d r h = rw (h .0, h .1)
+  follows-follow-all (p ▸ᵖ ps) noMatchers vs e w d r h = rw (h .0, h .1)
+  follows-follow-all (p ▸ᵖ ps) (m ▸ᵐ ms) empty e w d r h = rw (h .0, h .1)
+  follows-follow-all (p ▸ᵖ ps) (m ▸ᵐ ms) (v ▸ vs) e w d r h = next-by (λ x y. follow p m v x y) (λ x y. followAll ps ms vs x y) _ _
+      (λ x y z t g. follows-follow p m v x y z t g) (λ x y z t g. follows-follow-all ps ms vs x y z t g) e w d r h
 
 -- ---- From the computation to the relation.
 
@@ -125,6 +165,7 @@ by-cons (list m) (collection empty) w x h = absurd-none x h
 by-cons (list m) (collection (y ▸ ys)) w x h =
     let q : divided y (collection ys) w ≡ x = cc in
     ([], sym (ap (λ (z : Divided). z .left) q), (refl, sym (ap (λ (z : Divided). z .first) q), sym (ap (λ (z : Divided). z .second) q)))
+by-cons (list m) (tupled vs) w x h = absurd-none x h
 by-cons (multiset m) (int y) w x h = absurd-none x h
 by-cons (multiset m) (collection vs) [] x h = absurd-none x h
 by-cons (multiset m) (collection vs) (k ∷ w) x h =
@@ -134,6 +175,8 @@ by-cons (multiset m) (collection vs) (k ∷ w) x h =
       ap {B = Way} (λ u. k ∷ u) (sym (ap (λ (z : Divided). z .left) q)),
       (k, refl, c .1 ∙ ap (λ (z : Divided). some (z .first)) q, sym (ap (λ (z : Divided). z .second) q)),
     )
+by-cons (multiset m) (tupled vs) w x h = absurd-none x h
+by-cons (tupleOf ms) v w x h = absurd-none x h
 
 by-cut : (b : Bool) (d x : Divided) → cutBy b d ≡ some x → T b × (d ≡ x)
 unfolding cutBy
@@ -150,19 +193,33 @@ by-join (collection vs) (k ∷ w) x h =
       ap {B = Way} (λ u. k ∷ u) (sym (ap (λ (z : Divided). z .left) (c .1))),
       (k, refl, leb→le k (count vs) (c .0), sym (ap (λ (z : Divided). z .first) (c .1)), sym (ap (λ (z : Divided). z .second) (c .1))),
     )
+by-join (tupled vs) w x h = absurd-none x h
 
-follow-follows : (p : Pattern) (m : Matcher) (v : Value) (e : Bindings) (w : Way) (x : Followed) → follow p m v e w ≡ some x
-    → (u : Way) × (u ++ x .left ≡ w) × Follows p m v e u (x .bound)
-unfolding Follows follow followed
-follow-follows wildcard m v e w x h = leaf-follows e w x h
-follow-follows (variable y) m v e w x h = leaf-follows (e ++ (v ∷ [])) w x h
-follow-follows (constant c) m v e w x h = so-if (isConstant c v) e w x h
-follow-follows (value y c) m v e w x h = so-if (isValue m e y c v) e w x h
-follow-follows nil m v e w x h = so-if (isEmpty v) e w x h
-follow-follows (cons p q) m v e w x h = by-both (consBy m v) (λ a y z. follow p (element m) a y z) (λ b y z. follow q m b y z) (ConsBy m v) _ _
-    (by-cons m v) (λ a. follow-follows p (element m) a) (λ b. follow-follows q m b) e w x h
-follow-follows (join p q) m v e w x h = by-both (joinBy v) (λ a y z. follow p m a y z) (λ b y z. follow q m b y z) (JoinBy v) _ _
-    (by-join v) (λ a. follow-follows p m a) (λ b. follow-follows q m b) e w x h
+mutual
+  unfolding Follows follow followed
+
+  follow-follows : (p : Pattern) (m : Matcher) (v : Value) (e : Bindings) (w : Way) (x : Followed) → follow p m v e w ≡ some x
+      → (u : Way) × (u ++ x .left ≡ w) × Follows p m v e u (x .bound)
+  follow-follows wildcard m v e w x h = leaf-follows e w x h
+  follow-follows (variable y) m v e w x h = leaf-follows (e ++ (v ∷ [])) w x h
+  follow-follows (constant c) m v e w x h = so-if (isConstant c v) e w x h
+  follow-follows (value y c) m v e w x h = so-if (isValue m e y c v) e w x h
+  follow-follows nil m v e w x h = so-if (isEmpty v) e w x h
+  follow-follows (cons p q) m v e w x h = by-both (consBy m v) (λ a y z. follow p (element m) a y z) (λ b y z. follow q m b y z) (ConsBy m v) _ _
+      (by-cons m v) (λ a. follow-follows p (element m) a) (λ b. follow-follows q m b) e w x h
+  follow-follows (join p q) m v e w x h = by-both (joinBy v) (λ a y z. follow p m a y z) (λ b y z. follow q m b y z) (JoinBy v) _ _
+      (by-join v) (λ a. follow-follows p m a) (λ b. follow-follows q m b) e w x h
+  follow-follows (tuple ps) m (int y) e w x h = absurd-none x h
+  follow-follows (tuple ps) m (collection vs) e w x h = absurd-none x h
+  follow-follows (tuple ps) m (tupled vs) e w x h = follow-follows-all ps (members m) vs e w x h
+
+  follow-follows-all : (ps : Patterns) (ms : Matchers) (vs : Values) (e : Bindings) (w : Way) (x : Followed) → followAll ps ms vs e w ≡ some x
+      → (u : Way) × (u ++ x .left ≡ w) × FollowsAll ps ms vs e u (x .bound)
+  follow-follows-all noPatterns ms vs e w x h = leaf-follows e w x h
+  follow-follows-all (p ▸ᵖ ps) noMatchers vs e w x h = leaf-follows e w x h
+  follow-follows-all (p ▸ᵖ ps) (m ▸ᵐ ms) empty e w x h = leaf-follows e w x h
+  follow-follows-all (p ▸ᵖ ps) (m ▸ᵐ ms) (v ▸ vs) e w x h = by-next (λ y z. follow p m v y z) (λ y z. followAll ps ms vs y z) _ _
+      (λ y z t g. follow-follows p m v y z t g) (λ y z t g. follow-follows-all ps ms vs y z t g) e w x h
 
 -- ---- The theorem.
 

@@ -4,7 +4,7 @@ use mathlib.Core.Bool.{Bool, true, false, _&&_}
 use lib.Dec.{ltb}
 use lib.IntN.{ℤ, pos, negsuc}
 use Rattle.rules.specs.Numbers.{same}
-use Rattle.rules.specs.Forms.{Pattern, wildcard, variable, constant, value, nil, cons, join, span}
+use Rattle.rules.specs.Forms.{Pattern, wildcard, variable, constant, value, nil, cons, join, tuple, Patterns, noPatterns, _▸ᵖ_, span}
 use Rattle.rules.specs.Reading.{Verdict, ok, fault, _then_}
 
 -- What is demanded of the tag at an index.
@@ -23,12 +23,19 @@ isLeft (pos v) n = ltb v n
 isLeft (negsuc v) n = false
 
 -- n variables stand to the left of the pattern, whose tag is at the index; found is how many stand to the left of what follows it.
-unfoldable pub variables : Pattern → (at n : ℕ) → Verdict ℕ
-unfolding _then_ demand isNext isLeft span
-variables wildcard at n = ok n
-variables (variable v) at n = demand (isNext v n) at (suc n)
-variables (constant c) at n = ok n
-variables (value v c) at n = demand (isLeft v n) at n
-variables nil at n = ok n
-variables (cons p q) at n = variables p (at + 1) n then λ k. variables q (at + 1 + span p) k
-variables (join p q) at n = variables p (at + 1) n then λ k. variables q (at + 1 + span p) k
+unfoldable mutual
+  unfolding _then_ demand isNext isLeft span
+
+  pub variables : Pattern → (at n : ℕ) → Verdict ℕ
+  variables wildcard at n = ok n
+  variables (variable v) at n = demand (isNext v n) at (suc n)
+  variables (constant c) at n = ok n
+  variables (value v c) at n = demand (isLeft v n) at n
+  variables nil at n = ok n
+  variables (cons p q) at n = variables p (at + 1) n then λ k. variables q (at + 1 + span p) k
+  variables (join p q) at n = variables p (at + 1) n then λ k. variables q (at + 1 + span p) k
+  variables (tuple ps) at n = variablesAll ps (at + 2) n
+
+  pub variablesAll : Patterns → (at n : ℕ) → Verdict ℕ
+  variablesAll noPatterns at n = ok n
+  variablesAll (p ▸ᵖ ps) at n = variables p at n then λ k. variablesAll ps (at + span p) k

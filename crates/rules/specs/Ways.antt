@@ -5,10 +5,10 @@ use mathlib.Core.Logic.{_⊎_}
 use mathlib.Core.Option.{Option, none, some}
 use mathlib.Core.List.{List, [], _∷_, _++_}
 use lib.Dec.{T}
-use Rattle.rules.specs.Forms.{Matcher, something, integer, list, multiset}
-use Rattle.rules.specs.Forms.{Pattern, wildcard, variable, constant, value, nil, cons, join}
-use Rattle.rules.specs.Forms.{Value, int, collection, Values, empty, _▸_, count}
-use Rattle.rules.specs.Fit.{element}
+use Rattle.rules.specs.Forms.{Matcher, something, integer, list, multiset, tupleOf, Matchers, noMatchers, _▸ᵐ_}
+use Rattle.rules.specs.Forms.{Pattern, wildcard, variable, constant, value, nil, cons, join, tuple, Patterns, noPatterns, _▸ᵖ_}
+use Rattle.rules.specs.Forms.{Value, int, collection, tupled, Values, empty, _▸_, count}
+use Rattle.rules.specs.Fit.{element, members}
 use Rattle.rules.specs.Equality.{Bindings, isConstant, isValue, isEmpty}
 
 -- "A way names, for each cons under a multiset and each join in pattern order left to right, which of its states was chosen, counted in section
@@ -54,14 +54,18 @@ ConsBy integer v here a b = ⊥
 ConsBy (list m) (int x) here a b = ⊥
 ConsBy (list m) (collection empty) here a b = ⊥
 ConsBy (list m) (collection (x ▸ xs)) here a b = (here ≡ []) × (a ≡ x) × (b ≡ collection xs)
+ConsBy (list m) (tupled vs) here a b = ⊥
 ConsBy (multiset m) (int x) here a b = ⊥
 ConsBy (multiset m) (collection vs) here a b = (k : ℕ) × (here ≡ k ∷ []) × (at vs k ≡ some a) × (b ≡ collection (without vs k))
+ConsBy (multiset m) (tupled vs) here a b = ⊥
+ConsBy (tupleOf ms) v here a b = ⊥
 
 -- By the choice `here` a join cuts v into a front a and a back b.
 unfoldable pub JoinBy : Value → (here : Way) → (a b : Value) → Type 0
 unfolding count front back
 JoinBy (int x) here a b = ⊥
 JoinBy (collection vs) here a b = (k : ℕ) × (here ≡ k ∷ []) × (k ≤ count vs) × (a ≡ collection (front vs k)) × (b ≡ collection (back vs k))
+JoinBy (tupled vs) here a b = ⊥
 
 -- A cons or a join is followed from the bindings e to the bindings d by the way w: its own choice, then the first part's, then the second part's.
 pub record Both (By : Way → Value → Value → Type 0) (First Second : Value → Bindings → Way → Bindings → Type 0) (e : Bindings) (w : Way) (d : Bindings) : Type 0 where
@@ -76,17 +80,41 @@ pub record Both (By : Way → Value → Value → Type 0) (First Second : Value 
   pub second : Second b between two d
   pub way : here ++ (one ++ two) ≡ w
 
+-- One part of a tuple, and then the others: the first part's choices, then theirs.
+pub record Next (First Others : Bindings → Way → Bindings → Type 0) (e : Bindings) (w : Way) (d : Bindings) : Type 0 where
+  pub one : Way
+  pub two : Way
+  pub between : Bindings
+  pub first : First e one between
+  pub others : Others between two d
+  pub way : one ++ two ≡ w
+
+-- What a tuple's parts are followed through, if the value is a tuple.
+unfoldable pub Parts : (Values → Type 0) → Value → Type 0
+Parts P (int x) = ⊥
+Parts P (collection vs) = ⊥
+Parts P (tupled vs) = P vs
+
 -- With exactly the choices w, p under m matches v from the bindings e, and d are the bindings then. "Every chosen state exists, every list cons has
 -- an element, every nil an empty collection, and tags 2 and 3 are equal."
-unfoldable pub Follows : Pattern → Matcher → Value → Bindings → Way → Bindings → Type 0
-unfolding ConsBy JoinBy isConstant isValue isEmpty element
-Follows wildcard m v e w d = (w ≡ []) × (d ≡ e)
-Follows (variable x) m v e w d = (w ≡ []) × (d ≡ e ++ (v ∷ []))
-Follows (constant c) m v e w d = T (isConstant c v) × (w ≡ []) × (d ≡ e)
-Follows (value x c) m v e w d = T (isValue m e x c v) × (w ≡ []) × (d ≡ e)
-Follows nil m v e w d = T (isEmpty v) × (w ≡ []) × (d ≡ e)
-Follows (cons p q) m v e w d = Both (ConsBy m v) (λ a x y z. Follows p (element m) a x y z) (λ b x y z. Follows q m b x y z) e w d
-Follows (join p q) m v e w d = Both (JoinBy v) (λ a x y z. Follows p m a x y z) (λ b x y z. Follows q m b x y z) e w d
+unfoldable mutual
+  unfolding ConsBy JoinBy Parts isConstant isValue isEmpty element members
+
+  pub Follows : Pattern → Matcher → Value → Bindings → Way → Bindings → Type 0
+  Follows wildcard m v e w d = (w ≡ []) × (d ≡ e)
+  Follows (variable x) m v e w d = (w ≡ []) × (d ≡ e ++ (v ∷ []))
+  Follows (constant c) m v e w d = T (isConstant c v) × (w ≡ []) × (d ≡ e)
+  Follows (value x c) m v e w d = T (isValue m e x c v) × (w ≡ []) × (d ≡ e)
+  Follows nil m v e w d = T (isEmpty v) × (w ≡ []) × (d ≡ e)
+  Follows (cons p q) m v e w d = Both (ConsBy m v) (λ a x y z. Follows p (element m) a x y z) (λ b x y z. Follows q m b x y z) e w d
+  Follows (join p q) m v e w d = Both (JoinBy v) (λ a x y z. Follows p m a x y z) (λ b x y z. Follows q m b x y z) e w d
+  Follows (tuple ps) m v e w d = Parts (λ vs. FollowsAll ps (members m) vs e w d) v
+
+  pub FollowsAll : Patterns → Matchers → Values → Bindings → Way → Bindings → Type 0
+  FollowsAll noPatterns ms vs e w d = (w ≡ []) × (d ≡ e)
+  FollowsAll (p ▸ᵖ ps) noMatchers vs e w d = (w ≡ []) × (d ≡ e)
+  FollowsAll (p ▸ᵖ ps) (m ▸ᵐ ms) empty e w d = (w ≡ []) × (d ≡ e)
+  FollowsAll (p ▸ᵖ ps) (m ▸ᵐ ms) (v ▸ vs) e w d = Next (λ x y z. Follows p m v x y z) (λ x y z. FollowsAll ps ms vs x y z) e w d
 
 -- A way is good if with it the whole pattern matches the target; `e` are its bindings.
 unfoldable pub Good : Matcher → Pattern → Value → Way → Bindings → Type 0

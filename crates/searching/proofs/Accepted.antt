@@ -1,13 +1,19 @@
 -- For input that is accepted: the compiler's arrays are fine, the target stands, and a search of them tells what `match` is.
-use Prim.Native.Nat.{ℕ, _<_}
+use Prim.Native.Nat.{ℕ, zero, suc, _+_, _-_, _<_, _≤_}
 use native.Mathlib.Omega.{arith}
-use mathlib.Core.Path.{_≡_, sym, ap, _∙_}
+use mathlib.Core.Path.{_≡_, refl, sym, ap, _∙_}
+use mathlib.Core.Bool.{Bool, true, false}
 use mathlib.Core.List.{List}
-use lib.ListN.{length}
+use borrow.Author.Tests.{ltb-true, ltb-false}
+use lib.Dec.{ltb}
+use lib.ListN.{length, getD}
 use lib.IntN.{ℤ}
 use Rattle.rules.specs.Forms.{Value}
 use Rattle.rules.specs.Services.{Rule, Matched, match}
+use Rattle.promises.specs.ReadPattern.{pattern-read}
 use Rattle.promises.specs.Faults.{Sane, match-ran}
+use Rattle.words.specs.Words.{entries}
+use Rattle.program.specs.Length.{instrs}
 use Rattle.program.specs.Lines.{Line, columns}
 use Rattle.program.specs.Columns.{lineIn, Holds}
 use Rattle.holding.specs.Places.{Target}
@@ -24,16 +30,32 @@ module _ (ms ps ts : List ℤ) (r : Rule) (v : Value) (sane : Sane ms ps ts r v)
   accepted-some = read-tag ts v (sane .target .target) .inside
 
 module _ (ms ts : List ℤ) (r : Rule) (n : ℕ) (op from arg mat : List ℕ) (con : List ℤ) (holds : Holds ms r n (columns op from arg mat con)) where
+  -- A line that is no end is one of the program's.
+  among : (i : ℕ) → (getD op i 0 ≡ 0 → ⊥) → i ≤ 461
+  unfolding lineIn
+  among i h = go (ltb (instrs (r .pattern) (r .matcher)) i) (ltb-true _ _) (ltb-false _ _)
+    where
+      go : (b : Bool) → (b ≡ true → instrs (r .pattern) (r .matcher) < i) → (b ≡ false → i ≤ instrs (r .pattern) (r .matcher)) → i ≤ 461
+      go true f k = absurd (h (ap (λ (l : Line). l .op) (holds .after i (f refl))))
+      go false f k = let a = k refl in let l = holds .last in omega arith
+
+  parts-fit : (i k : ℕ) → getD op i 0 ≡ 11 + k → i + k ≤ 461
+  unfolding lineIn
+  parts-fit i zero e = let h = among i (λ z. omega arith) in omega arith
+  parts-fit i (suc k) e = among (i + suc k) (λ z. let h : getD op (i + suc k) 0 ≡ 1 = holds .reserved i (suc k) (omega arith) (omega arith) in omega arith)
+
   pub accepted-fine : Fine (env op from arg mat con ms ts n)
   unfolding lineIn
   accepted-fine = record {
-    last = ap (λ (l : Line). l .op) (holds .after 389 (let h = holds .last in omega arith));
+    last = ap (λ (l : Line). l .op) (holds .after (entries - 1) (let h = holds .last in omega arith));
     slots = λ i h. let f = holds .small i .from in omega arith;
     numbers = λ i h. holds .small i .arg;
     few = holds .few;
+    parts = λ i h l. let k = parts-fit i (getD op i 0 - 11) (omega arith) in omega arith;
+    reserved = holds .reserved;
   }
 
   pub accepted-match : (ps : List ℤ) (v : Value) → Sane ms ps ts r v → (budget : ℕ) (room : List ℤ) (out : Matched)
       → Searched (env op from arg mat con ms ts n) budget room out → out ≡ match ms ps ts budget room
   accepted-match ps v sane budget room out s =
-      s .as-defined r v (sane .rule .fitting .0) holds (sane .rule .fitting .1) (sane .target .target) (sane .target .fit) ∙ sym (match-ran ms ps ts budget room r v sane)
+      s .as-defined r v (sane .rule .fitting .0) holds (sane .rule .fitting .1) (pattern-read ps (r .pattern) .0 (sane .rule .pattern) .2) (sane .target .target) (sane .target .fit) ∙ sym (match-ran ms ps ts budget room r v sane)

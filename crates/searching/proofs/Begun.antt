@@ -7,16 +7,17 @@ use lib.ListN.{length, getD, replicate, length-replicate, getD-replicate}
 use lib.Pow.{pow-pos}
 use lib.IntN.{ℤ}
 use Rattle.rules.specs.Fit.{fits}
+use Rattle.words.specs.Words.{entries}
 use Rattle.program.specs.Columns.{lineIn}
-use Rattle.holding.specs.Places.{Target, Tag, countAt}
+use Rattle.holding.specs.Places.{Target, Tag, marksAt}
 use Rattle.holding.specs.Held.{Held, wholeAt}
-use Rattle.holding.specs.Row.{nothing}
+use Rattle.rows.specs.Row.{nothing}
 use Rattle.stepping.specs.Steps.{tables}
 use Rattle.tying.proofs.Instance.{target-is}
 use Rattle.searching.specs.Run.{Env, Run, run, lineAt, runOf, opening, answerOf, matched, told}
 use Rattle.searching.specs.Valid.{Fine, Valid}
 use Rattle.searching.specs.Searched.{zeros, unbound, begun, Searched}
-use Rattle.searching.proofs.Keeps.{held-whole}
+use Rattle.searching.proofs.Frames.{held-whole}
 use Rattle.searching.proofs.Whole.{search-runs}
 
 zeros-are : (n i : ℕ) → i < n → getD (zeros n) i 0 ≡ 0
@@ -40,7 +41,7 @@ module _ (e : Env) (some : 0 < length (e .words)) where
   first-tag = record { even = refl; inside = some }
 
   first-none : Held (e .words) 0 0
-  first-none = record { tag = first-tag; marks = pow-pos (countAt (e .words) 0) }
+  first-none = record { tag = first-tag; marks = pow-pos (marksAt (e .words) 0) }
 
   pub begun-valid : (room : List ℤ) → Valid e (begun e room)
   unfolding begun opening
@@ -49,22 +50,22 @@ module _ (e : Env) (some : 0 < length (e .words)) where
     held = held-whole 0 first-tag;
     frames = record {
       last = record { frame = λ n. absurd (n refl) };
-      below = λ i h. rw (zeros-are 390 i h) (record { frame = λ n. absurd (n refl) });
+      below = λ i h. rw (zeros-are entries i h) (record { frame = λ n. absurd (n refl) });
     };
-    waits = record { held = λ j h z. rw (zeros-are 390 j h) first-none };
+    waits = record { held = λ j h z. rw (zeros-are entries j h) first-none };
     binds = record { most = omega arith; long = unbound-long 16; are = λ v h. rw (unbound-are 16 v h) first-none };
     room = omega arith;
     counts = omega arith;
-    long = record { ats = zeros-long 390; wholes = zeros-long 390; lefts = zeros-long 390; lows = zeros-long 390; backs = zeros-long 390 };
+    long = record { ats = zeros-long entries; wholes = zeros-long entries; lefts = zeros-long entries; lows = zeros-long entries; backs = zeros-long entries };
   }
 
   pub searched : Target (e .words) → Fine e → (budget : ℕ) (room : List ℤ) → Searched e budget room (told (runOf e budget (begun e room)))
   unfolding begun lineAt lineIn
   searched g fine budget room = record {
     is = refl;
-    as-defined = λ r v ks holds fit read fits.
-        search-runs e g fine (r .matcher) (r .pattern) 0 ks fit (λ pc l. holds .means pc l) v 0 (wholeAt (e .words) 0) (target-is (e .words) v read (r .matcher) fits)
-        (tables (zeros 390) (zeros 390) (zeros 390) (zeros 390) (zeros 390)) (unbound 16) room (begun-valid room) budget;
+    as-defined = λ r v ks holds fit wide read fits.
+        search-runs e g fine (r .matcher) (r .pattern) 0 ks fit wide (λ pc l. holds .means pc l) v 0 (wholeAt (e .words) 0) (target-is (e .words) v read (r .matcher) fits)
+        (tables (zeros entries) (zeros entries) (zeros entries) (zeros entries) (zeros entries)) (unbound 16) room (begun-valid room) budget;
   }
 
 -- ---- As the code has it.
@@ -73,12 +74,12 @@ module _ (e : Env) (some : 0 < length (e .words)) (m : ℕ) (whole : m ≡ whole
   -- The run as the code begins it.
   abbrev pub first : Run
   first = run (record { pc = 0; at = 0; marks = m; top = 0; live = 1; rows = 0; steps = 0; words = 0 })
-      (tables (replicate 390 0) (replicate 390 0) (replicate 390 0) (replicate 390 0) (replicate 390 0)) (replicate 16 nothing) room
+      (tables (replicate entries 0) (replicate entries 0) (replicate entries 0) (replicate entries 0) (replicate entries 0)) (replicate 16 nothing) room
 
   first-is : first ≡ begun e room
   unfolding begun opening zeros unbound
   first-is = ap (λ k. run (record { pc = 0; at = 0; marks = k; top = 0; live = 1; rows = 0; steps = 0; words = 0 })
-      (tables (replicate 390 0) (replicate 390 0) (replicate 390 0) (replicate 390 0) (replicate 390 0)) (replicate 16 nothing) room) whole
+      (tables (replicate entries 0) (replicate entries 0) (replicate entries 0) (replicate entries 0) (replicate entries 0)) (replicate 16 nothing) room) whole
 
   pub first-valid : Valid e first
   first-valid = subst (Valid e) (sym first-is) (begun-valid e some room)

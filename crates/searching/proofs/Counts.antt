@@ -14,13 +14,13 @@ use Rattle.rules.specs.Search.{row}
 use Rattle.marks.specs.Marks.{clear}
 use Rattle.holding.specs.Places.{elementAt}
 use Rattle.holding.specs.Held.{wholeAt, put}
-use Rattle.holding.specs.Row.{bound}
+use Rattle.rows.specs.Row.{bound}
 use Rattle.stepping.specs.declared.State.{State}
-use Rattle.stepping.specs.Steps.{when, Tables, Turned, turned, counted, moved, lived, topped, dropped, pushed, pushedIn, passesOf, noneOf, opensOf, splitOf, stepBy, stepOf, topLeft, longerOf, joinOf, joinBy, consOf, consBy, pickOf}
+use Rattle.stepping.specs.Steps.{when, Tables, Turned, turned, counted, moved, lived, topped, dropped, pushed, pushedIn, passesOf, noneOf, opensOf, splitOf, isWide, apartAt, apartOf, divideOf, stepBy, stepOf, topLeft, longerOf, joinOf, joinBy, consOf, consBy, pickOf}
 use Rattle.searching.specs.Run.{Env, Run, run, Ended, ended, filled, wrote, endBy, endOf, afterTurn, afterEnd, takeEnd, takeBind, takeStep, takeOf, asked, settled}
-use Rattle.holding.proofs.Room.{length-put}
+use Rattle.rows.proofs.Room.{length-put}
 use Rattle.searching.proofs.Room.{put-after}
-use Rattle.searching.proofs.Keeps.{when-if}
+use Rattle.searching.proofs.Frames.{when-if}
 
 -- A state with an atom left: one step more, and a state stands or the next choice is to be taken.
 pub record Took (x y : State) : Type 0 where
@@ -37,12 +37,14 @@ took-2 : (x y : State) → y .rows ≡ x .rows → y .words ≡ x .words → y .
 took-2 x y r w s l f = record { rows = r; words = w; steps = s; live = inr l; top = f }
 
 pub step-took : (op from : List ℕ) (con s : List ℤ) (q : Bool) (x : State) (t : Tables) → Took x (stepOf op from con s q x t .state)
-unfolding stepOf stepBy splitOf counted moved lived dropped pushed
+unfolding stepOf stepBy divideOf splitOf apartOf apartAt counted moved lived dropped pushed
 step-took op from con s q x t =
     when-if at-turn (eqb o 1) (turned (moved (counted x) (x .pc + 1) (x .at) (x .marks)) t) rest (λ z. took-1 x _ refl refl refl refl refl)
-    (λ z. when-if at-turn (ltb 7 o) (splitOf o (counted x) t) tests
-    (λ k. when-if at-turn (noneOf o (x .marks)) (turned (lived (counted x) 2) t) (turned (pushed (counted x)) (pushedIn (opensOf o (x .marks)) (counted x) t))
-    (λ y. took-2 x _ refl refl refl refl (inl refl)) (λ y. took-2 x _ refl refl refl refl (inr refl)))
+    (λ z. when-if at-turn (ltb 7 o) (divideOf s o (counted x) t) tests
+    (λ k. when-if at-turn (ltb 10 o) (apartOf s (o - 10) (counted x) t) (splitOf o (counted x) t)
+    (λ y. when-if (Took x) (isWide s (x .at) (o - 10)) _ (lived (counted x) 2) (λ u. took-1 x _ refl refl refl refl refl) (λ u. took-2 x _ refl refl refl refl (inl refl)))
+    (λ w. when-if at-turn (noneOf o (x .marks)) (turned (lived (counted x) 2) t) (turned (pushed (counted x)) (pushedIn (opensOf o (x .marks)) (counted x) t))
+    (λ y. took-2 x _ refl refl refl refl (inl refl)) (λ y. took-2 x _ refl refl refl refl (inr refl))))
     (λ k. when-if at-turn passes (turned (dropped from (t .ats) (t .backs) (counted x)) t) (turned (lived (counted x) 2) t)
     (λ y. took-1 x _ refl refl refl refl refl) (λ y. took-2 x _ refl refl refl refl (inl refl))))
   where
@@ -59,7 +61,7 @@ step-took op from con s q x t =
     tests = when passes (turned (dropped from (t .ats) (t .backs) (counted x)) t) (turned (lived (counted x) 2) t)
 
     rest : Turned
-    rest = when (ltb 7 o) (splitOf o (counted x) t) tests
+    rest = when (ltb 7 o) (divideOf s o (counted x) t) tests
 
 pub bind-took : (e : Env) (r : Run) → Took (r .state) (takeBind e r .state)
 unfolding takeBind dropped moved counted

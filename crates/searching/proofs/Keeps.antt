@@ -1,7 +1,7 @@
 -- A state taken up keeps a run valid.
 use Prim.Native.Nat.{ℕ, _+_, _-_, _^_, _≤_, _<_}
 use native.Mathlib.Omega.{arith}
-use lib.Pow.{pow-pos, pow-mono}
+use lib.Pow.{pow-pos}
 use mathlib.Core.Path.{_≡_, refl, _∙_}
 use mathlib.Core.Bool.{Bool, true, false}
 use mathlib.Core.List.{List}
@@ -11,78 +11,31 @@ use lib.Dec.{eqb, ltb}
 use lib.Count.{trailingZeros}
 use lib.IntN.{ℤ, pos}
 use borrow.Author.Tests.{eqb-true, eqb-false, ltb-true, ltb-false, ne-eqb}
-use Rattle.marks.proofs.Places.{low-digit, digit-le}
 use Rattle.rules.specs.Search.{row}
-use Rattle.holding.specs.Places.{Target, Tag, countAt}
-use Rattle.holding.specs.Held.{Held, wholeAt}
-use Rattle.holding.proofs.Room.{length-put}
-use Rattle.holding.specs.Row.{bound, Bound, nothing}
-use Rattle.holding.specs.declared.rows.Binding.{Binding}
+use Rattle.words.specs.Words.{entries}
+use Rattle.holding.specs.Places.{Target, Tag, countAt, elementAt}
+use Rattle.holding.specs.Held.{Held}
+use Rattle.holding.proofs.Held.{held-64}
+use Rattle.holding.proofs.Elements.{element-tag}
+use Rattle.rows.proofs.Room.{length-put}
+use Rattle.rows.specs.Row.{bound, Bound, nothing}
+use Rattle.rows.specs.declared.Binding.{Binding}
 use Rattle.stepping.specs.declared.State.{State}
-use Rattle.stepping.specs.Steps.{when, Tables, Turned, tables, counted, moved, lived, dropped, pushed, pushedIn, passesOf, noneOf, opensOf, splitOf, stepBy, stepOf, nowLeft, Frame, Picks}
+use Rattle.stepping.specs.Steps.{when, Tables, Turned, tables, counted, moved, lived, dropped, pushed, pushedIn, passesOf, noneOf, opensOf, splitOf, stored, isWide, partMarks, apartAt, apartAts, apartBacks, apartOf, divideOf, stepBy, stepOf, Frame, Picks}
 use Rattle.searching.specs.Run.{Env, Run, run, Ended, filled, wrote, endBy, endOf, asked, afterTurn, afterEnd, takeEnd, takeBind, takeStep, takeOf}
-use Rattle.searching.specs.Valid.{Fine, Long, Valid}
-
--- ---- By cases.
-
-pub when-if : {A : Type 0} (P : A → Type 0) (b : Bool) (x y : A) → (b ≡ true → P x) → (b ≡ false → P y) → P (when b x y)
-unfolding when
-when-if P true x y p q = p refl
-when-if P false x y p q = q refl
-
-pub by-place : (P : Type 0) (i j : ℕ) → (j ≡ i → P) → ((j ≡ i → ⊥) → P) → P
-by-place P i j f g = go (eqb j i) (eqb-true j i) (eqb-false j i)
-  where
-    go : (b : Bool) → (b ≡ true → j ≡ i) → (b ≡ false → j ≡ i → ⊥) → P
-    go true t u = f (t refl)
-    go false t u = g (u refl)
-
--- ---- Places and marks.
-
--- The line after one that is no end.
-pub next-place : (op : List ℕ) (pc : ℕ) → getD op 389 0 ≡ 0 → pc < 390 → (getD op pc 0 ≡ 0 → ⊥) → pc + 1 < 390
-next-place op pc e h n = by-place _ 389 pc (λ z. absurd (n (rw z e))) (λ z. omega arith)
-
-pub held-less : {s : List ℤ} {at m : ℕ} (c : ℕ) → Held s at m → c ≤ m → Held s at c
-held-less c h l = record { tag = h .tag; marks = (let k = h .marks in omega arith) }
-
-pub held-whole : {s : List ℤ} (at : ℕ) → Tag s at → Held s at (wholeAt s at)
-unfolding wholeAt
-held-whole {s} at w = record { tag = w; marks = let p = pow-pos (countAt s at) in omega arith }
-
-pub low-le : (m : ℕ) → 0 < m → m < 2 ^ 64 → 2 ^ trailingZeros 64 m ≤ m
-low-le m h l = digit-le (trailingZeros 64 m) m (low-digit 64 m h l)
-
--- ---- Frames.
-
--- A slot written keeps every frame a frame.
-module _ (op : List ℕ) (s : List ℤ) (t : Tables) (l : Long t) (i : ℕ) (h : i < 390) where
-  frame-pushed : (at m c j : ℕ) → Frame (getD op i 0) s i at m c
-      → Frame (getD op j 0) s j (getD (t .ats) j 0) (getD (t .wholes) j 0) (getD (t .lefts) j 0)
-      → Frame (getD op j 0) s j (getD (set (t .ats) i at) j 0) (getD (set (t .wholes) i m) j 0) (getD (set (t .lefts) i c) j 0)
-  frame-pushed at m c j new old = by-place _ i j
-      (λ e. rw (e, getD-set-same (t .ats) i at 0 (omega (arith, l .ats)), getD-set-same (t .wholes) i m 0 (omega (arith, l .wholes)), getD-set-same (t .lefts) i c 0 (omega (arith, l .lefts))) new)
-      (λ n. rw (getD-set-other (t .ats) i j at 0 n, getD-set-other (t .wholes) i j m 0 n, getD-set-other (t .lefts) i j c 0 n) old)
-
-  pub frame-left : (more j : ℕ) → ((more ≡ 0 → ⊥) → Frame (getD op i 0) s i (getD (t .ats) i 0) (getD (t .wholes) i 0) more)
-      → Frame (getD op j 0) s j (getD (t .ats) j 0) (getD (t .wholes) j 0) (getD (t .lefts) j 0)
-      → Frame (getD op j 0) s j (getD (t .ats) j 0) (getD (t .wholes) j 0) (getD (nowLeft more i (t .lefts)) j 0)
-  unfolding nowLeft
-  frame-left more j new old = when-if (λ (k : List ℕ). Frame (getD op j 0) s j (getD (t .ats) j 0) (getD (t .wholes) j 0) (getD k j 0)) (eqb more 0) (t .lefts) (set (t .lefts) i more)
-      (λ z. old)
-      (λ z. by-place _ i j
-      (λ e. rw (e, getD-set-same (t .lefts) i more 0 (omega (arith, l .lefts))) (new (eqb-false more 0 z)))
-      (λ n. rw (getD-set-other (t .lefts) i j more 0 n) old))
+use Rattle.searching.specs.Valid.{Fine, Valid}
+use Rattle.searching.proofs.Parts.{by-range, stored-length, stored-before, stored-after, stored-at}
+use Rattle.searching.proofs.Frames.{when-if, by-place, next-place, held-whole, low-le, frame-pushed}
 
 -- ---- A state taken up.
 
 module _ (e : Env) (fine : Fine e) (g : Target (e .words)) where
   module _ (x : State) (t : Tables) (b : List Binding) (room : List ℤ) (v : Valid e (run x t b room)) (l : x .live ≡ 1) where
-    waiting : (j : ℕ) → j < 390 → Held (e .words) (getD (t .ats) j 0) (getD (t .backs) j 0)
+    waiting : (j : ℕ) → j < entries → Held (e .words) (getD (t .ats) j 0) (getD (t .backs) j 0)
     waiting j h = v .waits .held j h (λ z. absurd (omega arith))
 
     word-64 : x .marks < 2 ^ 64
-    word-64 = let p = pow-mono (g .small (x .at) (v .held .tag)) in let h = v .held .marks in omega arith
+    word-64 = held-64 (e .words) (x .at) (x .marks) g (v .held)
 
     strip-keeps : (getD (e .op) (x .pc) 0 ≡ 0 → ⊥) → Valid e (run (moved (counted x) (x .pc + 1) (x .at) (x .marks)) t b room)
     unfolding moved counted
@@ -152,13 +105,14 @@ module _ (e : Env) (fine : Fine e) (g : Target (e .words)) where
         kept top p = record { frame = λ n. frame-pushed (e .op) (e .words) t (v .long) (x .pc) (v .place) (x .at) (x .marks) c (top - 1) f (p .frame n) }
 
     -- The choices that a frame is opened with.
-    opened : 7 < getD (e .op) (x .pc) 0 → noneOf (getD (e .op) (x .pc) 0) (x .marks) ≡ false
+    opened : 7 < getD (e .op) (x .pc) 0 → getD (e .op) (x .pc) 0 < 11 → noneOf (getD (e .op) (x .pc) 0) (x .marks) ≡ false
         → Frame (getD (e .op) (x .pc) 0) (e .words) (x .pc) (x .at) (x .marks) (opensOf (getD (e .op) (x .pc) 0) (x .marks))
     unfolding noneOf opensOf when
-    opened o f = when-if (λ (c : ℕ). Frame (getD (e .op) (x .pc) 0) (e .words) (x .pc) (x .at) (x .marks) c) (eqb (getD (e .op) (x .pc) 0) 10) 0 _
+    opened o u f = when-if (λ (c : ℕ). Frame (getD (e .op) (x .pc) 0) (e .words) (x .pc) (x .at) (x .marks) c) (eqb (getD (e .op) (x .pc) 0) 10) 0 _
         (λ z. let y = eqb-true _ _ z in record {
           place = v .place;
           splits = o;
+          chooses = u;
           held = v .held;
           within = λ n. omega arith;
           some = λ n. absurd (n y);
@@ -169,26 +123,99 @@ module _ (e : Env) (fine : Fine e) (g : Target (e .words)) where
         (λ k. let q = low-le (x .marks) p word-64 in let h = v .held .marks in record {
           place = v .place;
           splits = o;
+          chooses = u;
           held = v .held;
           within = λ n. absurd (y n);
           some = λ n. pow-pos (trailingZeros 64 (x .marks));
           there = λ n. omega arith;
         })
-        (λ k. record { place = v .place; splits = o; held = v .held; within = λ n. absurd (y n); some = λ n. p; there = λ n. v .held .marks }))
+        (λ k. record { place = v .place; splits = o; chooses = u; held = v .held; within = λ n. absurd (y n); some = λ n. p; there = λ n. v .held .marks }))
       where
         marked : (getD (e .op) (x .pc) 0 ≡ 10 → ⊥) → 0 < x .marks
         marked n = let k : eqb (x .marks) 0 ≡ false = rw (ne-eqb (getD (e .op) (x .pc) 0) 10 n) at f in let d = eqb-false (x .marks) 0 k in omega arith
 
-    split-keeps : 7 < getD (e .op) (x .pc) 0 → Valid e (afterTurn (splitOf (getD (e .op) (x .pc) 0) (counted x) t) b room)
+    split-keeps : 7 < getD (e .op) (x .pc) 0 → getD (e .op) (x .pc) 0 < 11 → Valid e (afterTurn (splitOf (getD (e .op) (x .pc) 0) (counted x) t) b room)
     unfolding splitOf counted afterTurn
-    split-keeps o = when-if (λ (u : Turned). Valid e (run (u .state) (u .tables) b room)) (noneOf (getD (e .op) (x .pc) 0) (x .marks)) _ _
-        (λ z. back-keeps) (λ z. push-keeps _ (opened o z))
+    split-keeps o u = when-if (λ (u : Turned). Valid e (run (u .state) (u .tables) b room)) (noneOf (getD (e .op) (x .pc) 0) (x .marks)) _ _
+        (λ z. back-keeps) (λ z. push-keeps _ (opened o u z))
+
+    -- A tuple: no frame is open at its place or at those reserved, where its parts wait.
+    module _ (n : ℕ) (o : getD (e .op) (x .pc) 0 ≡ 10 + n) (z : 0 < n) (w : countAt (e .words) (x .at) ≡ n + 1) where
+      part-tag : (i : ℕ) → i < n + 1 → Tag (e .words) (elementAt (e .words) (x .at) i)
+      part-tag i h = element-tag (e .words) (x .at) i g (v .held .tag) (omega arith)
+
+      room-for : x .pc + n < entries
+      room-for = let h = fine .parts (x .pc) (v .place) (omega arith) in omega arith
+
+      no-frame : (j : ℕ) → x .pc ≤ j → j < x .pc + n → 7 < getD (e .op) j 0 → getD (e .op) j 0 < 11 → ⊥
+      no-frame j a b c d = by-place _ (x .pc) j
+          (λ y. let q = rw y at d in omega arith)
+          (λ y. let k : x .pc + (j - x .pc) ≡ j = omega arith in let q = rw k at (fine .reserved (x .pc) (j - x .pc) (omega arith) (omega arith)) in omega arith)
+
+      parts-kept : (top : ℕ) → Picks (e .op) (e .words) top (t .ats) (t .wholes) (t .lefts)
+          → Picks (e .op) (e .words) top (stored (elementAt (e .words) (x .at)) (x .pc) 1 n (t .ats)) (t .wholes) (t .lefts)
+      parts-kept top p = record {
+        frame = λ y. let f = p .frame y in by-range _ (x .pc) (x .pc + n) (top - 1)
+            (λ h. rw (stored-before (elementAt (e .words) (x .at)) (x .pc) 1 n (t .ats) (top - 1) h) f)
+            (λ h k. absurd (no-frame (top - 1) h k (f .splits) (f .chooses)))
+            (λ h. rw (stored-after (elementAt (e .words) (x .at)) (x .pc) 1 n (t .ats) (top - 1) h) f);
+      }
+
+      parts-wait : (j : ℕ) → j < entries
+          → Held (e .words) (getD (stored (elementAt (e .words) (x .at)) (x .pc) 1 n (t .ats)) j 0) (getD (stored (partMarks (e .words) (x .at)) (x .pc) 1 n (t .backs)) j 0)
+      unfolding partMarks
+      parts-wait j l = by-range _ (x .pc) (x .pc + n) j
+          (λ h. rw (stored-before (elementAt (e .words) (x .at)) (x .pc) 1 n (t .ats) j h, stored-before (partMarks (e .words) (x .at)) (x .pc) 1 n (t .backs) j h) (waiting j l))
+          (λ h k.
+          let q : x .pc + (j - x .pc) ≡ j = omega arith in
+          let r = room-for in
+          let a = stored-at (elementAt (e .words) (x .at)) (x .pc) 1 n (t .ats) (j - x .pc) (omega arith) (omega (arith, v .long .ats)) in
+          let b = stored-at (partMarks (e .words) (x .at)) (x .pc) 1 n (t .backs) (j - x .pc) (omega arith) (omega (arith, v .long .backs)) in
+          rw (rw q at a, rw q at b) (held-whole (elementAt (e .words) (x .at) (1 + (j - x .pc))) (part-tag (1 + (j - x .pc)) (omega arith))))
+          (λ h. rw (stored-after (elementAt (e .words) (x .at)) (x .pc) 1 n (t .ats) j h, stored-after (partMarks (e .words) (x .at)) (x .pc) 1 n (t .backs) j h) (waiting j l))
+
+      parts-keep : Valid e (run (moved (counted x) (x .pc + n) (elementAt (e .words) (x .at) 0) (partMarks (e .words) (x .at) 0))
+          (tables (stored (elementAt (e .words) (x .at)) (x .pc) 1 n (t .ats)) (t .wholes) (t .lefts) (t .lows) (stored (partMarks (e .words) (x .at)) (x .pc) 1 n (t .backs))) b room)
+      unfolding moved counted partMarks
+      parts-keep = record {
+        place = room-for;
+        held = held-whole (elementAt (e .words) (x .at) 0) (part-tag 0 (omega arith));
+        frames = record { last = parts-kept (x .top) (v .frames .last); below = λ i h. parts-kept (getD (t .lows) i 0) (v .frames .below i h) };
+        waits = record { held = λ j h y. parts-wait j h };
+        binds = v .binds;
+        room = v .room;
+        counts = (let q = v .counts in omega arith);
+        long = record {
+          ats = stored-length (elementAt (e .words) (x .at)) (x .pc) 1 n (t .ats) ∙ v .long .ats;
+          wholes = v .long .wholes;
+          lefts = v .long .lefts;
+          lows = v .long .lows;
+          backs = stored-length (partMarks (e .words) (x .at)) (x .pc) 1 n (t .backs) ∙ v .long .backs;
+        };
+      }
+
+    apart-keeps : (n : ℕ) → getD (e .op) (x .pc) 0 ≡ 10 + n → 0 < n → Valid e (afterTurn (apartOf (e .words) n (counted x) t) b room)
+    unfolding apartOf apartAt apartAts apartBacks isWide afterTurn counted
+    apart-keeps n o z = go (eqb (countAt (e .words) (x .at)) (n + 1)) (eqb-true _ _)
+      where
+        go : (q : Bool) → (q ≡ true → countAt (e .words) (x .at) ≡ n + 1)
+            → Valid e (run (when q (moved (counted x) (x .pc + n) (elementAt (e .words) (x .at) 0) (partMarks (e .words) (x .at) 0)) (lived (counted x) 2))
+            (tables (when q (stored (elementAt (e .words) (x .at)) (x .pc) 1 n (t .ats)) (t .ats)) (t .wholes) (t .lefts) (t .lows)
+            (when q (stored (partMarks (e .words) (x .at)) (x .pc) 1 n (t .backs)) (t .backs))) b room)
+        go true w = parts-keep n o z (w refl)
+        go false w = back-keeps
+
+    divide-keeps : 7 < getD (e .op) (x .pc) 0 → Valid e (afterTurn (divideOf (e .words) (getD (e .op) (x .pc) 0) (counted x) t) b room)
+    unfolding divideOf afterTurn
+    divide-keeps o = when-if (λ (u : Turned). Valid e (run (u .state) (u .tables) b room)) (ltb 10 (getD (e .op) (x .pc) 0)) _ _
+        (λ z. let h : 10 < getD (e .op) (x .pc) 0 = ltb-true 10 _ z in apart-keeps (getD (e .op) (x .pc) 0 - 10) (omega arith) (omega arith))
+        (λ z. let h : getD (e .op) (x .pc) 0 ≤ 10 = ltb-false 10 _ z in split-keeps o (omega arith))
 
     step-keeps : (q : Bool) → (getD (e .op) (x .pc) 0 ≡ 0 → ⊥) → Valid e (afterTurn (stepOf (e .op) (e .from) (e .con) (e .words) q x t) b room)
     unfolding stepOf stepBy afterTurn counted
     step-keeps q n =
         when-if at-turn (eqb (getD (e .op) (x .pc) 0) 1) _ _ (λ z. strip-keeps n)
-        (λ z. when-if at-turn (ltb 7 (getD (e .op) (x .pc) 0)) _ _ (λ k. split-keeps (ltb-true 7 _ k))
+        (λ z. when-if at-turn (ltb 7 (getD (e .op) (x .pc) 0)) _ _ (λ k. divide-keeps (ltb-true 7 _ k))
         (λ k. when-if at-turn (passesOf (getD (e .op) (x .pc) 0) q (e .words) (x .at) (x .marks) (getD (e .con) (x .pc) (pos 0))) _ _
         (λ y. drop-keeps n b (v .binds)) (λ y. back-keeps)))
       where

@@ -12,12 +12,13 @@ use lib.IntN.{ℤ, pos}
 use mir.Syntax.{w64}
 use mir.Val.{Fits}
 use Rattle.rules.specs.Search.{row}
+use Rattle.words.specs.Words.{entries}
 use Rattle.holding.specs.Places.{Target}
 use Rattle.holding.specs.Tables.{Ends, Places}
 use Rattle.holding.specs.Held.{Held, put}
-use Rattle.holding.specs.Row.{bound, Bound, nothing}
-use Rattle.holding.specs.Equality.{equalAt, isSum}
-use Rattle.holding.specs.declared.rows.Binding.{Binding}
+use Rattle.rows.specs.Row.{bound, Bound, nothing}
+use Rattle.equality.specs.Equality.{equalAt, isSum}
+use Rattle.rows.specs.declared.Binding.{Binding}
 use Rattle.holding.proofs.Elements.{second}
 use Rattle.stepping.specs.declared.State.{State}
 use Rattle.stepping.specs.Steps.{when, Tables, Turned, tables, turned, counted, dropped, stepBy, stepOf, passesOf, pickOf, settleOf, Steps, PicksIf}
@@ -62,11 +63,11 @@ pub ruleset row-rules = (given-target, given-ends, given-places, row-bound, row-
 
 -- ---- The row, or a step.
 
-module _ (o : ℕ) (s : List ℤ) (from : List ℕ) (b : List Binding) (n : ℕ) (x : State) (room : List ℤ) (h : Takes o s from b n x room) where
+module _ (o : ℕ) (s : List ℤ) (op from : List ℕ) (b : List Binding) (n : ℕ) (x : State) (room : List ℤ) (h : Takes o s op from b n x room) where
   pub take-row : o ≡ 0 → Rows s b n x room
   take-row z = h .row z
 
-  pub take-steps : (o ≡ 0 → ⊥) → Steps s from x
+  pub take-steps : (o ≡ 0 → ⊥) → Steps s op from x
   take-steps z = h .step z
 
 module _ (o : ℕ) (q : Bool) (op from : List ℕ) (con s : List ℤ) (n : ℕ) (x : State) (t : Tables) (b : List Binding) (room : List ℤ) where
@@ -197,17 +198,19 @@ module _ (e : Env) (x : State) (t : Tables) (b : List Binding) (room : List ℤ)
 
   -- What a row and a step ask.
   module _ (fine : Fine e) (g : Target (e .words)) (v : Valid e (run x t b room)) (l : x .steps + 1 < 2 ^ 64) where
-    steps-ask : Steps (e .words) (e .from) x
+    steps-ask : Steps (e .words) (e .op) (e .from) x
     steps-ask =
         let h = v .held .tag .inside in
         let s = g .short in
         record {
           place = v .place;
           next = fine .slots (x .pc) (v .place);
+          tag = v .held .tag;
           word = second (e .words) (x .at) g (v .held .tag);
           small = omega arith;
           frame = top-bound (x .top) (λ n. v .frames .last .frame n .place);
           count = l;
+          parts = fine .parts (x .pc) (v .place);
         }
 
     rows-ask : Rows (e .words) b (e .vars) x room
@@ -220,7 +223,7 @@ module _ (e : Env) (x : State) (t : Tables) (b : List Binding) (room : List ℤ)
           words = v .room;
         }
 
-    pub turn-takes : Takes (getD (e .op) (x .pc) 0) (e .words) (e .from) b′ (e .vars) x room
+    pub turn-takes : Takes (getD (e .op) (x .pc) 0) (e .words) (e .op) (e .from) b′ (e .vars) x room
     turn-takes = record { row = λ z. rw (same-binds (λ y. omega arith)) rows-ask; step = λ z. steps-ask }
 
     pub turn-picks : x .live ≡ 1 → (y : State) (u : Tables) (k : List Binding) (room′ : List ℤ) → run y u k room′ ≡ takeOf e (run x t b room)
@@ -256,7 +259,7 @@ pub ready : (e : Env) (w : Run) (budget : ℕ) (room : List ℤ) (r : Run) → H
 ready e w budget room r h f g l s b = record { fine = f; target = g; valid = h .valid; live = l; count = omega arith }
 
 module _ (e : Env) (x : State) (t : Tables) (b : List Binding) (room : List ℤ) (h : Ready e (run x t b room)) where
-  pub ready-place : x .pc < 390
+  pub ready-place : x .pc < entries
   ready-place = h .valid .place
 
   pub ready-mul : Fits w64 (x .pc * 4)

@@ -1,6 +1,9 @@
+pub mod Parts
 pub mod Room
+pub mod Frames
 pub mod Keeps
 pub mod Settles
+pub mod Slots
 pub mod Turns
 pub mod Counts
 pub mod Runs

@@ -7,7 +7,7 @@ use lib.ListN.{length, take, drop, length-append}
 use lib.Seq.{take-at, drop-at, length-take-le}
 use lib.IntN.{ℤ}
 use Rattle.holding.specs.Held.{put}
-use Rattle.holding.proofs.Room.{put-is}
+use Rattle.rows.proofs.Room.{put-is}
 
 module _ (room : List ℤ) (n : ℕ) (ws : List ℤ) (h : n + length ws ≤ length room) where
   long-before : length (take n room ++ ws) ≡ n + length ws

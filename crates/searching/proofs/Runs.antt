@@ -14,16 +14,17 @@ use lib.IntN.{ℤ}
 use borrow.Author.Tests.{eqb-true, eqb-false, ltb-true, ltb-false, le-leb, lt-leb}
 use Rattle.rules.specs.Forms.{words}
 use Rattle.rules.specs.Search.{row}
+use Rattle.words.specs.Words.{entries}
 use Rattle.program.specs.Points.{Instr, bind, end}
-use Rattle.program.specs.Meaning.{Means, means-end, means-strip, means-drop, means-bind, means-constant, means-integer, means-value, means-nil, means-list, means-multiset, means-join}
+use Rattle.program.specs.Meaning.{Means, means-end, means-strip, means-drop, means-bind, means-constant, means-integer, means-value, means-nil, means-list, means-multiset, means-join, means-tuple}
 use Rattle.program.specs.Lines.{Line}
 use Rattle.engine.specs.Held.{Data}
 use Rattle.engine.specs.Engine.{Conf, back, exec, settle}
 use Rattle.engine.specs.Drive.{Engine, rowFrom, passed, wrote, filled, rowDone, result, advance, turn}
 use Rattle.holding.specs.Places.{Target}
 use Rattle.holding.specs.Held.{put}
-use Rattle.holding.specs.Row.{holds, bound, nothing}
-use Rattle.holding.specs.declared.rows.Binding.{Binding}
+use Rattle.rows.specs.Row.{holds, bound, nothing}
+use Rattle.rows.specs.declared.Binding.{Binding}
 use Rattle.stepping.specs.declared.State.{State}
 use Rattle.stepping.specs.Steps.{when, Tables, pickOf}
 use Rattle.tying.proofs.Instance.{places}
@@ -31,9 +32,10 @@ use Rattle.searching.specs.Run as numbers
 use Rattle.searching.specs.Run.{Env, Run, run, ended, endBy, endOf, lineAt, asked, afterTurn, afterEnd, takeEnd, takeBind, takeStep, takeOf, settled}
 use Rattle.searching.specs.Valid.{Fine, Valid}
 use Rattle.searching.specs.Meaning.{bindsOf, confOf, standing, engineOf}
-use Rattle.holding.proofs.Room.{length-put}
+use Rattle.rows.proofs.Room.{length-put}
 use Rattle.searching.proofs.Room.{put-before}
-use Rattle.searching.proofs.Keeps.{when-if, take-keeps}
+use Rattle.searching.proofs.Keeps.{take-keeps}
+use Rattle.searching.proofs.Frames.{when-if}
 use Rattle.searching.proofs.Turns as choice
 use Rattle.searching.proofs.Turns.{asTurn, bind-turn, step-turn, pick-is}
 use Rattle.searching.proofs.Counts.{Took, step-took, bind-took, settled-is}
@@ -66,7 +68,7 @@ row-fits : (D : Data) (k : Engine D) (ws : List ℤ) (c : Option (Conf D)) → l
 unfolding rowDone
 row-fits D k ws c h = ap (λ z. elim z as (λ _. Engine D) [ true ↦ wrote D k ws c | false ↦ filled D k ]) h
 
-pub top-bound : (top : ℕ) → ((top ≡ 0 → ⊥) → top - 1 < 390) → top ≤ 390
+pub top-bound : (top : ℕ) → ((top ≡ 0 → ⊥) → top - 1 < entries) → top ≤ entries
 top-bound zero h = omega arith
 top-bound (suc j) h = let k = h (λ z. omega arith) in omega arith
 
@@ -77,7 +79,7 @@ module _ (e : Env) (g : Target (e .words)) where
   unfolding settle asTurn engineOf settled afterTurn standing when pickOf choice.stands
   settle-is code r v (inl l) m = rw l
   settle-is code r v (inr l) m =
-      rw l (pick-is e g (r .state) (r .tables) (r .binds) (v .long) code (r .state .top) refl m (λ n. v .frames .last .frame n .splits)
+      rw l (pick-is e g (r .state) (r .tables) (r .binds) (v .long) code (r .state .top) refl m (λ n. (v .frames .last .frame n .splits, v .frames .last .frame n .chooses))
       (top-bound (r .state .top) (λ n. v .frames .last .frame n .place)))
 
   -- A state that stands.
@@ -177,6 +179,7 @@ module _ (e : Env) (g : Target (e .words)) where
   result-passed D k b o (means-list m z) n = refl
   result-passed D k b o (means-multiset m z) n = refl
   result-passed D k b o (means-join m z) n = refl
+  result-passed D k b o (means-tuple m z) n = refl
 
   end-code : {l : Line} {i : Instr} → Means (e .matcher) (e .vars) l i → l .op ≡ 0 → i ≡ end (e .vars)
   end-code (means-end z) h = refl
@@ -190,6 +193,7 @@ module _ (e : Env) (g : Target (e .words)) where
   end-code (means-list m z) h = absurd (omega arith)
   end-code (means-multiset m z) h = absurd (omega arith)
   end-code (means-join m z) h = absurd (omega arith)
+  end-code (means-tuple m z) h = absurd (omega arith)
 
   bind-code : {l : Line} {i : Instr} → Means (e .matcher) (e .vars) l i → l .op ≡ 3 → i ≡ bind (l .arg) (l .from)
   bind-code (means-end z) h = absurd (omega arith)
@@ -203,6 +207,7 @@ module _ (e : Env) (g : Target (e .words)) where
   bind-code (means-list m z) h = absurd (omega arith)
   bind-code (means-multiset m z) h = absurd (omega arith)
   bind-code (means-join m z) h = absurd (omega arith)
+  bind-code (means-tuple m z) h = absurd (omega arith)
 
   module _ (fine : Fine e) (code : ℕ → Instr) (x : State) (t : Tables) (b : List Binding) (room : List ℤ)
       (v : Valid e (run x t b room)) (l : x .live ≡ 1) (means : (j : ℕ) → j ≤ x .pc → Means (e .matcher) (e .vars) (lineAt e j) (code j)) (low : x .top ≤ x .pc) where
@@ -247,7 +252,7 @@ module _ (e : Env) (g : Target (e .words)) where
         (ap (λ i. exec (places (e .words) g) i (confOf (e .words) g x t b)) (bind-code here (eqb-true _ _ k))
         ∙ bind-turn e g x t b room (v .binds .long) (fine .numbers (x .pc) (v .place))))
         (λ k. goes (takeStep e r) (step-took (e .op) (e .from) (e .con) (e .words) (asked e r) x t) refl (eqb-false _ _ z)
-        (step-turn e g x t b room (code (x .pc)) here (eqb-false _ _ z) (eqb-false _ _ k) (v .long) (v .place))))
+        (step-turn e g x t b room (code (x .pc)) here (eqb-false _ _ z) (eqb-false _ _ k) (v .long) (v .place) (fine .parts (x .pc) (v .place)))))
         (take-keeps e fine g r v l)
       where
         r : Run

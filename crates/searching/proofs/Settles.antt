@@ -1,7 +1,6 @@
 -- A choice taken keeps a run valid.
 use Prim.Native.Nat.{ℕ, suc, _+_, _-_, _^_, _≤_, _<_}
 use native.Mathlib.Omega.{arith}
-use lib.Pow.{pow-mono}
 use mathlib.Core.Path.{_≡_, _∙_}
 use mathlib.Core.List.{List}
 use lib.ListN.{length, getD, set, length-set}
@@ -10,18 +9,20 @@ use lib.Dec.{eqb}
 use lib.Count.{trailingZeros}
 use lib.IntN.{ℤ}
 use borrow.Author.Tests.{eqb-true, eqb-false}
+use Rattle.words.specs.Words.{entries}
 use Rattle.marks.specs.Marks.{clear}
 use Rattle.marks.proofs.Places.{clear-le, clear-lt}
-use Rattle.holding.specs.Places.{Target, Tag, countAt, elementAt}
+use Rattle.holding.specs.Places.{Target, Tag, marksAt, elementAt}
 use Rattle.holding.specs.Held.{Held, wholeAt}
 use Rattle.holding.proofs.Elements.{element-tag}
-use Rattle.holding.specs.declared.rows.Binding.{Binding}
+use Rattle.holding.proofs.Held.{marks-count, held-64}
+use Rattle.rows.specs.declared.Binding.{Binding}
 use Rattle.stepping.proofs.Laws.{low-there}
 use Rattle.stepping.specs.declared.State.{State}
 use Rattle.stepping.specs.Steps.{Tables, Turned, tables, moved, lived, topped, topLeft, nowLeft, longerOf, joinBy, joinOf, consBy, consOf, pickOf, Frame, Picks}
 use Rattle.searching.specs.Run.{Env, Run, run, afterTurn, settled}
 use Rattle.searching.specs.Valid.{Fine, Valid}
-use Rattle.searching.proofs.Keeps.{when-if, by-place, next-place, held-less, held-whole, low-le, frame-left}
+use Rattle.searching.proofs.Frames.{when-if, by-place, next-place, held-less, held-whole, low-le, frame-left}
 
 module _ (e : Env) (fine : Fine e) (g : Target (e .words)) where
   module _ (x : State) (t : Tables) (b : List Binding) (room : List ℤ) (v : Valid e (run x t b room)) (two : x .live ≡ 2) where
@@ -52,8 +53,8 @@ module _ (e : Env) (fine : Fine e) (g : Target (e .words)) where
           kept : (n : ℕ) → Picks (e .op) (e .words) n (t .ats) (t .wholes) (t .lefts) → Picks (e .op) (e .words) n (t .ats) (t .wholes) (nowLeft more j (t .lefts))
           kept n k = record { frame = λ y. frame-left (e .op) (e .words) t (v .long) j (f .place) more (n - 1) p (k .frame y) }
 
-          longer : length (nowLeft more j (t .lefts)) ≡ 390
-          longer = when-if (λ (k : List ℕ). length k ≡ 390) (eqb more 0) _ _ (λ z. v .long .lefts) (λ z. length-set (t .lefts) j more ∙ v .long .lefts)
+          longer : length (nowLeft more j (t .lefts)) ≡ entries
+          longer = when-if (λ (k : List ℕ). length k ≡ entries) (eqb more 0) _ _ (λ z. v .long .lefts) (λ z. length-set (t .lefts) j more ∙ v .long .lefts)
 
           open-at : (n : ℕ) → Picks (e .op) (e .words) n (t .ats) (t .wholes) (t .lefts) → Valid e (run (topped (moved x (j + 1) at m) n) new b room)
           open-at n k = record {
@@ -85,6 +86,7 @@ module _ (e : Env) (fine : Fine e) (g : Target (e .words)) where
           (λ n. record {
             place = f .place;
             splits = f .splits;
+            chooses = f .chooses;
             held = f .held;
             within = λ y. longer-le n w;
             some = λ y. absurd (y z);
@@ -98,7 +100,7 @@ module _ (e : Env) (fine : Fine e) (g : Target (e .words)) where
           m = getD (t .wholes) j 0
 
           m-64 : m < 2 ^ 64
-          m-64 = let p = pow-mono (g .small (getD (t .ats) j 0) (f .held .tag)) in let h = f .held .marks in omega arith
+          m-64 = held-64 (e .words) (getD (t .ats) j 0) m g (f .held)
 
           longer-le : (longerOf c (m - c) ≡ 0 → ⊥) → c ≤ m → longerOf c (m - c) ≤ m
           longer-le n w = when-if (λ (k : ℕ). k ≤ m) (eqb (m - c) 0) 0 _ (λ y. omega arith)
@@ -110,10 +112,11 @@ module _ (e : Env) (fine : Fine e) (g : Target (e .words)) where
           (λ n. record {
             place = f .place;
             splits = f .splits;
+            chooses = f .chooses;
             held = f .held;
             within = λ y. absurd (z y);
             some = λ y. omega arith;
-            there = λ y. clear-lt (countAt (e .words) (getD (t .ats) j 0)) k c (f .there z);
+            there = λ y. clear-lt (marksAt (e .words) (getD (t .ats) j 0)) k c (f .there z);
           })
         where
           c : ℕ
@@ -129,8 +132,11 @@ module _ (e : Env) (fine : Fine e) (g : Target (e .words)) where
           place = elementAt (e .words) (getD (t .ats) j 0) k
 
           inside : Tag (e .words) place
-          inside = element-tag (e .words) (getD (t .ats) j 0) k g (f .held .tag)
-              (low-there (countAt (e .words) (getD (t .ats) j 0)) c (g .small (getD (t .ats) j 0) (f .held .tag)) (f .some z) (f .there z))
+          inside =
+              let p = marks-count (e .words) (getD (t .ats) j 0) in
+              let q = g .small (getD (t .ats) j 0) (f .held .tag) in
+              let r = low-there (marksAt (e .words) (getD (t .ats) j 0)) c (omega arith) (f .some z) (f .there z) in
+              element-tag (e .words) (getD (t .ats) j 0) k g (f .held .tag) (omega arith)
 
     pick-keeps : Valid e (afterTurn (pickOf (e .op) (e .words) x t) b room)
     unfolding pickOf afterTurn

@@ -2,86 +2,44 @@
 use Prim.Native.Nat.{ℕ, zero, suc, _+_, _-_, _^_, _≤_, _<_}
 use native.Mathlib.Numerals.{add-one}
 use native.Mathlib.Omega.{arith}
-use mathlib.Core.Path.{_≡_, refl, sym, ap, _∙_, fun-ext}
+use mathlib.Core.Path.{_≡_, refl, sym, ap, ap₂, _∙_}
 use mathlib.Core.Bool.{Bool, true, false}
 use mathlib.Core.Option.{Option, none, some}
-use mathlib.Core.List.{List, _++_}
+use mathlib.Core.List.{List}
 use lib.ListN.{length, getD, set}
-use lib.Seq.{getD-set-same, getD-set-other}
-use lib.Dec.{eqb, eqb→eq, eqb-refl, T}
+use lib.Dec.{eqb}
 use lib.Count.{trailingZeros}
 use lib.IntN.{ℤ, pos}
-use borrow.Author.Tests.{ne-eqb}
-use Rattle.rules.specs.Forms.{Matcher, something, integer, list, multiset}
-use Rattle.rules.specs.Fit.{takes}
-use Rattle.promises.specs.Written.{matcherWords}
+use borrow.Author.Tests.{ne-eqb, lt-ltb}
+use Rattle.rules.specs.Forms.{Matcher, something, integer, list, multiset, tupleOf}
+use Rattle.rules.specs.Fit.{isInteger}
 use Rattle.rules.specs.Numbers.{same}
 use Rattle.rules.specs.Equality.{equal}
-use Rattle.program.specs.Points.{asValue, Instr, bind, strip, test}
-use Rattle.program.specs.Meaning.{MatcherAt, Means, means-end, means-strip, means-drop, means-bind, means-constant, means-integer, means-value, means-nil, means-list, means-multiset, means-join}
-use Rattle.engine.specs.Engine.{put, Slot, Conf, Turn, on, back, check, next, pushed, opening, exec, slotAfter, topAfter, chosen, choose, nextChoice}
+use Rattle.words.specs.Words.{entries}
+use Rattle.program.specs.Points.{asValue, Instr, bind, strip, test, apart}
+use Rattle.matchers.specs.Places.{matcherAt}
+use Rattle.matchers.proofs.Matchers.{matcher-at}
+use Rattle.program.specs.Meaning.{Means, means-end, means-strip, means-drop, means-bind, means-constant, means-integer, means-value, means-nil, means-list, means-multiset, means-join, means-tuple}
+use Rattle.engine.specs.Engine.{put, Slot, Conf, Turn, on, back, check, next, pushed, opening, parting, exec, slotAfter, topAfter, chosen, choose, nextChoice}
 use Rattle.engine.specs.Whole.{table-set}
 use Rattle.marks.specs.Marks.{clear}
-use Rattle.holding.specs.Places.{Target, elementAt}
+use Rattle.holding.specs.Places.{Target, countAt, elementAt}
 use Rattle.holding.specs.Held.{wholeAt}
-use Rattle.holding.specs.Row.{holds, nothing}
-use Rattle.holding.specs.Equality.{matcherAt, matcherOf, equalAt}
-use Rattle.holding.specs.declared.rows.Binding.{Binding}
+use Rattle.rows.specs.Row.{holds, nothing}
+use Rattle.equality.specs.Equality.{equalAt}
+use Rattle.rows.specs.declared.Binding.{Binding}
 use Rattle.stepping.specs.declared.State.{State}
 use Rattle.stepping.specs.Steps as numbers
-use Rattle.stepping.specs.Steps.{when, Tables, Turned, tables, turned, counted, moved, lived, dropped, pushedIn, passesOf, noneOf, opensOf, splitOf, stepBy, stepOf, topped, topLeft, nowLeft, longerOf, joinOf, joinBy, consOf, consBy, pickOf}
+use Rattle.stepping.specs.Steps.{when, Tables, Turned, tables, turned, counted, moved, lived, dropped, pushedIn, passesOf, noneOf, opensOf, splitOf, stored, partMarks, apartAt, apartAts, apartBacks, apartOf, divideOf, stepBy, stepOf, topped, topLeft, nowLeft, longerOf, joinOf, joinBy, consOf, consBy, pickOf}
 use Rattle.searching.specs.Run.{Env, Run, run, askOf, lineAt, boundAt, asked, takeBind, takeStep, afterTurn}
 use Rattle.searching.specs.Valid.{Long}
 use Rattle.tying.specs.Operations.{binding, isNone, isNumber, isSame, someOf, opensBy, opens, takePlace, takeFront, pick}
 use Rattle.tying.specs.Operations as operations
 use Rattle.tying.proofs.Instance.{places}
 use Rattle.searching.specs.Meaning.{slotsOf, bindsOf, confOf, standing}
-
--- ---- The stores of a push are one changed slot; so are those of a choice.
-
-module _ (s : List ℤ) (g : Target s) where
-  -- A table that differs in one entry only.
-  one-changed : (f old : ℕ → Slot (places s g)) (i : ℕ) (x : Slot (places s g)) → f i ≡ x → ((j : ℕ) → (j ≡ i → ⊥) → f j ≡ old j) → f ≡ put old i x
-  unfolding put
-  one-changed f old i x e h = fun-ext (λ j. go j (eqb i j) (eqb→eq i j) (λ q. rw q (eqb-refl j)))
-    where
-      go : (j : ℕ) (b : Bool) → (T b → i ≡ j) → (i ≡ j → T b) → f j ≡ elim b as (λ _. Slot (places s g)) [ true ↦ x | false ↦ old j ]
-      go j true p q = rw (sym (p tt)) e
-      go j false p q = h j (λ z. q (sym z))
-
-  slots-push : (c : ℕ) (x : State) (t : Tables) → Long t → x .pc < 390
-      → slotsOf s g (pushedIn c x t)
-      ≡ put (slotsOf s g t) (x .pc) (record { held = binding (x .at) (x .marks); rem = c; prev = x .top; second = binding (x .at) (getD (t .backs) (x .pc) 0) })
-  unfolding slotsOf pushedIn
-  slots-push c x t l h = one-changed _ _ (x .pc) _
-      (rw (getD-set-same (t .ats) (x .pc) (x .at) 0 (omega (arith, l .ats)), getD-set-same (t .wholes) (x .pc) (x .marks) 0 (omega (arith, l .wholes)), getD-set-same (t .lefts) (x .pc) c 0 (omega (arith, l .lefts)), getD-set-same (t .lows) (x .pc) (x .top) 0 (omega (arith, l .lows))))
-      (λ j n. rw (getD-set-other (t .ats) (x .pc) j (x .at) 0 n, getD-set-other (t .wholes) (x .pc) j (x .marks) 0 n, getD-set-other (t .lefts) (x .pc) j c 0 n, getD-set-other (t .lows) (x .pc) j (x .top) 0 n))
-
-  slots-pick : (more b j : ℕ) (t : Tables) → Long t → j < 390
-      → slotsOf s g (tables (t .ats) (t .wholes) (nowLeft more j (t .lefts)) (t .lows) (set (t .backs) j b))
-      ≡ put (slotsOf s g t) j (slotAfter (places s g) (slotsOf s g t j) (someOf more) (binding (getD (t .ats) j 0) b))
-  unfolding slotsOf slotAfter nowLeft someOf when
-  slots-pick more b j t l h = by (eqb more 0)
-    where
-      by : (q : Bool) → slotsOf s g (tables (t .ats) (t .wholes) (when q (t .lefts) (set (t .lefts) j more)) (t .lows) (set (t .backs) j b))
-          ≡ put (slotsOf s g t) j (slotAfter (places s g) (slotsOf s g t j) (when q none (some more)) (binding (getD (t .ats) j 0) b))
-      by true = one-changed _ _ j _ (rw (getD-set-same (t .backs) j b 0 (omega (arith, l .backs)))) (λ i n. rw (getD-set-other (t .backs) j i b 0 n))
-      by false = one-changed _ _ j _ (rw (getD-set-same (t .backs) j b 0 (omega (arith, l .backs)), getD-set-same (t .lefts) j more 0 (omega (arith, l .lefts))))
-          (λ i n. rw (getD-set-other (t .backs) j i b 0 n, getD-set-other (t .lefts) j i more 0 n))
+use Rattle.searching.proofs.Slots.{slots-push, slots-pick, slots-keep}
 
 -- ---- One state taken up.
-
--- The matcher whose words stand at an index.
-matcher-words : (m : Matcher) (l : List ℤ) → matcherOf (matcherWords m ++ l) ≡ m
-unfolding matcherOf matcherWords
-matcher-words something l = refl
-matcher-words integer l = refl
-matcher-words (list m) l = ap list (matcher-words m l)
-matcher-words (multiset m) l = ap multiset (matcher-words m l)
-
-matcher-at : {ms : List ℤ} {i : ℕ} (m : Matcher) → MatcherAt ms i m → matcherAt ms i ≡ m
-unfolding matcherAt
-matcher-at m a = ap matcherOf (a .words) ∙ matcher-words m (a .rest)
 
 module _ (e : Env) (g : Target (e .words)) where
   unfoldable pub asTurn : Run → Turn (places (e .words) g)
@@ -137,16 +95,17 @@ module _ (e : Env) (g : Target (e .words)) where
         (q ∙ ap (λ (k : Matcher). equal k (holds (e .words) (getD b (getD (e .arg) (x .pc) 0) nothing)) (holds (e .words) (binding (x .at) (x .marks)))) (sym f))
         ∙ test-turn (equal (matcherAt (e .matcher) (getD (e .mat) (x .pc) 0)) (holds (e .words) (getD b (getD (e .arg) (x .pc) 0) nothing)) (holds (e .words) (binding (x .at) (x .marks))))
 
-    takes-same : (m : Matcher) → takes m 4 ≡ true
+    takes-same : (m : Matcher) → isInteger m ≡ false
         → isSame (e .words) m (getD (e .con) (x .pc) (pos 0)) (getD b (getD (e .arg) (x .pc) 0) nothing) (binding (x .at) (x .marks))
         ≡ equal m (holds (e .words) (getD b (getD (e .arg) (x .pc) 0) nothing)) (holds (e .words) (binding (x .at) (x .marks)))
-    unfolding isSame takes
+    unfolding isSame isInteger
     takes-same something h = refl
     takes-same integer h = let z : _≡_ {A = ℕ} 0 1 = cc in absurd (omega arith)
     takes-same (list m) h = refl
     takes-same (multiset m) h = refl
+    takes-same (tupleOf ms) h = refl
 
-    split-turn : Long t → x .pc < 390 → (c : ℕ) (q : Bool) → back (opening (places (e .words) g) (confOf (e .words) g x t b) (when q none (some c)))
+    split-turn : Long t → x .pc < entries → (c : ℕ) (q : Bool) → back (opening (places (e .words) g) (confOf (e .words) g x t b) (when q none (some c)))
         ≡ asTurn (afterTurn (when q (turned (lived (counted x) 2) t) (turned (numbers.pushed (counted x)) (pushedIn c (counted x) t))) b room)
     unfolding asTurn afterTurn when confOf opening pushed lived counted numbers.pushed slotsOf
     split-turn l h c true = refl
@@ -154,22 +113,64 @@ module _ (e : Env) (g : Target (e .words)) where
         rw (add-one (x .pc)) (ap (λ z. back (record { pc = x .pc; cur = binding (x .at) (x .marks); top = suc (x .pc); slots = z; binds = bindsOf (e .words) g b }))
         (sym (slots-push (e .words) g c (counted x) t l h)))
 
+    -- A tuple's number divides, and is above those of cons and join.
+    step-apart : (n : ℕ) (q : Bool) → stepBy (11 + n) (e .from) (e .con) (e .words) q (counted x) t ≡ apartOf (e .words) (suc n) (counted x) t
+    unfolding stepBy divideOf when
+    step-apart n q =
+        let a : 11 + n ≡ 1 → ⊥ = λ z. omega arith in
+        let b : 7 < 11 + n = omega arith in
+        let c : 10 < 11 + n = omega arith in
+        let d : 11 + n - 10 ≡ suc n = omega arith in
+        rw (ne-eqb (11 + n) 1 a, lt-ltb 7 (11 + n) b, lt-ltb 10 (11 + n) c, d)
+
+    apart-by : (n : ℕ) → Long t → x .pc + (suc n) ≤ entries → (q : Bool) → elim q as (λ _. Turn (places (e .words) g)) [
+      | true ↦ on (parting (places (e .words) g) (confOf (e .words) g x t b) n)
+      | false ↦ back (confOf (e .words) g x t b)
+    ]
+        ≡ asTurn (afterTurn
+        (turned (when q (moved (counted x) (x .pc + (suc n)) (elementAt (e .words) (x .at) 0) (partMarks (e .words) (x .at) 0)) (lived (counted x) 2))
+        (tables (when q (stored (elementAt (e .words) (x .at)) (x .pc) 1 (suc n) (t .ats)) (t .ats)) (t .wholes) (t .lefts) (t .lows)
+        (when q (stored (partMarks (e .words) (x .at)) (x .pc) 1 (suc n) (t .backs)) (t .backs)))) b room)
+    unfolding asTurn afterTurn when confOf moved lived counted parting partMarks operations.partOf
+    apart-by n l h true =
+        let y : suc (x .pc + n) ≡ x .pc + suc n = omega arith in
+        ap₂ (λ (pc : ℕ) (z : ℕ → Slot (places (e .words) g)). on (record { pc = pc; cur = operations.partOf (e .words) (binding (x .at) (x .marks)) 0; top = x .top; slots = z; binds = bindsOf (e .words) g b }))
+        y (slots-keep (e .words) g (x .at) (x .marks) (suc n) 1 (x .pc) t l h)
+    apart-by n l h false = refl
+
+    apart-turn : (n : ℕ) → Long t → x .pc + (suc n) ≤ entries → exec (places (e .words) g) (apart n) (confOf (e .words) g x t b) ≡ asTurn (stepAt (11 + n))
+    unfolding exec stepAt confOf operations.isWide apartOf apartAt apartAts apartBacks numbers.isWide counted
+    apart-turn n l h =
+        apart-is (eqb (countAt (e .words) (x .at)) (suc (suc n))) refl
+        ∙ ap (λ (u : Turned). asTurn (afterTurn u b room)) (sym (step-apart n _))
+      where
+        apart-is : (q : Bool) → eqb (countAt (e .words) (x .at)) (suc (suc n)) ≡ q → elim q as (λ _. Turn (places (e .words) g)) [
+          | true ↦ on (parting (places (e .words) g) (confOf (e .words) g x t b) n)
+          | false ↦ back (confOf (e .words) g x t b)
+        ]
+            ≡ asTurn (afterTurn (apartOf (e .words) (suc n) (counted x) t) b room)
+        apart-is q p =
+            let y : suc (suc n) ≡ suc n + 1 = omega arith in
+            apart-by n l h q ∙ rw (rw y at p)
+
     -- An instruction that takes up a state with an atom left, and is no bind.
-    pub step-turn : (i : Instr) → Means (e .matcher) (e .vars) (lineAt e (x .pc)) i → (getD (e .op) (x .pc) 0 ≡ 0 → ⊥) → (getD (e .op) (x .pc) 0 ≡ 3 → ⊥) → Long t → x .pc < 390
+    pub step-turn : (i : Instr) → Means (e .matcher) (e .vars) (lineAt e (x .pc)) i → (getD (e .op) (x .pc) 0 ≡ 0 → ⊥) → (getD (e .op) (x .pc) 0 ≡ 3 → ⊥) → Long t → x .pc < entries
+        → (10 < getD (e .op) (x .pc) 0 → x .pc + (getD (e .op) (x .pc) 0 - 10) < entries)
         → exec (places (e .words) g) i (confOf (e .words) g x t b) ≡ asTurn (takeStep e (run x t b room))
     unfolding stepAt when exec check confOf bindsOf slotsOf stepBy passesOf askOf boundAt splitOf opensOf noneOf opens opensBy operations.code isSame isNumber isNone counted lineAt
-    step-turn i (means-end z) n k l h = absurd (n z)
-    step-turn i (means-strip z) n k l h = strip-turn ∙ step-at z
-    step-turn i (means-drop z) n k l h = test-turn true ∙ step-at z
-    step-turn i (means-bind z) n k l h = absurd (k z)
-    step-turn i (means-constant z) n k l h = test-turn (same (getD (e .words) (x .at + 1) (pos 0)) (getD (e .con) (x .pc) (pos 0))) ∙ step-at z
-    step-turn i (means-integer z) n k l h =
+    step-turn i (means-end z) n k l h u = absurd (n z)
+    step-turn i (means-strip z) n k l h u = strip-turn ∙ step-at z
+    step-turn i (means-drop z) n k l h u = test-turn true ∙ step-at z
+    step-turn i (means-bind z) n k l h u = absurd (k z)
+    step-turn i (means-constant z) n k l h u = test-turn (same (getD (e .words) (x .at + 1) (pos 0)) (getD (e .con) (x .pc) (pos 0))) ∙ step-at z
+    step-turn i (means-integer z) n k l h u =
         test-turn (isSame (e .words) integer (getD (e .con) (x .pc) (pos 0)) (getD b (getD (e .arg) (x .pc) 0) nothing) (binding (x .at) (x .marks))) ∙ step-at z
-    step-turn i (means-value m z c a) n k l h = collection-turn m (matcher-at m a) (takes-same m c) ∙ step-at z
-    step-turn i (means-nil m z) n k l h = test-turn (eqb (x .marks) 0) ∙ step-at z
-    step-turn i (means-list m z) n k l h = split-turn l h (2 ^ trailingZeros 64 (x .marks)) (eqb (x .marks) 0) ∙ step-at z
-    step-turn i (means-multiset m z) n k l h = split-turn l h (x .marks) (eqb (x .marks) 0) ∙ step-at z
-    step-turn i (means-join m z) n k l h = split-turn l h 0 false ∙ step-at z
+    step-turn i (means-value m z c a) n k l h u = collection-turn m (matcher-at m (a .widths) (e .matcher) _ (a .rest) (a .words)) (takes-same m c) ∙ step-at z
+    step-turn i (means-nil m z) n k l h u = test-turn (eqb (x .marks) 0) ∙ step-at z
+    step-turn i (means-list m z) n k l h u = split-turn l h (2 ^ trailingZeros 64 (x .marks)) (eqb (x .marks) 0) ∙ step-at z
+    step-turn i (means-multiset m z) n k l h u = split-turn l h (x .marks) (eqb (x .marks) 0) ∙ step-at z
+    step-turn i (means-join m z) n k l h u = split-turn l h 0 false ∙ step-at z
+    step-turn i (means-tuple c z) n k l h u = let y = u (omega arith) in apart-turn c l (omega arith) ∙ step-at z
 
   -- ---- The next choice.
 
@@ -178,7 +179,7 @@ module _ (e : Env) (g : Target (e .words)) where
     unfoldable pub stands : Turned → Option (Conf (places (e .words) g))
     stands u = standing (e .words) g (u .state) (u .tables) b
 
-    choice-stands : (more at m w j : ℕ) → j < 390 → x .top ≡ suc j
+    choice-stands : (more at m w j : ℕ) → j < entries → x .top ≡ suc j
         → some (record {
           pc = suc j;
           cur = binding at m;
@@ -207,7 +208,7 @@ module _ (e : Env) (g : Target (e .words)) where
         go true = rw (add-one j)
         go false = rw (add-one j, f)
 
-    cons-stands : (j : ℕ) → j < 390 → x .top ≡ suc j
+    cons-stands : (j : ℕ) → j < entries → x .top ≡ suc j
         → some (chosen (places (e .words) g) (confOf (e .words) g x t b) j
         (takePlace (e .words) (binding (getD (t .ats) j 0) (getD (t .wholes) j 0)) (getD (t .lefts) j 0) (trailingZeros 64 (getD (t .lefts) j 0))))
         ≡ stands (consOf (e .words) j x t)
@@ -220,24 +221,25 @@ module _ (e : Env) (g : Target (e .words)) where
         k = trailingZeros 64 (getD (t .lefts) j 0)
 
     -- The choice at j.
-    choose-is : (j : ℕ) (i : Instr) → Means (e .matcher) (e .vars) (lineAt e j) i → 7 < getD (e .op) j 0 → j < 390 → x .top ≡ suc j
+    choose-is : (j : ℕ) (i : Instr) → Means (e .matcher) (e .vars) (lineAt e j) i → 7 < getD (e .op) j 0 → getD (e .op) j 0 < 11 → j < entries → x .top ≡ suc j
         → choose (places (e .words) g) i j (confOf (e .words) g x t b) ≡ stands (when (eqb (getD (e .op) j 0) 10) (joinOf j x t) (consOf (e .words) j x t))
     unfolding stands choose chosen confOf slotsOf joinOf joinBy pick takeFront when lineAt
-    choose-is j i (means-end z) o h f = absurd (omega arith)
-    choose-is j i (means-strip z) o h f = absurd (omega arith)
-    choose-is j i (means-drop z) o h f = absurd (omega arith)
-    choose-is j i (means-bind z) o h f = absurd (omega arith)
-    choose-is j i (means-constant z) o h f = absurd (omega arith)
-    choose-is j i (means-integer z) o h f = absurd (omega arith)
-    choose-is j i (means-value k z y a) o h f = absurd (omega arith)
-    choose-is j i (means-nil k z) o h f = absurd (omega arith)
-    choose-is j i (means-list k z) o h f = rw z (cons-stands j h f)
-    choose-is j i (means-multiset k z) o h f = rw z (cons-stands j h f)
-    choose-is j i (means-join k z) g h f =
+    choose-is j i (means-end z) o u h f = absurd (omega arith)
+    choose-is j i (means-strip z) o u h f = absurd (omega arith)
+    choose-is j i (means-drop z) o u h f = absurd (omega arith)
+    choose-is j i (means-bind z) o u h f = absurd (omega arith)
+    choose-is j i (means-constant z) o u h f = absurd (omega arith)
+    choose-is j i (means-integer z) o u h f = absurd (omega arith)
+    choose-is j i (means-value k z y a) o u h f = absurd (omega arith)
+    choose-is j i (means-nil k z) o u h f = absurd (omega arith)
+    choose-is j i (means-tuple k z) o u h f = absurd (omega arith)
+    choose-is j i (means-list k z) o u h f = rw z (cons-stands j h f)
+    choose-is j i (means-multiset k z) o u h f = rw z (cons-stands j h f)
+    choose-is j i (means-join k z) g u h f =
         rw z (choice-stands (longerOf (getD (t .lefts) j 0) (getD (t .wholes) j 0 - getD (t .lefts) j 0)) (getD (t .ats) j 0) (getD (t .lefts) j 0)
         (getD (t .wholes) j 0 - getD (t .lefts) j 0) j h f)
 
-    pub pick-is : (code : ℕ → Instr) (n : ℕ) → x .top ≡ n → ((j : ℕ) → n ≡ suc j → Means (e .matcher) (e .vars) (lineAt e j) (code j)) → ((n ≡ 0 → ⊥) → 7 < getD (e .op) (n - 1) 0) → n ≤ 390
+    pub pick-is : (code : ℕ → Instr) (n : ℕ) → x .top ≡ n → ((j : ℕ) → n ≡ suc j → Means (e .matcher) (e .vars) (lineAt e j) (code j)) → ((n ≡ 0 → ⊥) → (7 < getD (e .op) (n - 1) 0) × (getD (e .op) (n - 1) 0 < 11)) → n ≤ entries
         → nextChoice (places (e .words) g) code n (confOf (e .words) g x t b) ≡ stands (pickOf (e .op) (e .words) x t)
     unfolding nextChoice stands pickOf standing lived when
     pick-is code zero f m o h = rw f
@@ -245,4 +247,4 @@ module _ (e : Env) (g : Target (e .words)) where
         let p : x .top - 1 ≡ j = omega arith in
         let q : suc j - 1 ≡ j = omega arith in
         let u : x .top ≡ 0 → ⊥ = λ z. omega arith in
-        rw (ne-eqb (x .top) 0 u, p) (choose-is j (code j) (m j refl) (rw q at (o (λ z. omega arith))) (omega arith) f)
+        rw (ne-eqb (x .top) 0 u, p) (choose-is j (code j) (m j refl) (rw q at (o (λ z. omega arith) .0)) (rw q at (o (λ z. omega arith) .1)) (omega arith) f)

@@ -17,6 +17,7 @@ use Rattle.rules.specs.Fit.{fits}
 use Rattle.rules.specs.Search as search
 use Rattle.rules.specs.Search.{start}
 use Rattle.rules.specs.Services.{carriedOut}
+use Rattle.promises.specs.Written.{Widthsᵖ}
 use Rattle.program.specs.Points.{Instr}
 use Rattle.program.specs.Program.{program, pointAt, program-follows}
 use Rattle.program.specs.Length.{instrs}
@@ -28,7 +29,7 @@ use Rattle.engine.specs.Drive.{Engine, advance, turn, turns, verdict, reports, 
 use Rattle.engine.specs.Rep.{Rep}
 use Rattle.engine.specs.Whole.{fresh, fresh-same, machine-runs, place-bound}
 use Rattle.holding.specs.Places.{Target}
-use Rattle.holding.specs.declared.rows.Binding.{Binding}
+use Rattle.rows.specs.declared.Binding.{Binding}
 use Rattle.stepping.specs.Steps.{when, Tables}
 use Rattle.tying.specs.Operations.{binding}
 use Rattle.tying.proofs.Instance.{places}
@@ -101,7 +102,7 @@ pub run-more : (e : Env) (n : ℕ) (r : Run) → r .state .live ≡ 1 → runOf 
 unfolding runOf when
 run-more e n r l = rw (eq-eqb (r .state .live) 1 l)
 
-module _ (e : Env) (g : Target (e .words)) (fine : Fine e) (m : Matcher) (p : Pattern) (at₀ : ℕ) (ks : List Matcher) (fit : fits p m at₀ [] ≡ ok ks)
+module _ (e : Env) (g : Target (e .words)) (fine : Fine e) (m : Matcher) (p : Pattern) (at₀ : ℕ) (ks : List Matcher) (fit : fits p m at₀ [] ≡ ok ks) (wide : Widthsᵖ p)
     (means : (pc : ℕ) → pc ≤ instrs p m → Means (e .matcher) (e .vars) (lineAt e pc) (program m p pc)) where
   -- Taken up, a state leaves a run that is valid and still stands for what waits.
   pub record Stands (room : List ℤ) (r : Run) : Type 0 where
@@ -109,13 +110,13 @@ module _ (e : Env) (g : Target (e .words)) (fine : Fine e) (m : Matcher) (p : Pa
     pub phase : Phase (r .state .live)
     pub kept : Kept room r
     pub machine : Machine
-    pub same : Same (places (e .words) g) (program m p) (pointAt m p) (program-follows m p at₀ ks fit) (engineOf (e .words) g r) machine
+    pub same : Same (places (e .words) g) (program m p) (pointAt m p) (program-follows m p at₀ ks fit wide) (engineOf (e .words) g r) machine
 
   one-turn : (room : List ℤ) (r : Run) → Stands room r → r .state .live ≡ 1
       → turn (places (e .words) g) (program m p) (engineOf (e .words) g r) ≡ engineOf (e .words) g (settled e (takeOf e r))
   unfolding engineOf standing when confOf
   one-turn room r s l =
-      let w = same-waiting (places (e .words) g) (program m p) (pointAt m p) (program-follows m p at₀ ks fit) (s .same) (rw l) in
+      let w = same-waiting (places (e .words) g) (program m p) (pointAt m p) (program-follows m p at₀ ks fit wide) (s .same) (rw l) in
       let b = place-bound (places (e .words) g) m p (subst (λ o. Rep (places (e .words) g) (program m p) (pointAt m p) o (s .machine .waiting)) stood w) in
       turn-is e g fine (program m p) (r .state) (r .tables) (r .binds) (r .room) (s .valid) l (λ j h. means j (let k = b .0 in omega arith)) (b .1)
     where
@@ -129,8 +130,8 @@ module _ (e : Env) (g : Target (e .words)) (fine : Fine e) (m : Matcher) (p : Pa
     phase = phase-next e r (s .valid .room);
     kept = kept-next e room r (s .valid .room) (s .kept);
     machine = once (s .machine);
-    same = subst (λ k. Same (places (e .words) g) (program m p) (pointAt m p) (program-follows m p at₀ ks fit) k (once (s .machine))) (one-turn room r s l)
-        (drive.same-turn (places (e .words) g) (program m p) (pointAt m p) (program-follows m p at₀ ks fit) (s .same));
+    same = subst (λ k. Same (places (e .words) g) (program m p) (pointAt m p) (program-follows m p at₀ ks fit wide) k (once (s .machine))) (one-turn room r s l)
+        (drive.same-turn (places (e .words) g) (program m p) (pointAt m p) (program-follows m p at₀ ks fit wide) (s .same));
   }
 
   ended-stays : (r : Run) → (r .state .live ≡ 0) ⊎ (r .state .live ≡ 3)
@@ -210,8 +211,8 @@ module _ (e : Env) (g : Target (e .words)) (fine : Fine e) (m : Matcher) (p : Pa
       phase = inr (inl refl);
       kept = record { long = refl; after = refl };
       machine = opened (start m p v) (length room);
-      same = subst (λ k. Same (places (e .words) g) (program m p) (pointAt m p) (program-follows m p at₀ ks fit) k (opened (start m p v) (length room))) first-engine
-          (fresh-same (places (e .words) g) m p v (binding at₁ marks) is at₀ ks fit (slotsOf (e .words) g t) (bindsOf (e .words) g b) (length room));
+      same = subst (λ k. Same (places (e .words) g) (program m p) (pointAt m p) (program-follows m p at₀ ks fit wide) k (opened (start m p v) (length room))) first-engine
+          (fresh-same (places (e .words) g) m p v (binding at₁ marks) is at₀ ks fit wide (slotsOf (e .words) g t) (bindsOf (e .words) g b) (length room));
     }
 
     pub search-runs : (budget : ℕ)
@@ -221,4 +222,4 @@ module _ (e : Env) (g : Target (e .words)) (fine : Fine e) (m : Matcher) (p : Pa
         ∙ ap (λ k. carriedOut (reports (places (e .words) g) k) room)
         (run-is budget room (run (opening at₁ marks) t b room) first-stands ∙ ap (turns (places (e .words) g) (program m p) budget) (sym first-engine))
         ∙ ap (λ r. carriedOut r room)
-        (machine-runs (places (e .words) g) m p v (binding at₁ marks) is at₀ ks fit (slotsOf (e .words) g t) (bindsOf (e .words) g b) budget (length room))
+        (machine-runs (places (e .words) g) m p v (binding at₁ marks) is at₀ ks fit wide (slotsOf (e .words) g t) (bindsOf (e .words) g b) budget (length room))

@@ -8,8 +8,8 @@ use lib.IntN.{ℤ}
 use Rattle.engine.specs.Engine.{Slot, Conf}
 use Rattle.engine.specs.Drive.{Engine}
 use Rattle.holding.specs.Places.{Target}
-use Rattle.holding.specs.Row.{nothing}
-use Rattle.holding.specs.declared.rows.Binding.{Binding}
+use Rattle.rows.specs.Row.{nothing}
+use Rattle.rows.specs.declared.Binding.{Binding}
 use Rattle.stepping.specs.declared.State.{State}
 use Rattle.stepping.specs.Steps.{when, Tables}
 use Rattle.tying.specs.Operations.{binding}

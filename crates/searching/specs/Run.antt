@@ -9,9 +9,9 @@ use lib.IntN.{ℤ, pos}
 use Rattle.rules.specs.Search.{row}
 use Rattle.rules.specs.Services.{Matched}
 use Rattle.holding.specs.Held.{put}
-use Rattle.holding.specs.Row.{bound, nothing}
-use Rattle.holding.specs.Equality.{equalAt, isSum}
-use Rattle.holding.specs.declared.rows.Binding.{Binding}
+use Rattle.rows.specs.Row.{bound, nothing}
+use Rattle.equality.specs.Equality.{equalAt, isSum}
+use Rattle.rows.specs.declared.Binding.{Binding}
 use Rattle.program.specs.Lines.{Line, line}
 use Rattle.stepping.specs.declared.State.{State}
 use Rattle.stepping.specs.Steps.{when, Tables, Turned, counted, dropped, stepOf, pickOf}
@@ -62,7 +62,7 @@ unfoldable pub endOf : List ℤ → ℕ → State → List Binding → List ℤ 
 unfolding endBy
 endOf s n x b room = endBy (row (bound s b n)) x room
 
--- ---- What tag 3 asks: 5 under integer, 6 under a collection.
+-- ---- What tag 3 asks: 5 under integer, 6 under another matcher.
 
 unfoldable pub askOf : ℕ → List ℤ → ℕ → ℤ → List ℤ → Binding → ℕ → ℕ → Bool
 unfolding when

@@ -10,11 +10,13 @@ use Rattle.rules.specs.Fit.{fits, fitsValue}
 use Rattle.rules.specs.Search as search
 use Rattle.rules.specs.Search.{start}
 use Rattle.rules.specs.Services.{Rule, Matched, carriedOut}
+use Rattle.promises.specs.Written.{Widthsᵖ}
+use Rattle.words.specs.Words.{entries}
 use Rattle.program.specs.Lines.{columns}
 use Rattle.program.specs.Columns.{Holds}
 use Rattle.holding.specs.Held.{wholeAt}
-use Rattle.holding.specs.Row.{nothing}
-use Rattle.holding.specs.declared.rows.Binding.{Binding}
+use Rattle.rows.specs.Row.{nothing}
+use Rattle.rows.specs.declared.Binding.{Binding}
 use Rattle.stepping.specs.Steps.{tables}
 use Rattle.searching.specs.Run.{Env, Run, run, runOf, opening, told}
 
@@ -27,10 +29,10 @@ unbound n = replicate n nothing
 
 unfoldable pub begun : Env → List ℤ → Run
 unfolding opening zeros unbound
-begun e room = run (opening 0 (wholeAt (e .words) 0)) (tables (zeros 390) (zeros 390) (zeros 390) (zeros 390) (zeros 390)) (unbound 16) room
+begun e room = run (opening 0 (wholeAt (e .words) 0)) (tables (zeros entries) (zeros entries) (zeros entries) (zeros entries) (zeros entries)) (unbound 16) room
 
 pub record Searched (e : Env) (budget : ℕ) (room : List ℤ) (out : Matched) : Type 0 where
   pub is : out ≡ told (runOf e budget (begun e room))
   pub as-defined : (r : Rule) (v : Value) (ks : List Matcher) → Holds (e .matcher) r (e .vars) (columns (e .op) (e .from) (e .arg) (e .mat) (e .con))
-      → fits (r .pattern) (r .matcher) 0 [] ≡ ok ks → readTarget (e .words) ≡ ok v → fitsValue (r .matcher) v 0 ≡ ok tt
+      → fits (r .pattern) (r .matcher) 0 [] ≡ ok ks → Widthsᵖ (r .pattern) → readTarget (e .words) ≡ ok v → fitsValue (r .matcher) v 0 ≡ ok tt
       → out ≡ carriedOut (search.run budget (start (r .matcher) (r .pattern) v ∷ []) (length room)) room

@@ -1,44 +1,48 @@
 -- What keeps a run safe: a table of facts about each entry by itself. A step keeps it, so no run reads or writes outside its tables, whatever it stands for.
-use Prim.Native.Nat.{ℕ, suc, _+_, _^_, _≤_, _<_}
+use Prim.Native.Nat.{ℕ, suc, _+_, _-_, _^_, _≤_, _<_}
 use mathlib.Core.Path.{_≡_}
 use mathlib.Core.List.{List}
 use lib.ListN.{length, getD}
 use lib.IntN.{ℤ}
+use Rattle.words.specs.Words.{entries}
 use Rattle.holding.specs.Places.{Target}
 use Rattle.holding.specs.Tables.{Ends, Places}
 use Rattle.holding.specs.Held.{Held}
-use Rattle.holding.specs.Row.{Bound}
-use Rattle.holding.specs.declared.rows.Binding.{Binding}
+use Rattle.rows.specs.Row.{Bound}
+use Rattle.rows.specs.declared.Binding.{Binding}
 use Rattle.stepping.specs.declared.State.{State}
 use Rattle.stepping.specs.Steps.{Tables, Steps, Picks}
 use Rattle.searching.specs.Run.{Env, Run}
 
--- The program: slots and variables are in range, and its last line is an end.
+-- The program: slots and variables are in range, and its last line is an end. A tuple's parts wait at its own place and at those after it that are
+-- reserved, where no choice is made; and the program goes on after them.
 pub record Fine (e : Env) : Type 0 where
-  pub last : getD (e .op) 389 0 ≡ 0
-  pub slots : (i : ℕ) → i < 390 → getD (e .from) i 0 < 390
-  pub numbers : (i : ℕ) → i < 390 → getD (e .arg) i 0 < 16
+  pub last : getD (e .op) (entries - 1) 0 ≡ 0
+  pub slots : (i : ℕ) → i < entries → getD (e .from) i 0 < entries
+  pub numbers : (i : ℕ) → i < entries → getD (e .arg) i 0 < 16
   pub few : e .vars ≤ 16
+  pub parts : (i : ℕ) → i < entries → 10 < getD (e .op) i 0 → i + (getD (e .op) i 0 - 10) < entries
+  pub reserved : (i k : ℕ) → 0 < k → 11 + k ≤ getD (e .op) i 0 → getD (e .op) (i + k) 0 ≡ 1
 
 -- The tables have a slot for each instruction.
 pub record Long (t : Tables) : Type 0 where
-  pub ats : length (t .ats) ≡ 390
-  pub wholes : length (t .wholes) ≡ 390
-  pub lefts : length (t .lefts) ≡ 390
-  pub lows : length (t .lows) ≡ 390
-  pub backs : length (t .backs) ≡ 390
+  pub ats : length (t .ats) ≡ entries
+  pub wholes : length (t .wholes) ≡ entries
+  pub lefts : length (t .lefts) ≡ entries
+  pub lows : length (t .lows) ≡ entries
+  pub backs : length (t .backs) ≡ entries
 
 -- The last open frame, and the one that each slot has below it, are frames from which a choice can be taken.
 pub record Open (op : List ℕ) (s : List ℤ) (top : ℕ) (t : Tables) : Type 0 where
   pub last : Picks op s top (t .ats) (t .wholes) (t .lefts)
-  pub below : (i : ℕ) → i < 390 → Picks op s (getD (t .lows) i 0) (t .ats) (t .wholes) (t .lefts)
+  pub below : (i : ℕ) → i < entries → Picks op s (getD (t .lows) i 0) (t .ats) (t .wholes) (t .lefts)
 
 -- What waits in a slot is held. While the next choice is to be taken, the last open frame's slot is about to be written.
 pub record Waits (s : List ℤ) (live top : ℕ) (t : Tables) : Type 0 where
-  pub held : (j : ℕ) → j < 390 → (live ≡ 2 → top ≡ suc j → ⊥) → Held s (getD (t .ats) j 0) (getD (t .backs) j 0)
+  pub held : (j : ℕ) → j < entries → (live ≡ 2 → top ≡ suc j → ⊥) → Held s (getD (t .ats) j 0) (getD (t .backs) j 0)
 
 pub record Valid (e : Env) (r : Run) : Type 0 where
-  pub place : r .state .pc < 390
+  pub place : r .state .pc < entries
   pub held : Held (e .words) (r .state .at) (r .state .marks)
   pub frames : Open (e .op) (e .words) (r .state .top) (r .tables)
   pub waits : Waits (e .words) (r .state .live) (r .state .top) (r .tables)
@@ -62,6 +66,6 @@ pub record Rows (s : List ℤ) (b : List Binding) (n : ℕ) (x : State) (room : 
   pub rows : x .rows + 1 < 2 ^ 64
   pub words : x .words ≤ length room
 
-pub record Takes (o : ℕ) (s : List ℤ) (from : List ℕ) (b : List Binding) (n : ℕ) (x : State) (room : List ℤ) : Type 0 where
+pub record Takes (o : ℕ) (s : List ℤ) (op from : List ℕ) (b : List Binding) (n : ℕ) (x : State) (room : List ℤ) : Type 0 where
   pub row : o ≡ 0 → Rows s b n x room
-  pub step : (o ≡ 0 → ⊥) → Steps s from x
+  pub step : (o ≡ 0 → ⊥) → Steps s op from x

@@ -1,14 +1,15 @@
 // Document 01, section 4: "a run takes up states until none remain or the budget is used". The bindings are sixteen structs by value, beside the state.
-use holding::equality::equal;
-use holding::equality::is_sum;
+use equality::equal;
+use equality::is_sum;
 use holding::places::ends_of;
 use holding::places::places_of;
 use holding::places::whole;
-use holding::rows::Binding;
-use holding::rows::bind;
-use holding::rows::put_row;
-use holding::rows::row_size;
+use rows::Binding;
+use rows::bind;
+use rows::put_row;
+use rows::row_size;
 use stepping::State;
+use words::ENTRIES;
 ghost use mathlib.Core.Path.{_≡_};
 ghost use Prim.Native.Nat.{_-_, _<_};
 ghost use lib.ListN.{length};
@@ -64,23 +65,36 @@ fn take(
     ends: &[u16; 512],
     base: &[u16; 512],
     places: &[u16; 512],
-    op: &[u8; 390],
-    from: &[u16; 390],
-    con: &[i32; 390],
-    ats: &mut [u16; 390],
-    wholes: &mut [u64; 390],
-    lefts: &mut [u64; 390],
-    lows: &mut [u16; 390],
-    backs: &[u64; 390],
+    op: &[u8; ENTRIES],
+    from: &[u16; ENTRIES],
+    con: &[i32; ENTRIES],
+    ats: &mut [u16; ENTRIES],
+    wholes: &mut [u64; ENTRIES],
+    lefts: &mut [u64; ENTRIES],
+    lows: &mut [u16; ENTRIES],
+    backs: &mut [u64; ENTRIES],
     room: &mut [i32],
 ) -> State
-    requires { ⌜ Given (now s) (now ends) (now base) (now places) ⌝ ∗ ⌜ Takes o (now s) (now from) b n x (now room) ⌝ }
-    ensures { λ r. ⌜ run r (tables (now (ats .exit)) (now (wholes .exit)) (now (lefts .exit)) (now (lows .exit)) (now (backs .entry))) b (now (room .exit)) ≡ taken o q (now (op .entry)) (now (from .entry)) (now (con .entry)) (now (s .entry)) n (run x (tables (now (ats .entry)) (now (wholes .entry)) (now (lefts .entry)) (now (lows .entry)) (now (backs .entry))) b (now (room .entry))) ⌝ }
+    requires { ⌜ Given (now s) (now ends) (now base) (now places) ⌝ ∗ ⌜ Takes o (now s) (now op) (now from) b n x (now room) ⌝ }
+    ensures { λ r. ⌜ run r (tables (now (ats .exit)) (now (wholes .exit)) (now (lefts .exit)) (now (lows .exit)) (now (backs .exit))) b (now (room .exit)) ≡ taken o q (now (op .entry)) (now (from .entry)) (now (con .entry)) (now (s .entry)) n (run x (tables (now (ats .entry)) (now (wholes .entry)) (now (lefts .entry)) (now (lows .entry)) (now (backs .entry))) b (now (room .entry))) ⌝ }
 {
     if o == 0 {
         return finish(x, b, n, s, ends, base, places, room);
     }
-    x.step(q, s, op, from, con, ats, wholes, lefts, lows, backs)
+    x.step(
+        q,
+        s,
+        base,
+        places,
+        op,
+        from,
+        con,
+        ats,
+        wholes,
+        lefts,
+        lows,
+        backs,
+    )
 }
 
 pub struct Found {
@@ -99,16 +113,16 @@ pub fn advance(
     ends: &[u16; 512],
     base: &[u16; 512],
     places: &[u16; 512],
-    op: &[u8; 390],
-    from: &[u16; 390],
-    arg: &[u8; 390],
-    mat: &[u8; 390],
-    con: &[i32; 390],
-    ats: &mut [u16; 390],
-    wholes: &mut [u64; 390],
-    lefts: &mut [u64; 390],
-    lows: &mut [u16; 390],
-    backs: &mut [u64; 390],
+    op: &[u8; ENTRIES],
+    from: &[u16; ENTRIES],
+    arg: &[u8; ENTRIES],
+    mat: &[u8; ENTRIES],
+    con: &[i32; ENTRIES],
+    ats: &mut [u16; ENTRIES],
+    wholes: &mut [u64; ENTRIES],
+    lefts: &mut [u64; ENTRIES],
+    lows: &mut [u16; ENTRIES],
+    backs: &mut [u64; ENTRIES],
     room: &mut [i32],
 ) -> Found
     requires { ⌜ Given (now s) (now ends) (now base) (now places) ⌝ ∗ ⌜ Fine (env (now op) (now from) (now arg) (now mat) (now con) (now mt) (now s) n) ⌝ ∗ ⌜ Valid (env (now op) (now from) (now arg) (now mat) (now con) (now mt) (now s) n) (run first (tables (now ats) (now wholes) (now lefts) (now lows) (now backs)) given (now room)) ⌝ }
@@ -192,11 +206,11 @@ pub fn search(
     n: usize,
     mt: &[i32],
     s: &[i32],
-    op: &[u8; 390],
-    from: &[u16; 390],
-    arg: &[u8; 390],
-    mat: &[u8; 390],
-    con: &[i32; 390],
+    op: &[u8; ENTRIES],
+    from: &[u16; ENTRIES],
+    arg: &[u8; ENTRIES],
+    mat: &[u8; ENTRIES],
+    con: &[i32; ENTRIES],
     room: &mut [i32],
 ) -> Report
     requires { ⌜ Target (now s) ⌝ ∗ ⌜ 0 < length (now s) ⌝ ∗ ⌜ Fine (env (now op) (now from) (now arg) (now mat) (now con) (now mt) (now s) n) ⌝ }
@@ -207,11 +221,11 @@ pub fn search(
     let mut places = [0u16; 512];
     ends_of(s, &mut ends);
     places_of(s, &ends, &mut base, &mut places);
-    let mut ats = [0u16; 390];
-    let mut wholes = [0u64; 390];
-    let mut lefts = [0u64; 390];
-    let mut lows = [0u16; 390];
-    let mut backs = [0u64; 390];
+    let mut ats = [0u16; ENTRIES];
+    let mut wholes = [0u64; ENTRIES];
+    let mut lefts = [0u64; ENTRIES];
+    let mut lows = [0u16; ENTRIES];
+    let mut backs = [0u64; ENTRIES];
     let given = [Binding { at: 0, marks: 0 }; 16];
     let first = State {
         pc: 0,

@@ -10,6 +10,7 @@ use Rattle.rules.specs.Reading.{Verdict, ok, fault, readMatcher}
 use Rattle.rules.specs.Services.{Judged, accepted, refused, test, Rule, ruleOf, targetOf, turnedAway, matchTarget, matchRule, match}
 use Rattle.rules.specs.Services as paper
 use Rattle.promises.specs.Faults.{rule-accepted, Sane, sane-exactly}
+use Rattle.words.specs.Words.{entries}
 use Rattle.program.specs.Accepted.{matcher-short, pattern-short}
 use Rattle.program.specs.Lines.{columns, linesOf, variablesIn, laid}
 use Rattle.program.specs.Columns.{Holds, compiled-zeros}
@@ -18,9 +19,9 @@ use Rattle.searching.specs.Run.{env}
 use Rattle.searching.specs.Valid.{Fine}
 use Rattle.searching.specs.Searched.{Searched}
 use Rattle.searching.proofs.Accepted.{accepted-target, accepted-some, accepted-fine, accepted-match}
-use Rattle.reading.specs.Tests.{judgement, targetUnder}
-use Rattle.reading.specs.declared.refusal.Judgement.{Judgement}
-use Rattle.reading.specs.declared.refusal.Judgement.the-variants.{Accepted, Refused}
+use Rattle.judging.specs.Judgements.{judgement, targetUnder}
+use Rattle.judging.specs.declared.Judgement.{Judgement}
+use Rattle.judging.specs.declared.Judgement.the-variants.{Accepted, Refused}
 use Rattle.services.specs.Matches.{Ready}
 
 -- ---- What a judgement says.
@@ -66,7 +67,7 @@ both-ready ms ps ts x y p q k l =
 pub ready-sane : {ms ps ts : List ℤ} (g : Ready ms ps ts) → Sane ms ps ts (g .rule) (g .value)
 ready-sane {ms} {ps} {ts} g = sane-exactly ms ps ts (g .rule) (g .value) .0 (g .rule-is, g .value-is)
 
-pub matcher-few : (ms ps ts : List ℤ) → Ready ms ps ts → length ms < 256
+pub matcher-few : (ms ps ts : List ℤ) → Ready ms ps ts → length ms ≤ 64
 matcher-few ms ps ts g = let h = matcher-short ms ps (g .rule) (g .rule-is) in omega arith
 
 pub pattern-few : (ms ps ts : List ℤ) → Ready ms ps ts → length ps ≤ 256
@@ -80,7 +81,7 @@ ready-some ms ps ts g = accepted-some ms ps ts (g .rule) (g .value) (ready-sane 
 
 -- The compiled rule, in arrays that held zeros.
 module _ (ms ps ts : List ℤ) (n : ℕ) (op from arg mat : List ℕ) (con : List ℤ) (g : Ready ms ps ts) (vars : n ≡ variablesIn (linesOf ms ps))
-    (is : columns op from arg mat con ≡ laid 0 (linesOf ms ps) (columns (replicate 390 0) (replicate 390 0) (replicate 390 0) (replicate 390 0) (replicate 390 (pos 0)))) where
+    (is : columns op from arg mat con ≡ laid 0 (linesOf ms ps) (columns (replicate entries 0) (replicate entries 0) (replicate entries 0) (replicate entries 0) (replicate entries (pos 0)))) where
   holds : Holds ms (g .rule) n (columns op from arg mat con)
   holds = compiled-zeros ms ps (g .rule) (g .rule-is) n (columns op from arg mat con) vars is
 

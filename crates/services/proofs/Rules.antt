@@ -13,12 +13,13 @@ use Rattle.rules.specs.Services.{Judged, accepted, refused, Rule, ruleOf, decli
 use Rattle.rules.specs.Services as paper
 use Rattle.promises.specs.Tests.{leb-true, leb-false}
 use Rattle.words.specs.Words.{tagZ}
+use Rattle.words.specs.Words.{entries}
 use Rattle.program.specs.Accepted.{matcher-short, pattern-short}
 use Rattle.program.specs.Lines.{Columns, columns, linesOf, variablesIn, laid}
 use Rattle.program.specs.Columns.{compiled-zeros}
-use Rattle.reading.specs.Tests.{judgement}
-use Rattle.reading.specs.declared.refusal.Judgement.{Judgement}
-use Rattle.reading.specs.declared.refusal.Judgement.the-variants.{Accepted, Refused}
+use Rattle.judging.specs.Judgements.{judgement}
+use Rattle.judging.specs.declared.Judgement.{Judgement}
+use Rattle.judging.specs.declared.Judgement.the-variants.{Accepted, Refused}
 use Rattle.services.specs.Tally.{sumFrom, within}
 use Rattle.services.specs.Reviews.{Sound, sound, countUnder, reviewed}
 use Rattle.services.specs.declared.tally.Tally.{Tally}
@@ -35,7 +36,7 @@ unfolding judgement
 accepted-sound (accepted r) x q e = sound r
 accepted-sound (refused a i) x q e = let z : _≡_ {A = ℕ} 0 1 = cc in absurd (omega arith)
 
-pub matcher-few : (ms ps : List ℤ) → Sound (ruleOf ms ps) → length ms < 256
+pub matcher-few : (ms ps : List ℤ) → Sound (ruleOf ms ps) → length ms ≤ 64
 matcher-few ms ps s = let r = sound-is s in let h = matcher-short ms ps (r .0) (r .1) in omega arith
 
 pub pattern-few : (ms ps : List ℤ) → Sound (ruleOf ms ps) → length ps ≤ 256
@@ -43,8 +44,8 @@ pattern-few ms ps s = let r = sound-is s in pattern-short ms ps (r .0) (r .1)
 
 -- The sum over its compiled lines is its count.
 pub count-is : (ms ps : List ℤ) (most vars : ℕ) (op from arg mat : List ℕ) (con : List ℤ) (x : Tally) → Sound (ruleOf ms ps) → vars ≡ variablesIn (linesOf ms ps)
-    → columns op from arg mat con ≡ laid 0 (linesOf ms ps) (columns (replicate 390 0) (replicate 390 0) (replicate 390 0) (replicate 390 0) (replicate 390 (pos 0)))
-    → x ≡ within (sumFrom most op 1 0 390) → x ≡ countUnder most (ruleOf ms ps)
+    → columns op from arg mat con ≡ laid 0 (linesOf ms ps) (columns (replicate entries 0) (replicate entries 0) (replicate entries 0) (replicate entries 0) (replicate entries (pos 0)))
+    → x ≡ within (sumFrom most op 1 0 0 entries) → x ≡ countUnder most (ruleOf ms ps)
 unfolding countUnder
 count-is ms ps most vars op from arg mat con x s v e q =
     let r = sound-is s in

@@ -11,7 +11,8 @@ use borrow.Author.Tests.{lt-ltb, le-ltb, eq-eqb, ne-eqb}
 use borrow.Author.Needs.{needs}
 use mir.Syntax.{w64}
 use mir.Val.{Fits}
-use Rattle.services.specs.Tally.{factorOf, sumFrom, within}
+use Rattle.words.specs.Words.{entries}
+use Rattle.services.specs.Tally.{factorOf, reservedAfter, sumFrom, within}
 use Rattle.services.specs.declared.tally.Tally.{Tally}
 use Rattle.services.specs.declared.tally.Tally.the-variants.{Count, TooBig}
 
@@ -35,43 +36,60 @@ factor-bound most o f e t q h k =
     let j : e * f ≤ e * 65 = mul-le-mul-left e i in
     omega arith
 
-line : (most e pc : ℕ) (op : List ℕ) → pc < 390 → sumFrom most op e pc (390 - pc) ≡ e + cond (eqb (getD op pc 0) 0) 0 (sumFrom most op (e * factorOf most (getD op pc 0)) (pc + 1) (390 - (pc + 1)))
+line : (most e pc : ℕ) (op : List ℕ) → pc < entries
+    → sumFrom most op e 0 pc (entries - pc) ≡ e + cond (eqb (getD op pc 0) 0) 0 (sumFrom most op (e * factorOf most (getD op pc 0)) (reservedAfter (getD op pc 0)) (pc + 1) (entries - (pc + 1)))
 unfolding sumFrom
-line most e pc op h = let q : 390 - pc ≡ suc (390 - (pc + 1)) = omega arith in rw q
+line most e pc op h = let q : entries - pc ≡ suc (entries - (pc + 1)) = omega arith in rw q
 
 module _ (most n t e pc : ℕ) (op : List ℕ) where
-  pub too-big : n ≡ t + sumFrom most op e pc (390 - pc) → pc < 390 → 4294967295 < t + e → TooBig ≡ within n
-  unfolding within
-  too-big i h k =
-      let l = line most e pc op h in
-      let g : 2 ^ 32 ≤ n = omega arith in
-      rw (le-ltb n (2 ^ 32) g)
+  -- A place that is reserved.
+  pub skipped : (k : ℕ) → n ≡ t + sumFrom most op e k pc (entries - pc) → pc < entries → 0 < k → n ≡ t + sumFrom most op e (k - 1) (pc + 1) (entries - (pc + 1))
+  unfolding sumFrom
+  skipped zero i h z = absurd (omega arith)
+  skipped (suc k) i h z =
+      let q : entries - pc ≡ suc (entries - (pc + 1)) = omega arith in
+      let s : suc k - 1 ≡ k = omega arith in
+      rw s (rw q at i)
 
-  pub at-end : n ≡ t + sumFrom most op e pc (390 - pc) → pc < 390 → getD op pc 0 ≡ 0 → t + e ≤ 4294967295 → Count (t + e) ≡ within n
-  unfolding within
-  at-end i h q k =
-      let l : sumFrom most op e pc (390 - pc) ≡ e + 0 = line most e pc op h
-      ∙ ap (λ b. e + cond b 0 (sumFrom most op (e * factorOf most (getD op pc 0)) (pc + 1) (390 - (pc + 1)))) (eq-eqb (getD op pc 0) 0 q) in
-      let g : n ≡ t + e = omega arith in
-      let m : n < 2 ^ 32 = omega arith in
-      rw (lt-ltb n (2 ^ 32) m) (ap Count (sym g))
+  module _ (k : ℕ) (z : k ≤ 0) where
+    none : k ≡ 0
+    none = omega arith
 
-  pub turn : n ≡ t + sumFrom most op e pc (390 - pc) → pc < 390 → (getD op pc 0 ≡ 0 → ⊥) → (f : ℕ) → f ≡ factorOf most (getD op pc 0)
-      → n ≡ t + e + sumFrom most op (e * f) (pc + 1) (390 - (pc + 1))
-  turn i h q f r =
-      let l : sumFrom most op e pc (390 - pc) ≡ e + sumFrom most op (e * f) (pc + 1) (390 - (pc + 1)) =
-      line most e pc op h
-      ∙ ap (λ b. e + cond b 0 (sumFrom most op (e * factorOf most (getD op pc 0)) (pc + 1) (390 - (pc + 1)))) (ne-eqb (getD op pc 0) 0 q)
-      ∙ ap (λ z. e + sumFrom most op (e * z) (pc + 1) (390 - (pc + 1))) (sym r) in
-      omega arith
+    pub too-big : n ≡ t + sumFrom most op e k pc (entries - pc) → pc < entries → 4294967295 < t + e → TooBig ≡ within n
+    unfolding within
+    too-big i h g =
+        let l = line most e pc op h in
+        let j : n ≡ t + sumFrom most op e 0 pc (entries - pc) = rw none at i in
+        let g : 2 ^ 32 ≤ n = omega arith in
+        rw (le-ltb n (2 ^ 32) g)
 
-  pub out : n ≡ t + sumFrom most op e pc (390 - pc) → 390 ≤ pc → t ≤ 4294967295 → Count t ≡ within n
+    pub at-end : n ≡ t + sumFrom most op e k pc (entries - pc) → pc < entries → getD op pc 0 ≡ 0 → t + e ≤ 4294967295 → Count (t + e) ≡ within n
+    unfolding within
+    at-end i h q b =
+        let j : n ≡ t + sumFrom most op e 0 pc (entries - pc) = rw none at i in
+        let l : sumFrom most op e 0 pc (entries - pc) ≡ e + 0 = line most e pc op h
+        ∙ ap (λ b. e + cond b 0 (sumFrom most op (e * factorOf most (getD op pc 0)) (reservedAfter (getD op pc 0)) (pc + 1) (entries - (pc + 1)))) (eq-eqb (getD op pc 0) 0 q) in
+        let g : n ≡ t + e = omega arith in
+        let m : n < 2 ^ 32 = omega arith in
+        rw (lt-ltb n (2 ^ 32) m) (ap Count (sym g))
+
+    pub turn : n ≡ t + sumFrom most op e k pc (entries - pc) → pc < entries → (getD op pc 0 ≡ 0 → ⊥) → (f : ℕ) → f ≡ factorOf most (getD op pc 0)
+        → (r : ℕ) → r ≡ reservedAfter (getD op pc 0) → n ≡ t + e + sumFrom most op (e * f) r (pc + 1) (entries - (pc + 1))
+    turn i h q f x r y =
+        let j : n ≡ t + sumFrom most op e 0 pc (entries - pc) = rw none at i in
+        let l : sumFrom most op e 0 pc (entries - pc) ≡ e + sumFrom most op (e * f) r (pc + 1) (entries - (pc + 1)) =
+        line most e pc op h
+        ∙ ap (λ b. e + cond b 0 (sumFrom most op (e * factorOf most (getD op pc 0)) (reservedAfter (getD op pc 0)) (pc + 1) (entries - (pc + 1)))) (ne-eqb (getD op pc 0) 0 q)
+        ∙ rw (x, y) in
+        omega arith
+
+  pub out : (k : ℕ) → n ≡ t + sumFrom most op e k pc (entries - pc) → entries ≤ pc → t ≤ 4294967295 → Count t ≡ within n
   unfolding within sumFrom
-  out i h k =
-      let z : 390 - pc ≡ 0 = omega arith in
-      let l : sumFrom most op e pc (390 - pc) ≡ 0 = rw z in
+  out k i h b =
+      let z : entries - pc ≡ 0 = omega arith in
+      let l : sumFrom most op e k pc (entries - pc) ≡ 0 = rw z in
       let g : n ≡ t = omega arith in
       let m : n < 2 ^ 32 = omega arith in
       rw (lt-ltb n (2 ^ 32) m) (ap Count (sym g))
 
-pub ruleset rules = (factor-fits, factor-bound, too-big, at-end, turn, out, needs)
+pub ruleset rules = (factor-fits, factor-bound, skipped, too-big, at-end, turn, out, needs)

@@ -1,9 +1,10 @@
 // The service match: a rule's rows on a target, written into a lent room.
+use judging::Judgement;
+use judging::rule_refused;
+use judging::target_refused;
 use program::compile;
-use reading::refusal::Judgement;
-use reading::refusal::rule_refused;
-use reading::refusal::target_refused;
 use searching::search;
+use words::ENTRIES;
 ghost use mathlib.Core.Path.{_≡_};
 ghost use Rattle.rules.specs.Services.{match};
 ghost use Rattle.services.specs.Matches.{Ready, told};
@@ -27,11 +28,11 @@ fn carry_out(
     requires { ⌜ Ready (now matcher) (now pattern) (now target) ⌝ }
     ensures { λ r. ⌜ told r (now (room .exit)) ≡ match (now (matcher .entry)) (now (pattern .entry)) (now (target .entry)) budget (now (room .entry)) ⌝ }
 {
-    let mut op = [0u8; 390];
-    let mut from = [0u16; 390];
-    let mut arg = [0u8; 390];
-    let mut mat = [0u8; 390];
-    let mut con = [0i32; 390];
+    let mut op = [0u8; ENTRIES];
+    let mut from = [0u16; ENTRIES];
+    let mut arg = [0u8; ENTRIES];
+    let mut mat = [0u8; ENTRIES];
+    let mut con = [0i32; ENTRIES];
     let n = compile(
         matcher,
         pattern,

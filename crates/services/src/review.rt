@@ -1,9 +1,10 @@
 // The service review: the worst count of steps of a rule, for a largest collection.
 use super::tally::Tally;
 use super::tally::tallied;
+use judging::Judgement;
+use judging::rule_refused;
 use program::compile;
-use reading::refusal::Judgement;
-use reading::refusal::rule_refused;
+use words::ENTRIES;
 use words::tag_of;
 ghost use mathlib.Core.Path.{_≡_};
 ghost use Prim.Native.Nat.{_≤_};
@@ -32,11 +33,11 @@ fn count_of(matcher: &[i32], pattern: &[i32], cap: u64) -> Tally
     requires { ⌜ Sound (ruleOf (now matcher) (now pattern)) ⌝ ∗ ⌜ cap ≤ 64 ⌝ }
     ensures { λ r. ⌜ r ≡ countUnder cap (ruleOf (now (matcher .entry)) (now (pattern .entry))) ⌝ }
 {
-    let mut op = [0u8; 390];
-    let mut from = [0u16; 390];
-    let mut arg = [0u8; 390];
-    let mut mat = [0u8; 390];
-    let mut con = [0i32; 390];
+    let mut op = [0u8; ENTRIES];
+    let mut from = [0u16; ENTRIES];
+    let mut arg = [0u8; ENTRIES];
+    let mut mat = [0u8; ENTRIES];
+    let mut con = [0i32; ENTRIES];
     compile(
         matcher,
         pattern,

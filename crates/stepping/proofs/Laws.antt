@@ -2,23 +2,27 @@
 use mathlib.Core.Path.{_≡_, refl, sym, _∙_, ap}
 use mathlib.Core.Bool.{Bool, true, false}
 use mathlib.Core.List.{List}
-use Prim.Native.Nat.{ℕ, _+_, _-_, _^_, _<_, _≤_}
+use Prim.Native.Nat.{ℕ, suc, _+_, _-_, _^_, _<_, _≤_}
 use native.Mathlib.Omega.{arith}
 use borrow.Author.Needs.{needs}
-use borrow.Author.Tests.{eq-eqb, ne-eqb, lt-ltb, le-ltb, eqb-false}
+use borrow.Author.Tests.{eq-eqb, ne-eqb, lt-ltb, le-ltb, eqb-true, eqb-false}
 use lib.ListN.{getD, set}
 use lib.Dec.{eqb, ltb}
 use lib.IntN.{ℤ}
 use lib.Count.{trailingZeros}
 use lib.Pow.{pow-mono}
+use Rattle.words.specs.Words.{entries}
 use Rattle.marks.specs.Marks.{clear}
 use Rattle.marks.proofs.Places.{low-lt, low-digit, digit-below}
-use Rattle.holding.specs.Places.{Target, Tag, countAt, elementAt}
+use Rattle.holding.specs.Places.{Target, Tag, countAt, marksAt, elementAt}
 use Rattle.holding.specs.Held.{wholeAt}
 use Rattle.holding.proofs.Elements.{element-tag}
-use Rattle.holding.proofs.Equal.{same-bits}
+use Rattle.holding.proofs.Held.{marks-count, held-64}
+use Rattle.holding.proofs.Bits.{same-bits}
 use Rattle.stepping.specs.declared.State.{State}
-use Rattle.stepping.specs.Steps.{when, Tables, tables, turned, moved, dropped, pushed, pushedIn, noneOf, opensOf, splitOf, topped, topLeft, nowLeft, joinOf, joinBy, consOf, consBy, longerOf, Joins, Conses, Picks, PicksIf}
+use Rattle.stepping.specs.Steps.{when, Tables, tables, turned, counted, moved, lived, dropped, pushed, pushedIn, noneOf, opensOf, splitOf}
+use Rattle.stepping.specs.Steps.{stored, isWide, partMarks, apartAt, apartAts, apartBacks, apartOf, divideOf, Steps, Divides, Aparts}
+use Rattle.stepping.specs.Steps.{topped, topBy, topLeft, nowLeft, joinOf, joinBy, consOf, consBy, longerOf, Joins, Conses, Picks, PicksIf}
 
 -- ---- One or the other.
 
@@ -61,7 +65,7 @@ pub ruleset word-rules = (same-bits, needs)
 
 -- ---- The state.
 
-pub slot-in : (f : ℕ) (from : List ℕ) (i : ℕ) → f ≡ getD from i 0 → getD from i 0 < 390 → f < 390
+pub slot-in : (f : ℕ) (from : List ℕ) (i : ℕ) → f ≡ getD from i 0 → getD from i 0 < entries → f < entries
 slot-in f from i e h = rw e h
 
 pub drop-is : (x : State) (from ats backs : List ℕ) (f p : ℕ) → f ≡ getD from (x .pc) 0 → p ≡ getD ats f 0
@@ -74,18 +78,27 @@ pub ruleset drop-rules = (slot-in, drop-is, needs)
 pub set-at : (l : List ℕ) (i x y : ℕ) → x ≡ y → set l i x ≡ set l i y
 set-at l i x y e = rw e
 
-pub top-small : (n : ℕ) → n ≤ 390 → n < 65536
+pub top-small : (n : ℕ) → n ≤ entries → n < 65536
 top-small n h = omega arith
 
 pub ruleset push-rules = (set-at, top-small, needs)
 
-pub top-is : (more j n : ℕ) (lows : List ℕ) (x : State) → more ≡ 0 → n ≡ getD lows j 0 → topped x n ≡ topLeft more j lows x
-unfolding topLeft
-top-is more j n lows x z e = when-eq _ _ _ more 0 z (rw e)
+pub top-is : (more j n top : ℕ) (lows : List ℕ) → more ≡ 0 → n ≡ getD lows j 0 → n ≡ topBy more j lows top
+unfolding topBy
+top-is more j n top lows z e = when-eq _ _ _ more 0 z e
 
-pub top-stays : (more j : ℕ) (lows : List ℕ) (x : State) → (more ≡ 0 → ⊥) → x ≡ topLeft more j lows x
-unfolding topLeft
-top-stays more j lows x n = when-ne _ _ _ more 0 n refl
+pub top-stays : (more j top : ℕ) (lows : List ℕ) → (more ≡ 0 → ⊥) → top ≡ topBy more j lows top
+unfolding topBy
+top-stays more j top lows n = when-ne _ _ _ more 0 n refl
+
+-- A state with that frame as its last.
+topped-left : (more j top : ℕ) (lows : List ℕ) (x : State) → top ≡ topBy more j lows (x .top) → topped x top ≡ topLeft more j lows x
+unfolding topBy topLeft topped when
+topped-left more j top lows x e = go (eqb more 0) e
+  where
+    go : (b : Bool) → top ≡ when b (getD lows j 0) (x .top) → topped x top ≡ when b (topped x (getD lows j 0)) x
+    go true h = rw h
+    go false h = rw h
 
 pub ruleset leave-rules = (top-is, top-stays, cases)
 
@@ -115,6 +128,124 @@ unfolding splitOf
 split-is b r o c x p w e l k p′ w′ e′ l′ h f q q₀ q₁ q₂ q₃ q₄ =
     when-false _ _ _ b (noneOf o (x .marks)) h f (rw (← q) (push-is r c x p w e l k p′ w′ e′ l′ q₀ q₁ q₂ q₃ q₄))
 
+-- ---- A tuple's parts.
+
+pub wide-by : (s : List ℤ) (at n k : ℕ) → k ≡ countAt s at → eqb k (n + 1) ≡ isWide s at n
+unfolding isWide
+wide-by s at n k e = rw e
+
+pub few-wait : (n o : ℕ) → n ≡ o - 10 → o < 256 → n < 256
+few-wait n o e h = omega arith
+
+pub ruleset wide-rules = (wide-by, needs)
+
+-- Entry after entry.
+stored-turn : (f : ℕ → ℕ) (from i n x : ℕ) (l all : List ℕ) → stored f (from + i - 1) i (n + 1 - i) l ≡ all → 1 ≤ i → i ≤ n → x ≡ f i
+    → stored f (from + (i + 1) - 1) (i + 1) (n + 1 - (i + 1)) (set l (from + i - 1) x) ≡ all
+unfolding stored
+stored-turn f from i n x l all e h k q =
+    let z : n + 1 - i ≡ suc (n + 1 - (i + 1)) = omega arith in
+    let y : from + (i + 1) - 1 ≡ from + i - 1 + 1 = omega arith in
+    rw (q, y) (ap (λ m. stored f (from + i - 1) i m l) (sym z) ∙ e)
+
+pub stored-end : (f : ℕ → ℕ) (from i n : ℕ) (l all : List ℕ) → stored f (from + i - 1) i (n + 1 - i) l ≡ all → n < i → l ≡ all
+unfolding stored
+stored-end f from i n l all e h = let z : n + 1 - i ≡ 0 = omega arith in ap (λ m. stored f (from + i - 1) i m l) (sym z) ∙ e
+
+pub stored-start : (f : ℕ → ℕ) (from n : ℕ) (l : List ℕ) → stored f (from + 1 - 1) 1 (n + 1 - 1) l ≡ stored f from 1 n l
+stored-start f from n l =
+    let z : n + 1 - 1 ≡ n = omega arith in
+    let y : from + 1 - 1 ≡ from = omega arith in
+    rw (z, y)
+
+module _ (s : List ℤ) (at from i n x e : ℕ) (l all : List ℕ) (h : 1 ≤ i) (k : i ≤ n) (p : e ≡ elementAt s at i) where
+  pub ats-turn : stored (elementAt s at) (from + i - 1) i (n + 1 - i) l ≡ all → x ≡ e
+      → stored (elementAt s at) (from + (i + 1) - 1) (i + 1) (n + 1 - (i + 1)) (set l (from + i - 1) x) ≡ all
+  ats-turn r q = stored-turn (elementAt s at) from i n x l all r h k (q ∙ p)
+
+  pub backs-turn : stored (partMarks s at) (from + i - 1) i (n + 1 - i) l ≡ all → x ≡ wholeAt s e
+      → stored (partMarks s at) (from + (i + 1) - 1) (i + 1) (n + 1 - (i + 1)) (set l (from + i - 1) x) ≡ all
+  unfolding partMarks
+  backs-turn r q = stored-turn (partMarks s at) from i n x l all r h k (q ∙ ap (wholeAt s) p)
+
+pub part-there : (s : List ℤ) (at i n : ℕ) → i ≤ n → n < countAt s at → i < countAt s at
+part-there s at i n h k = omega arith
+
+module _ (s : List ℤ) (at i e : ℕ) (g : Target s) (w : Tag s at) (p : e ≡ elementAt s at i) (k : i < countAt s at) where
+  pub part-tag : Tag s e
+  part-tag = rw p (element-tag s at i g w k)
+
+  pub part-small : e < 65536
+  part-small = let q = part-tag .inside in let r = g .short in omega arith
+
+pub ruleset keep-rules = (part-there, part-tag, part-small, ats-turn, backs-turn, stored-start, stored-end, needs)
+
+module _ (s : List ℤ) (at n : ℕ) (b : Bool) (h : b ≡ isWide s at n) (t : b ≡ true) where
+  wide-count : countAt s at ≡ n + 1
+  unfolding isWide
+  wide-count = eqb-true (countAt s at) (n + 1) (sym h ∙ t)
+
+  pub wide-some : 0 < countAt s at
+  wide-some = let e = wide-count in omega arith
+
+  pub wide-keeps : n < countAt s at
+  wide-keeps = let e = wide-count in omega arith
+
+  pub wide-first : (e : ℕ) → Target s → Tag s at → e ≡ elementAt s at 0 → Tag s e
+  wide-first e g w p = rw p (element-tag s at 0 g w wide-some)
+
+module _ (s : List ℤ) (n k : ℕ) (x : State) (b : Bool) (h : b ≡ isWide s (x .at) n) (q : n ≡ k) where
+  same-wide : b ≡ isWide s (x .at) k
+  same-wide = h ∙ ap (isWide s (x .at)) q
+
+  pub apart-at : (e m : ℕ) → b ≡ true → e ≡ elementAt s (x .at) 0 → m ≡ wholeAt s e → moved x (x .pc + n) e m ≡ apartAt s k x
+  unfolding apartAt partMarks
+  apart-at e m t i j = when-true _ _ _ b (isWide s (x .at) k) same-wide t (rw (j, i, q))
+
+  pub apart-ats : (l old : List ℕ) → b ≡ true → l ≡ stored (elementAt s (x .at)) (x .pc) 1 n old → l ≡ apartAts s k x old
+  unfolding apartAts
+  apart-ats l old t e = when-true _ _ _ b (isWide s (x .at) k) same-wide t (rw q at e)
+
+  pub apart-backs : (l old : List ℕ) → b ≡ true → l ≡ stored (partMarks s (x .at)) (x .pc) 1 n old → l ≡ apartBacks s k x old
+  unfolding apartBacks
+  apart-backs l old t e = when-true _ _ _ b (isWide s (x .at) k) same-wide t (rw q at e)
+
+  pub apart-none : b ≡ false → lived x 2 ≡ apartAt s k x
+  unfolding apartAt
+  apart-none t = when-false _ _ _ b (isWide s (x .at) k) same-wide t refl
+
+  pub apart-ats-none : (old : List ℕ) → b ≡ false → old ≡ apartAts s k x old
+  unfolding apartAts
+  apart-ats-none old t = when-false _ _ _ b (isWide s (x .at) k) same-wide t refl
+
+  pub apart-backs-none : (old : List ℕ) → b ≡ false → old ≡ apartBacks s k x old
+  unfolding apartBacks
+  apart-backs-none old t = when-false _ _ _ b (isWide s (x .at) k) same-wide t refl
+
+pub ruleset apart-rules = (few-wait, wide-some, wide-keeps, wide-first, apart-at, apart-ats, apart-backs, apart-none, apart-ats-none, apart-backs-none, needs)
+
+-- ---- A cons, a join or a tuple.
+
+pub divide-apart : (s : List ℤ) (o : ℕ) (x r : State) (p w e l k p′ k′ : List ℕ) → 10 < o → r ≡ apartAt s (o - 10) x → p′ ≡ apartAts s (o - 10) x p
+    → k′ ≡ apartBacks s (o - 10) x k → turned r (tables p′ w e l k′) ≡ divideOf s o x (tables p w e l k)
+unfolding divideOf apartOf
+divide-apart s o x r p w e l k p′ k′ h a b c = when-lt _ _ _ 10 o h (rw (a, b, c))
+
+pub divide-split : (s : List ℤ) (o : ℕ) (x r : State) (t u : Tables) → o ≤ 10 → turned r u ≡ splitOf o x t → turned r u ≡ divideOf s o x t
+unfolding divideOf
+divide-split s o x r t u h e = when-le _ _ _ 10 o h e
+
+pub apart-asks : (s : List ℤ) (o : ℕ) (x : State) → Divides s o x → 10 < o → Aparts s o x
+apart-asks s o x d h = record { tuple = h; tag = d .tag; place = d .parts h }
+
+pub ruleset divide-rules = (divide-apart, divide-split, apart-asks, cases)
+
+pub step-divides : (s : List ℤ) (op from : List ℕ) (x : State) → Steps s op from x → Divides s (getD op (x .pc) 0) (counted x)
+unfolding counted
+step-divides s op from x h = record { place = h .place; tag = h .tag; small = h .small; frame = h .frame; parts = h .parts }
+
+pub ruleset step-rules = (step-divides, cases)
+
 -- ---- The next choice.
 
 -- The lowest of the choices left is an element that there is.
@@ -122,11 +253,17 @@ pub low-there : (n c : ℕ) → n ≤ 64 → 0 < c → c < 2 ^ n → trailingZer
 low-there n c l h k = digit-below (trailingZeros 64 c) n c (low-digit 64 c h (let p = pow-mono l in omega arith)) k
 
 module _ (s : List ℤ) (ats lefts : List ℕ) (j k t : ℕ) (g : Target s) (c : Conses s ats lefts j) (e : k ≡ trailingZeros 64 (getD lefts j 0)) where
+  there : k < countAt s (getD ats j 0)
+  there =
+      let p = marks-count s (getD ats j 0) in
+      let q = low-there (marksAt s (getD ats j 0)) (getD lefts j 0) (omega (arith, g .small (getD ats j 0) (c .tag))) (c .some) (c .there) in
+      omega arith
+
   pub cons-there : t ≡ getD ats j 0 → k < countAt s t
-  cons-there h = rw (h, e) (low-there (countAt s (getD ats j 0)) (getD lefts j 0) (g .small (getD ats j 0) (c .tag)) (c .some) (c .there))
+  cons-there h = rw h there
 
   pub cons-64 : k < 64
-  cons-64 = rw e (low-there 64 (getD lefts j 0) (omega arith) (c .some) (let l = pow-mono (g .small (getD ats j 0) (c .tag)) in let h = c .there in omega arith))
+  cons-64 = let h = there in let l = g .small (getD ats j 0) (c .tag) in omega arith
 
   pub cons-at : t ≡ getD ats j 0 → Tag s t
   cons-at h = rw h (c .tag)
@@ -134,31 +271,29 @@ module _ (s : List ℤ) (ats lefts : List ℕ) (j k t : ℕ) (g : Target s) (c :
   pub cons-tag : (p : ℕ) → t ≡ getD ats j 0 → p ≡ elementAt s t k → Tag s p
   cons-tag p h q = rw q (element-tag s t k g (cons-at h) (cons-there h))
 
-pub cons-is : (s : List ℤ) (j k t e m b more : ℕ) (x r : State) (ats wholes lefts lows backs lefts′ : List ℕ) → t ≡ getD ats j 0
+pub cons-is : (s : List ℤ) (j k t e m b more top : ℕ) (x : State) (ats wholes lefts lows backs lefts′ : List ℕ) → t ≡ getD ats j 0
     → k ≡ trailingZeros 64 (getD lefts j 0) → e ≡ elementAt s t k
     → m ≡ wholeAt s e → b ≡ clear k (getD wholes j 0) → more ≡ clear (trailingZeros 64 (getD lefts j 0)) (getD lefts j 0)
-    → r ≡ topLeft more j lows (moved x (j + 1) e m) → lefts′ ≡ nowLeft more j lefts
-    → turned r (tables ats wholes lefts′ lows (set backs j b)) ≡ consOf s j x (tables ats wholes lefts lows backs)
+    → top ≡ topBy more j lows (x .top) → lefts′ ≡ nowLeft more j lefts
+    → turned (topped (moved x (j + 1) e m) top) (tables ats wholes lefts′ lows (set backs j b)) ≡ consOf s j x (tables ats wholes lefts lows backs)
 unfolding consOf consBy
-cons-is s j k t e m b more x r ats wholes lefts lows backs lefts′ p₀ p₁ p₂ p₃ p₄ p₅ p₆ p₇ = rw (p₆, p₇, p₅, p₄, p₃, p₂, p₁, p₀)
+cons-is s j k t e m b more top x ats wholes lefts lows backs lefts′ p₀ p₁ p₂ p₃ p₄ p₅ p₆ p₇ = rw (topped-left more j top lows (moved x (j + 1) e m) p₆, p₇, p₅, p₄, p₃, p₂, p₁, p₀)
 
-pub join-is : (j p more : ℕ) (x r : State) (ats wholes lefts lows backs lefts′ : List ℕ) → p ≡ getD ats j 0
+pub join-is : (j p more top : ℕ) (x : State) (ats wholes lefts lows backs lefts′ : List ℕ) → p ≡ getD ats j 0
     → more ≡ longerOf (getD lefts j 0) (getD wholes j 0 - getD lefts j 0)
-    → r ≡ topLeft more j lows (moved x (j + 1) p (getD lefts j 0)) → lefts′ ≡ nowLeft more j lefts
-    → turned r (tables ats wholes lefts′ lows (set backs j (getD wholes j 0 - getD lefts j 0))) ≡ joinOf j x (tables ats wholes lefts lows backs)
+    → top ≡ topBy more j lows (x .top) → lefts′ ≡ nowLeft more j lefts
+    → turned (topped (moved x (j + 1) p (getD lefts j 0)) top) (tables ats wholes lefts′ lows (set backs j (getD wholes j 0 - getD lefts j 0))) ≡ joinOf j x (tables ats wholes lefts lows backs)
 unfolding joinOf joinBy
-join-is j p more x r ats wholes lefts lows backs lefts′ p₀ p₁ p₂ p₃ = rw (p₂, p₃, p₁, p₀)
+join-is j p more top x ats wholes lefts lows backs lefts′ p₀ p₁ p₂ p₃ = rw (topped-left more j top lows (moved x (j + 1) p (getD lefts j 0)) p₂, p₃, p₁, p₀)
 
 module _ (op : List ℕ) (s : List ℤ) (top : ℕ) (ats wholes lefts : List ℕ) (g : Target s) (p : Picks op s top ats wholes lefts) (n : top ≡ 0 → ⊥) where
-  pub pick-place : top - 1 < 390
+  pub pick-place : top - 1 < entries
   pick-place = (p .frame n) .place
 
   pub pick-join : getD op (top - 1) 0 ≡ 10 → Joins wholes lefts (top - 1)
   pick-join e =
       let f = p .frame n in
-      let h = f .held .marks in
-      let q = pow-mono (g .small (getD ats (top - 1) 0) (f .held .tag)) in
-      record { place = f .place; within = f .within e; word = omega arith }
+      record { place = f .place; within = f .within e; word = held-64 s (getD ats (top - 1) 0) (getD wholes (top - 1) 0) g (f .held) }
 
   pub pick-cons : (getD op (top - 1) 0 ≡ 10 → ⊥) → Conses s ats lefts (top - 1)
   pick-cons e = let f = p .frame n in record { place = f .place; tag = f .held .tag; some = f .some e; there = f .there e }

@@ -1,5 +1,5 @@
 -- Document 01, section 4, on numbers and lists as the code goes about it: a step, and the next choice of the last open frame.
-use Prim.Native.Nat.{ℕ, _+_, _-_, _^_, _≤_, _<_}
+use Prim.Native.Nat.{ℕ, zero, suc, _+_, _-_, _^_, _≤_, _<_}
 use mathlib.Core.Path.{_≡_}
 use mathlib.Core.Bool.{Bool, true, false}
 use mathlib.Core.List.{List}
@@ -8,8 +8,9 @@ use lib.Dec.{eqb, ltb}
 use lib.Count.{trailingZeros}
 use lib.IntN.{ℤ, pos}
 use Rattle.rules.specs.Numbers.{same}
+use Rattle.words.specs.Words.{entries}
 use Rattle.marks.specs.Marks.{clear}
-use Rattle.holding.specs.Places.{Tag, countAt, elementAt}
+use Rattle.holding.specs.Places.{Tag, countAt, marksAt, elementAt}
 use Rattle.holding.specs.Held.{Held, wholeAt}
 use Rattle.stepping.specs.declared.State.{State}
 
@@ -85,11 +86,47 @@ unfoldable pub splitOf : ℕ → State → Tables → Turned
 unfolding when pushed pushedIn lived opensOf noneOf
 splitOf o x t = when (noneOf o (x .marks)) (turned (lived x 2) t) (turned (pushed x) (pushedIn (opensOf o (x .marks)) x t))
 
+-- Entries written one after the other: f i and those after it, n of them, from the entry j on.
+unfoldable pub stored : (ℕ → ℕ) → (j i n : ℕ) → List ℕ → List ℕ
+stored f j i zero l = l
+stored f j i (suc n) l = stored f (j + 1) (i + 1) n (set l j (f i))
+
+-- A tuple, n of whose parts wait: whether the value has n + 1 parts, and the marks of part i.
+unfoldable pub isWide : List ℤ → (at n : ℕ) → Bool
+unfolding countAt
+isWide s at n = eqb (countAt s at) (n + 1)
+
+unfoldable pub partMarks : List ℤ → (at i : ℕ) → ℕ
+unfolding elementAt wholeAt
+partMarks s at i = wholeAt s (elementAt s at i)
+
+-- The first part is next, after the places that are reserved; the others wait in the slots from pc on.
+unfoldable pub apartAt : List ℤ → ℕ → State → State
+unfolding when isWide moved lived partMarks
+apartAt s n x = when (isWide s (x .at) n) (moved x (x .pc + n) (elementAt s (x .at) 0) (partMarks s (x .at) 0)) (lived x 2)
+
+unfoldable pub apartAts : List ℤ → ℕ → State → List ℕ → List ℕ
+unfolding when isWide stored
+apartAts s n x ats = when (isWide s (x .at) n) (stored (elementAt s (x .at)) (x .pc) 1 n ats) ats
+
+unfoldable pub apartBacks : List ℤ → ℕ → State → List ℕ → List ℕ
+unfolding when isWide stored partMarks
+apartBacks s n x backs = when (isWide s (x .at) n) (stored (partMarks s (x .at)) (x .pc) 1 n backs) backs
+
+unfoldable pub apartOf : List ℤ → ℕ → State → Tables → Turned
+unfolding apartAt apartAts apartBacks
+apartOf s n x t = turned (apartAt s n x) (tables (apartAts s n x (t .ats)) (t .wholes) (t .lefts) (t .lows) (apartBacks s n x (t .backs)))
+
+-- 11 to 13: a tuple of two to four parts, of which one to three wait.
+unfoldable pub divideOf : List ℤ → ℕ → State → Tables → Turned
+unfolding when apartOf splitOf
+divideOf s o x t = when (ltb 10 o) (apartOf s (o - 10) x t) (splitOf o x t)
+
 unfoldable pub stepBy : ℕ → List ℕ → List ℤ → List ℤ → Bool → State → Tables → Turned
-unfolding when moved splitOf passesOf dropped lived
+unfolding when moved divideOf passesOf dropped lived
 stepBy o from con s q x t =
     when (eqb o 1) (turned (moved x (x .pc + 1) (x .at) (x .marks)) t)
-    (when (ltb 7 o) (splitOf o x t)
+    (when (ltb 7 o) (divideOf s o x t)
     (when (passesOf o q s (x .at) (x .marks) (getD con (x .pc) (pos 0))) (turned (dropped from (t .ats) (t .backs) x) t) (turned (lived x 2) t)))
 
 unfoldable pub stepOf : List ℕ → List ℕ → List ℤ → List ℤ → Bool → State → Tables → Turned
@@ -99,6 +136,10 @@ stepOf op from con s q x t = stepBy (getD op (x .pc) 0) from con s q (counted x)
 -- ---- The next choice.
 
 -- What is left to choose from at j: with nothing left the frame is no longer open.
+unfoldable pub topBy : ℕ → ℕ → List ℕ → ℕ → ℕ
+unfolding when
+topBy more j lows top = when (eqb more 0) (getD lows j 0) top
+
 unfoldable pub topLeft : ℕ → ℕ → List ℕ → State → State
 unfolding when topped
 topLeft more j lows x = when (eqb more 0) (topped x (getD lows j 0)) x
@@ -146,36 +187,53 @@ settleOf op s x t = when (eqb (x .live) 2) (pickOf op s x t) (turned x t)
 
 -- ---- What they ask.
 
--- The instruction's slot, and the next value's, are there; the step can be counted; the value has a word after its tag, and its place fits a slot.
-pub record Steps (s : List ℤ) (from : List ℕ) (x : State) : Type 0 where
-  pub place : x .pc < 390
-  pub next : getD from (x .pc) 0 < 390
+-- The instruction's slot, and the next value's, are there, and those of a tuple's parts; the step can be counted; the value's tag has a word after it,
+-- and its place fits a slot.
+pub record Steps (s : List ℤ) (op from : List ℕ) (x : State) : Type 0 where
+  pub place : x .pc < entries
+  pub next : getD from (x .pc) 0 < entries
+  pub tag : Tag s (x .at)
   pub word : x .at + 1 < length s
   pub small : x .at < 65536
-  pub frame : x .top ≤ 390
+  pub frame : x .top ≤ entries
   pub count : x .steps + 1 < 2 ^ 64
+  pub parts : 10 < getD op (x .pc) 0 → x .pc + (getD op (x .pc) 0 - 10) < entries
+
+-- The same of an instruction o that divides, and of a tuple's.
+pub record Divides (s : List ℤ) (o : ℕ) (x : State) : Type 0 where
+  pub place : x .pc < entries
+  pub tag : Tag s (x .at)
+  pub small : x .at < 65536
+  pub frame : x .top ≤ entries
+  pub parts : 10 < o → x .pc + (o - 10) < entries
+
+pub record Aparts (s : List ℤ) (o : ℕ) (x : State) : Type 0 where
+  pub tuple : 10 < o
+  pub tag : Tag s (x .at)
+  pub place : x .pc + (o - 10) < entries
 
 -- The front of the join at j is within its marks.
 pub record Joins (wholes lefts : List ℕ) (j : ℕ) : Type 0 where
-  pub place : j < 390
+  pub place : j < entries
   pub within : getD lefts j 0 ≤ getD wholes j 0
   pub word : getD wholes j 0 < 2 ^ 64
 
 -- The cons at j has a choice left, and each choice is an element that there is.
 pub record Conses (s : List ℤ) (ats lefts : List ℕ) (j : ℕ) : Type 0 where
-  pub place : j < 390
+  pub place : j < entries
   pub tag : Tag s (getD ats j 0)
   pub some : 0 < getD lefts j 0
-  pub there : getD lefts j 0 < 2 ^ countAt s (getD ats j 0)
+  pub there : getD lefts j 0 < 2 ^ marksAt s (getD ats j 0)
 
--- A frame at j from which the next choice can be taken: its instruction o divides, it holds (at, m), and the choices left are c.
+-- A frame at j from which the next choice can be taken: its instruction o is a cons or a join, it holds (at, m), and the choices left are c.
 pub record Frame (o : ℕ) (s : List ℤ) (j at m c : ℕ) : Type 0 where
-  pub place : j < 390
+  pub place : j < entries
   pub splits : 7 < o
+  pub chooses : o < 11
   pub held : Held s at m
   pub within : o ≡ 10 → c ≤ m
   pub some : (o ≡ 10 → ⊥) → 0 < c
-  pub there : (o ≡ 10 → ⊥) → c < 2 ^ countAt s at
+  pub there : (o ≡ 10 → ⊥) → c < 2 ^ marksAt s at
 
 -- The last open frame, if there is one.
 pub record Picks (op : List ℕ) (s : List ℤ) (top : ℕ) (ats wholes lefts : List ℕ) : Type 0 where

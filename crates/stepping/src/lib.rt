@@ -1,24 +1,31 @@
 // Document 01, section 4: the search state, a struct of numbers by value, whose step hands the next state back. What waits stands in lent tables, a
 // slot for each instruction.
+pub mod leaves;
+pub mod tuples;
+
 use holding::places::element;
 use holding::places::narrow;
 use holding::places::whole;
 use holding::places::wide;
-use marks::Parts;
-use marks::longer;
+use leaves::leave;
+use leaves::longer_front;
+use leaves::nothing;
+use leaves::opens;
+use leaves::passes;
 use marks::lowest;
-use marks::one;
 use marks::rest;
 use marks::without;
+use tuples::is_wide;
+use tuples::keep;
+use tuples::later;
+use words::ENTRIES;
 ghost use mathlib.Core.Path.{_≡_};
-ghost use Prim.Native.Nat.{_+_, _-_, _^_, _<_, _≤_};
-ghost use lib.ListN.{length, getD, set};
-ghost use mathlib.Core.Bool.{false};
-ghost use lib.IntN.{pos};
-ghost use Rattle.rules.specs.Numbers.{same};
+ghost use Prim.Native.Nat.{_-_, _<_, _≤_};
+ghost use lib.ListN.{getD, set};
+ghost use Rattle.words.specs.Words.{entries};
 ghost use Rattle.holding.specs.Places.{Target};
 ghost use Rattle.holding.specs.Tables.{Places};
-ghost use Rattle.stepping.specs.Steps.{tables, turned, counted, dropped, pushed, noneOf, passesOf, opensOf, splitOf, stepOf, topLeft, nowLeft, longerOf, joinOf, consOf, pickOf, settleOf, Steps, Joins, Conses, Picks, PicksIf};
+ghost use Rattle.stepping.specs.Steps.{tables, turned, dropped, pushed, splitOf, apartAt, apartAts, apartBacks, divideOf, stepOf, joinOf, consOf, pickOf, settleOf, Steps, Divides, Aparts, Joins, Conses, Picks, PicksIf};
 
 // live: 0 no state is left, 1 the state at pc, 2 the next state is the next choice of the last open frame, 3 a row did not fit. `at` and `marks` are the
 // value of the first atom, `top` the last open frame (0: none, j + 1: at j), `words` how many words are written.
@@ -35,8 +42,8 @@ pub struct State {
 
 impl State {
     // The atom is dropped: the next one in prefix order, whose value waits in a slot.
-    fn drop(mut self, from: &[u16; 390], ats: &[u16; 390], backs: &[u64; 390]) -> State
-        requires { ⌜ self .pc < 390 ⌝ ∗ ⌜ getD (now from) (self .pc) 0 < 390 ⌝ }
+    fn drop(mut self, from: &[u16; ENTRIES], ats: &[u16; ENTRIES], backs: &[u64; ENTRIES]) -> State
+        requires { ⌜ self .pc < entries ⌝ ∗ ⌜ getD (now from) (self .pc) 0 < entries ⌝ }
         ensures { λ r. ⌜ r ≡ dropped (now (from .entry)) (now (ats .entry)) (now (backs .entry)) self ⌝ }
     {
         let pc = self.pc;
@@ -52,12 +59,12 @@ impl State {
     fn push(
         mut self,
         choices: u64,
-        ats: &mut [u16; 390],
-        wholes: &mut [u64; 390],
-        lefts: &mut [u64; 390],
-        lows: &mut [u16; 390],
+        ats: &mut [u16; ENTRIES],
+        wholes: &mut [u64; ENTRIES],
+        lefts: &mut [u64; ENTRIES],
+        lows: &mut [u16; ENTRIES],
     ) -> State
-        requires { ⌜ self .pc < 390 ⌝ ∗ ⌜ self .at < 65536 ⌝ ∗ ⌜ self .top ≤ 390 ⌝ }
+        requires { ⌜ self .pc < entries ⌝ ∗ ⌜ self .at < 65536 ⌝ ∗ ⌜ self .top ≤ entries ⌝ }
         ensures { λ r. ⌜ r ≡ pushed self ⌝ ∗ ⌜ now (ats .exit) ≡ set (now (ats .entry)) (self .pc) (self .at) ⌝ ∗ ⌜ now (wholes .exit) ≡ set (now (wholes .entry)) (self .pc) (self .marks) ⌝ ∗ ⌜ now (lefts .exit) ≡ set (now (lefts .entry)) (self .pc) choices ⌝ ∗ ⌜ now (lows .exit) ≡ set (now (lows .entry)) (self .pc) (self .top) ⌝ }
     {
         let pc = self.pc;
@@ -76,13 +83,13 @@ impl State {
     fn split(
         mut self,
         o: u8,
-        ats: &mut [u16; 390],
-        wholes: &mut [u64; 390],
-        lefts: &mut [u64; 390],
-        lows: &mut [u16; 390],
-        backs: &[u64; 390],
+        ats: &mut [u16; ENTRIES],
+        wholes: &mut [u64; ENTRIES],
+        lefts: &mut [u64; ENTRIES],
+        lows: &mut [u16; ENTRIES],
+        backs: &[u64; ENTRIES],
     ) -> State
-        requires { ⌜ self .pc < 390 ⌝ ∗ ⌜ self .at < 65536 ⌝ ∗ ⌜ self .top ≤ 390 ⌝ }
+        requires { ⌜ self .pc < entries ⌝ ∗ ⌜ self .at < 65536 ⌝ ∗ ⌜ self .top ≤ entries ⌝ }
         ensures { λ r. ⌜ turned r (tables (now (ats .exit)) (now (wholes .exit)) (now (lefts .exit)) (now (lows .exit)) (now (backs .entry))) ≡ splitOf o self (tables (now (ats .entry)) (now (wholes .entry)) (now (lefts .entry)) (now (lows .entry)) (now (backs .entry))) ⌝ }
     {
         let m = self.marks;
@@ -95,22 +102,76 @@ impl State {
         self.push(c, ats, wholes, lefts, lows)
     }
 
+    // A tuple: the first part is next, the others wait.
+    fn apart(
+        mut self,
+        o: u8,
+        s: &[i32],
+        base: &[u16; 512],
+        places: &[u16; 512],
+        ats: &mut [u16; ENTRIES],
+        backs: &mut [u64; ENTRIES],
+    ) -> State
+        requires { ⌜ Target (now s) ⌝ ∗ ⌜ Places (now s) (now base) (now places) ⌝ ∗ ⌜ Aparts (now s) o self ⌝ }
+        ensures { λ r. ⌜ r ≡ apartAt (now (s .entry)) (o - 10) self ⌝ ∗ ⌜ now (ats .exit) ≡ apartAts (now (s .entry)) (o - 10) self (now (ats .entry)) ⌝ ∗ ⌜ now (backs .exit) ≡ apartBacks (now (s .entry)) (o - 10) self (now (backs .entry)) ⌝ }
+    {
+        let n = later(o);
+        let at = self.at;
+        let fits = is_wide(s, at, n);
+        if fits {
+            let from = self.pc;
+            keep(s, base, places, at, from, n, ats, backs);
+            let first = element(s, base, places, at, 0);
+            self.pc = from + n;
+            self.at = first;
+            self.marks = whole(s, first);
+            self.live = 1;
+            return self;
+        }
+        self.live = 2;
+        self
+    }
+
+    // A cons, a join or a tuple.
+    fn divide(
+        self,
+        o: u8,
+        s: &[i32],
+        base: &[u16; 512],
+        places: &[u16; 512],
+        ats: &mut [u16; ENTRIES],
+        wholes: &mut [u64; ENTRIES],
+        lefts: &mut [u64; ENTRIES],
+        lows: &mut [u16; ENTRIES],
+        backs: &mut [u64; ENTRIES],
+    ) -> State
+        requires { ⌜ Target (now s) ⌝ ∗ ⌜ Places (now s) (now base) (now places) ⌝ ∗ ⌜ Divides (now s) o self ⌝ }
+        ensures { λ r. ⌜ turned r (tables (now (ats .exit)) (now (wholes .exit)) (now (lefts .exit)) (now (lows .exit)) (now (backs .exit))) ≡ divideOf (now (s .entry)) o self (tables (now (ats .entry)) (now (wholes .entry)) (now (lefts .entry)) (now (lows .entry)) (now (backs .entry))) ⌝ }
+    {
+        if 10 < o {
+            return self.apart(o, s, base, places, ats, backs);
+        }
+        self.split(o, ats, wholes, lefts, lows, backs)
+    }
+
     // Takes up a state that has an atom left; q: what the atom's tag 3 asks is equal.
     pub fn step(
         mut self,
         q: bool,
         s: &[i32],
-        op: &[u8; 390],
-        from: &[u16; 390],
-        con: &[i32; 390],
-        ats: &mut [u16; 390],
-        wholes: &mut [u64; 390],
-        lefts: &mut [u64; 390],
-        lows: &mut [u16; 390],
-        backs: &[u64; 390],
+        base: &[u16; 512],
+        places: &[u16; 512],
+        op: &[u8; ENTRIES],
+        from: &[u16; ENTRIES],
+        con: &[i32; ENTRIES],
+        ats: &mut [u16; ENTRIES],
+        wholes: &mut [u64; ENTRIES],
+        lefts: &mut [u64; ENTRIES],
+        lows: &mut [u16; ENTRIES],
+        backs: &mut [u64; ENTRIES],
     ) -> State
-        requires { ⌜ Steps (now s) (now from) self ⌝ }
-        ensures { λ r. ⌜ turned r (tables (now (ats .exit)) (now (wholes .exit)) (now (lefts .exit)) (now (lows .exit)) (now (backs .entry))) ≡ stepOf (now (op .entry)) (now (from .entry)) (now (con .entry)) (now (s .entry)) q self (tables (now (ats .entry)) (now (wholes .entry)) (now (lefts .entry)) (now (lows .entry)) (now (backs .entry))) ⌝ }
+        requires { ⌜ Target (now s) ⌝ ∗ ⌜ Places (now s) (now base) (now places) ⌝ ∗ ⌜ Steps (now s) (now op) (now from) self ⌝ }
+        ensures { λ r. ⌜ turned r (tables (now (ats .exit)) (now (wholes .exit)) (now (lefts .exit)) (now (lows .exit)) (now (backs .exit))) ≡ stepOf (now (op .entry)) (now (from .entry)) (now (con .entry)) (now (s .entry)) q self (tables (now (ats .entry)) (now (wholes .entry)) (now (lefts .entry)) (now (lows .entry)) (now (backs .entry))) ⌝ }
     {
         let pc = self.pc;
         let o = op[pc];
@@ -121,7 +182,7 @@ impl State {
             return self;
         }
         if 7 < o {
-            return self.split(o, ats, wholes, lefts, lows, backs);
+            return self.divide(o, s, base, places, ats, wholes, lefts, lows, backs);
         }
         let at = self.at;
         let m = self.marks;
@@ -133,28 +194,15 @@ impl State {
         self
     }
 
-    // What is left to choose from at j: with nothing left the frame is no longer open.
-    fn leave(mut self, more: u64, j: usize, lefts: &mut [u64; 390], lows: &[u16; 390]) -> State
-        requires { ⌜ j < 390 ⌝ }
-        ensures { λ r. ⌜ r ≡ topLeft more j (now (lows .entry)) self ⌝ ∗ ⌜ now (lefts .exit) ≡ nowLeft more j (now (lefts .entry)) ⌝ }
-    {
-        if more == 0 {
-            self.top = wide(lows[j]);
-            return self;
-        }
-        lefts[j] = more;
-        self
-    }
-
     // The next front and back of the join at j.
     fn join(
         mut self,
         j: usize,
-        ats: &[u16; 390],
-        wholes: &[u64; 390],
-        lefts: &mut [u64; 390],
-        lows: &[u16; 390],
-        backs: &mut [u64; 390],
+        ats: &[u16; ENTRIES],
+        wholes: &[u64; ENTRIES],
+        lefts: &mut [u64; ENTRIES],
+        lows: &[u16; ENTRIES],
+        backs: &mut [u64; ENTRIES],
     ) -> State
         requires { ⌜ Joins (now wholes) (now lefts) j ⌝ }
         ensures { λ r. ⌜ turned r (tables (now (ats .entry)) (now (wholes .entry)) (now (lefts .exit)) (now (lows .entry)) (now (backs .exit))) ≡ joinOf j self (tables (now (ats .entry)) (now (wholes .entry)) (now (lefts .entry)) (now (lows .entry)) (now (backs .entry))) ⌝ }
@@ -168,7 +216,9 @@ impl State {
         self.marks = c;
         self.live = 1;
         let more = longer_front(c, b);
-        self.leave(more, j, lefts, lows)
+        let top = self.top;
+        self.top = leave(top, more, j, lefts, lows);
+        self
     }
 
     // The next element of the cons at j.
@@ -178,11 +228,11 @@ impl State {
         s: &[i32],
         base: &[u16; 512],
         places: &[u16; 512],
-        ats: &[u16; 390],
-        wholes: &[u64; 390],
-        lefts: &mut [u64; 390],
-        lows: &[u16; 390],
-        backs: &mut [u64; 390],
+        ats: &[u16; ENTRIES],
+        wholes: &[u64; ENTRIES],
+        lefts: &mut [u64; ENTRIES],
+        lows: &[u16; ENTRIES],
+        backs: &mut [u64; ENTRIES],
     ) -> State
         requires { ⌜ Target (now s) ⌝ ∗ ⌜ Places (now s) (now base) (now places) ⌝ ∗ ⌜ Conses (now s) (now ats) (now lefts) j ⌝ }
         ensures { λ r. ⌜ turned r (tables (now (ats .entry)) (now (wholes .entry)) (now (lefts .exit)) (now (lows .entry)) (now (backs .exit))) ≡ consOf (now (s .entry)) j self (tables (now (ats .entry)) (now (wholes .entry)) (now (lefts .entry)) (now (lows .entry)) (now (backs .entry))) ⌝ }
@@ -200,7 +250,9 @@ impl State {
         self.marks = a;
         self.live = 1;
         let more = rest(c);
-        self.leave(more, j, lefts, lows)
+        let top = self.top;
+        self.top = leave(top, more, j, lefts, lows);
+        self
     }
 
     // The next choice of the last open frame.
@@ -209,12 +261,12 @@ impl State {
         s: &[i32],
         base: &[u16; 512],
         places: &[u16; 512],
-        op: &[u8; 390],
-        ats: &[u16; 390],
-        wholes: &[u64; 390],
-        lefts: &mut [u64; 390],
-        lows: &[u16; 390],
-        backs: &mut [u64; 390],
+        op: &[u8; ENTRIES],
+        ats: &[u16; ENTRIES],
+        wholes: &[u64; ENTRIES],
+        lefts: &mut [u64; ENTRIES],
+        lows: &[u16; ENTRIES],
+        backs: &mut [u64; ENTRIES],
     ) -> State
         requires { ⌜ Target (now s) ⌝ ∗ ⌜ Places (now s) (now base) (now places) ⌝ ∗ ⌜ Picks (now op) (now s) (self .top) (now ats) (now wholes) (now lefts) ⌝ }
         ensures { λ r. ⌜ turned r (tables (now (ats .entry)) (now (wholes .entry)) (now (lefts .exit)) (now (lows .entry)) (now (backs .exit))) ≡ pickOf (now (op .entry)) (now (s .entry)) self (tables (now (ats .entry)) (now (wholes .entry)) (now (lefts .entry)) (now (lows .entry)) (now (backs .entry))) ⌝ }
@@ -238,12 +290,12 @@ impl State {
         s: &[i32],
         base: &[u16; 512],
         places: &[u16; 512],
-        op: &[u8; 390],
-        ats: &[u16; 390],
-        wholes: &[u64; 390],
-        lefts: &mut [u64; 390],
-        lows: &[u16; 390],
-        backs: &mut [u64; 390],
+        op: &[u8; ENTRIES],
+        ats: &[u16; ENTRIES],
+        wholes: &[u64; ENTRIES],
+        lefts: &mut [u64; ENTRIES],
+        lows: &[u16; ENTRIES],
+        backs: &mut [u64; ENTRIES],
     ) -> State
         requires { ⌜ Target (now s) ⌝ ∗ ⌜ Places (now s) (now base) (now places) ⌝ ∗ ⌜ PicksIf (self .live) (now op) (now s) (self .top) (now ats) (now wholes) (now lefts) ⌝ }
         ensures { λ r. ⌜ turned r (tables (now (ats .entry)) (now (wholes .entry)) (now (lefts .exit)) (now (lows .entry)) (now (backs .exit))) ≡ settleOf (now (op .entry)) (now (s .entry)) self (tables (now (ats .entry)) (now (wholes .entry)) (now (lefts .entry)) (now (lows .entry)) (now (backs .entry))) ⌝ }
@@ -254,69 +306,4 @@ impl State {
         }
         self
     }
-}
-
-// Whether a word of the target is an instruction's constant.
-fn is_constant(s: &[i32], at: usize, con: &[i32; 390], pc: usize) -> bool
-    requires { ⌜ at + 1 < length (now s) ⌝ ∗ ⌜ pc < 390 ⌝ }
-    ensures { λ r. ⌜ r ≡ same (getD (now (s .entry)) (at + 1) (pos 0)) (getD (now (con .entry)) pc (pos 0)) ⌝ }
-{
-    s[at + 1] == con[pc]
-}
-
-// Whether the atom's test holds.
-fn passes(o: u8, q: bool, s: &[i32], at: usize, m: u64, con: &[i32; 390], pc: usize) -> bool
-    requires { ⌜ at + 1 < length (now s) ⌝ ∗ ⌜ pc < 390 ⌝ }
-    ensures { λ r. ⌜ r ≡ passesOf o q (now (s .entry)) at m (getD (now (con .entry)) pc (pos 0)) ⌝ }
-{
-    if o == 4 {
-        return is_constant(s, at, con, pc);
-    }
-    if o == 5 {
-        return q;
-    }
-    if o == 6 {
-        return q;
-    }
-    if o == 7 {
-        return m == 0;
-    }
-    true
-}
-
-// Whether a cons has nothing to choose from.
-fn nothing(o: u8, m: u64) -> bool
-    ensures { λ r. ⌜ r ≡ noneOf o m ⌝ }
-{
-    if o == 10 {
-        return false;
-    }
-    m == 0
-}
-
-// The choices that a frame is opened with.
-fn opens(o: u8, m: u64) -> u64
-    requires { ⌜ noneOf o m ≡ false ⌝ }
-    ensures { λ r. ⌜ r ≡ opensOf o m ⌝ }
-{
-    if o == 10 {
-        return 0;
-    }
-    if o == 8 {
-        let k = lowest(m);
-        return one(k);
-    }
-    m
-}
-
-// The next longer front of a join; 0 where the back is empty.
-fn longer_front(c: u64, b: u64) -> u64
-    requires { ⌜ c + b < 2 ^ 64 ⌝ }
-    ensures { λ r. ⌜ r ≡ longerOf c b ⌝ }
-{
-    if b == 0 {
-        return 0;
-    }
-    let p = longer(Parts { front: c, back: b });
-    p.front
 }

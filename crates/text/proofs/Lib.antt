@@ -1,4 +1,3 @@
--- What the proofs of several modules use.
-pub mod Pieces
-pub mod Written
+-- What the proofs of several functions use.
 pub mod Answering
+pub mod Values

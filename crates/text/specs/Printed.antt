@@ -7,9 +7,10 @@ use lib.IntN.{ℤ, pos}
 use Rattle.rules.specs.Reading.{Verdict, ok, fault, _then_, readPattern}
 use Rattle.rules.specs.Variables.{variables}
 use Rattle.rules.specs.Services.{Matched, match}
-use Rattle.text.specs.Decimal.{newline, lineOf}
-use Rattle.text.specs.Question.{Question, asked}
-use Rattle.text.specs.Rows.{cutRows, emptyRows, lines}
+use Rattle.asking.specs.Question.{Question, asked}
+use Rattle.printing.specs.Decimal.{lineOf}
+use Rattle.printing.specs.Rows.{cutRows, emptyRows, lines}
+use Rattle.printing.specs.Meaning.{unreadable}
 
 unfoldable pub orZero : Verdict ℕ → ℕ
 orZero (ok n) = n
@@ -34,10 +35,6 @@ report values m = firstLine m ++ lines (cutRows values (m .rows) (take (m .words
 unfoldable pub matched : Question → Matched
 unfolding match
 matched q = match (q .matcher) (q .pattern) (q .target) (q .limits .budget) (replicate (q .limits .room) (pos 0))
-
--- The one line `unreadable`.
-abbrev pub unreadable : List ℕ
-unreadable = 117 ∷ 110 ∷ 114 ∷ 101 ∷ 97 ∷ 100 ∷ 97 ∷ 98 ∷ 108 ∷ 101 ∷ newline ∷ []
 
 unfoldable pub answerTo : Option Question → List ℕ
 unfolding report variablesOf matched

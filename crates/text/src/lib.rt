@@ -1,30 +1,40 @@
 // The trial program's text: from its input to what it prints.
-mod line;
-mod number;
-mod print;
-mod question;
-mod report;
-mod rows;
-
-use print::wide;
-use question::Asked;
-use question::read_input;
-use report::put_report;
-use report::put_unreadable;
-use report::values_of;
-use rows::Rest;
+use asking::question::Asked;
+use asking::question::read_input;
+use fitting::variables::Counted;
+use fitting::variables::count_variables;
+use printing::report::put_report;
+use printing::report::put_unreadable;
+use printing::rows::Rest;
 use services::matching::match_units;
 ghost use mathlib.Core.Path.{_≡_};
 ghost use Prim.Native.Nat.{_≤_};
 ghost use lib.ListN.{length};
 ghost use Rattle.rules.specs.Services.{match};
 ghost use Rattle.text.specs.Printed.{variablesOf, report, emptyReport};
-ghost use Rattle.text.specs.Meaning.{Text, Answer, zeroWords};
+ghost use Rattle.printing.specs.Meaning.{Text};
+ghost use Rattle.text.specs.Meaning.{Answer, zeroWords};
 
 // How many bytes were written, and how many empty lines follow them; or nothing was written, since there are too few bytes for it.
 pub enum Printed {
     Text(usize, u64),
     Short,
+}
+
+// How many values a row of a pattern has.
+fn values_of(p: &[i32]) -> u32
+    ensures { λ r. ⌜ r ≡ variablesOf (now (p .entry)) ⌝ }
+{
+    match count_variables(p) {
+        Counted::Number(n) => n,
+        Counted::Fault(_) => 0,
+    }
+}
+
+fn wide(n: u32) -> u64
+    ensures { λ r. ⌜ r ≡ n ⌝ }
+{
+    n as u64
 }
 
 // One question to match, printed.

@@ -1,13 +1,11 @@
 -- The choices of cons and join by marks are the definitions' choices, one by one in their order. Assumes nothing.
-use Prim.Native.Nat.{ℕ, zero, suc, _+_, _-_, _^_, _<_, _≤_}
+use Prim.Native.Nat.{ℕ, zero, suc, _+_, _-_, _^_, _<_}
 use mathlib.Core.Path.{_≡_, refl, sym, _∙_, ap, ap₂, subst}
-use mathlib.Core.Bool.{Bool, true, false}
 use mathlib.Core.Option.{Option, none, some}
 use mathlib.Core.List.{List, [], _∷_, map}
 use native.Mathlib.Nat.{add-zero}
 use native.Mathlib.Omega.{arith}
 use borrow.Author.Tests.{eq-eqb, ne-eqb}
-use lib.Dec.{eqb}
 use lib.Pow.{pow-pos, pow-lt}
 use lib.Count.{trailingZeros}
 use lib.IntN.{ℤ}
@@ -15,21 +13,21 @@ use Rattle.rules.specs.Forms.{Matcher, list, multiset, Value, collection, Value
 use Rattle.rules.specs.Fit.{takes, tagsOf, among}
 use Rattle.rules.specs.Search.{Halves, consHalves, joinHalves}
 use Rattle.words.specs.Words.{tagAt}
-use Rattle.marks.specs.Marks.{clear, positions, Split, raise, splits, Longer}
-use Rattle.marks.specs.Marked.{nth, marked, held, choiceAt, partsAt}
-use Rattle.marks.proofs.Places.{low-digit, clear-add, clear-lt, digit-le, positions-one, positions-low, positions-none}
+use Rattle.marks.specs.Marks.{clear, positions, raise, splits, Longer}
+use Rattle.marks.specs.Marked.{held, choiceAt, partsAt}
+use Rattle.marks.proofs.Places.{low-digit, clear-add, positions-one, positions-low, positions-none}
 use Rattle.marks.proofs.Fronts.{raise-none, splits-next, splits-last}
 use Rattle.marks.proofs.Marked.{cons-multiset, cons-list, cons-list-none, join-splits}
-use Rattle.holding.specs.Places.{valueAt, elements, countAt, Target, Tag, elementAt}
-use Rattle.holding.specs.Held.{Held, heldAt, wholeAt, left}
-use Rattle.holding.specs.Row.{holds}
-use Rattle.holding.specs.declared.rows.Binding.{Binding}
-use Rattle.holding.proofs.Held.{held-collection, held-64, held-less, held-clear, held-some, whole-held, whole-value, next-in, next-64, next-tag, next-value}
+use Rattle.holding.specs.Places.{valueAt, elements, countAt, Target, elementAt}
+use Rattle.holding.specs.Held.{Held, heldAt, left}
+use Rattle.rows.specs.Row.{holds}
+use Rattle.rows.specs.declared.Binding.{Binding}
+use Rattle.holding.proofs.Held.{held-collection, marks-all, held-64, held-less, held-clear, held-some, whole-held, whole-value, next-in, next-64, next-tag, next-value}
 use Rattle.program.specs.Points.{Kind, listCons, multisetCons, joins, over, firstBy, halves}
 use Rattle.engine.specs.Held.{Picked, Opened}
 use Rattle.stepping.specs.Steps.{when, opensOf, noneOf, longerOf}
-use Rattle.tying.specs.Fitting.{Fitting, Fine}
-use Rattle.tying.specs.Operations.{binding, Is, code, someOf, opensBy, opens, takePlace, takeFront, pick, elementsAt, LeftPlaces, LeftFronts, Left}
+use Rattle.tying.specs.Fitting.{Fine}
+use Rattle.tying.specs.Operations.{Is, code, someOf, opensBy, opens, partOf, takePlace, takeFront, pick, elementsAt, LeftPlaces, LeftFronts, Left}
 use Rattle.tying.proofs.Fitting.{halves-fine}
 use Rattle.tying.proofs.Tests.{is-many}
 
@@ -54,13 +52,13 @@ by-zero P (suc c) f h = h (omega arith)
 
 module _ (s : List ℤ) (g : Target s) where
   -- What is held of a collection.
-  of-elements : (at m : ℕ) → Held s at m → (tagAt s at ≡ 0 → ⊥) → heldAt s at m ≡ held (collection (elements (valueAt s at))) m
+  of-elements : (at m : ℕ) → Held s at m → tagAt s at ≡ 1 → heldAt s at m ≡ held (collection (elements (valueAt s at))) m
   unfolding held left
   of-elements at m w f = held-collection s at m g (w .tag) f
 
   -- ---- Cons: places.
 
-  module _ (k : Kind) (h : Binding) (c : ℕ) (w : Held s (h .at) (h .marks)) (f : tagAt s (h .at) ≡ 0 → ⊥) (hs : List Halves) (fine : Fine k hs) where
+  module _ (k : Kind) (h : Binding) (c : ℕ) (w : Held s (h .at) (h .marks)) (f : tagAt s (h .at) ≡ 1) (hs : List Halves) (fine : Fine k hs) where
     places-opened : Held s (h .at) c → hs ≡ map (choiceAt (elementsAt s h) (h .marks)) (positions 64 c)
         → ((c : ℕ) → LeftPlaces s k h c hs → Left s k h c hs) → Opened (Left s k h) (someOf c) hs
     unfolding Opened
@@ -70,7 +68,7 @@ module _ (s : List ℤ) (g : Target s) where
 
   place-taken : (k : Kind) (h : Binding) (c : ℕ) (hs : List Halves) → ((c : ℕ) (us : List Halves) → LeftPlaces s k h c us → Left s k h c us)
       → LeftPlaces s k h c hs → Picks s k h (takePlace s h c (trailingZeros 64 c)) hs
-  unfolding takePlace holds choiceAt Fine
+  unfolding takePlace partOf holds choiceAt Fine
   place-taken k h c hs into l =
       let t = trailingZeros 64 c in
       let e = elementAt s (h .at) t in
@@ -98,7 +96,7 @@ module _ (s : List ℤ) (g : Target s) where
     longer-is : (f b : ℕ) → 0 < b → b < 2 ^ 64 → Longer f b (f + 2 ^ trailingZeros 64 b) (clear (trailingZeros 64 b) b)
     longer-is f b z l = let c = clear-add (trailingZeros 64 b) b (low-digit 64 b z l) in record { front = refl; back = refl; sum = omega arith }
 
-    front-halves : (f b : ℕ) → Held s (h .at) f → Held s (h .at) b → (tagAt s (h .at) ≡ 0 → ⊥) → partsAt (elementsAt s h) (record { front = f + 0; back = b })
+    front-halves : (f b : ℕ) → Held s (h .at) f → Held s (h .at) b → tagAt s (h .at) ≡ 1 → partsAt (elementsAt s h) (record { front = f + 0; back = b })
         ≡ record { first = heldAt s (h .at) f; second = heldAt s (h .at) b }
     unfolding partsAt
     front-halves f b u w n = rw (add-zero f, of-elements (h .at) f u n, of-elements (h .at) b w n)
@@ -176,7 +174,7 @@ module _ (s : List ℤ) (g : Target s) where
         held = i .held;
         many = f;
         some = pow-pos t;
-        choices = record { tag = i .held .tag; marks = pow-lt l };
+        choices = record { tag = i .held .tag; marks = rw (marks-all s (h .at) f) (pow-lt l) };
         are = ap (consHalves (list m)) e ∙ cons-list (elementsAt s h) (h .marks) (held-some s (h .at) (h .marks) g (i .held)) (held-64 s (h .at) (h .marks) g (i .held)) m z
             ∙ ap (map (choiceAt (elementsAt s h) (h .marks))) (sym (positions-one 64 t (next-64 s (h .at) (h .marks) t g (i .held) refl z)));
         fine = halves-fine (listCons m) v (i .fits);

@@ -1,16 +1,20 @@
 -- What fits by the definitions fits as a relation, and so do the parts of a value that is divided. Assumes nothing.
 use Prim.Native.Nat.{ℕ, _+_}
 use mathlib.Core.Path.{_≡_, refl}
+use mathlib.Core.Bool.{Bool, true, false}
 use mathlib.Core.List.{List, [], _∷_, map}
+use borrow.Author.Tests.{eqb-true}
+use lib.Dec.{eqb}
 use native.Mathlib.Omega.{arith}
-use Rattle.rules.specs.Forms.{Matcher, something, integer, list, multiset, Value, int, collection, Values, empty, _▸_, size}
-use Rattle.rules.specs.Reading.{Verdict, ok, fault, _then_}
-use Rattle.rules.specs.Fit.{fitsAll, fitsValue}
+use Rattle.rules.specs.Forms.{Matcher, something, integer, list, multiset, tupleOf, Matchers, noMatchers, _▸ᵐ_, countᵐ, Value, int, collection, tupled, Values, empty, _▸_, count, size}
+use Rattle.rules.specs.Reading.{Verdict, ok, _then_}
+use Rattle.rules.specs.Variables.{demand}
+use Rattle.rules.specs.Fit.{fitsAll, fitsValue, fitsEach}
 use Rattle.rules.specs.Equality.{Pick, picks, behind}
 use Rattle.rules.specs.Search.{consHalves, joinHalves, Cut, cuts, longer}
 use Rattle.promises.specs.Readers.{then-ok}
 use Rattle.program.specs.Points.{Kind, listCons, multisetCons, joins, over, firstBy, halves}
-use Rattle.tying.specs.Fitting.{Each, Fitting, Fine}
+use Rattle.tying.specs.Fitting.{Each, Fitting, FittingEach, Fine}
 
 each-fits : (f : Value → ℕ → Verdict (Unit {0})) (P : Value → Type 0) → ((v : Value) (at : ℕ) → f v at ≡ ok tt → P v) → (vs : Values) (at : ℕ) → fitsAll f vs at ≡ ok tt → Each P vs
 unfolding fitsAll Each
@@ -20,15 +24,38 @@ each-fits f P h (v ▸ vs) at e = let r = then-ok (f v at) (λ _. fitsAll f vs (
 clash : {A : Type 0} → _≡_ {A = ℕ} 0 1 → A
 clash z = absurd (omega arith)
 
-pub fits-value : (m : Matcher) (v : Value) (at : ℕ) → fitsValue m v at ≡ ok tt → Fitting m v
-unfolding fitsValue Fitting
-fits-value something v at e = tt
-fits-value integer (int x) at e = tt
-fits-value integer (collection vs) at e = clash cc
-fits-value (list m) (int x) at e = clash cc
-fits-value (list m) (collection vs) at e = each-fits (λ v i. fitsValue m v i) (λ v. Fitting m v) (λ v i. fits-value m v i) vs (at + 2) e
-fits-value (multiset m) (int x) at e = clash cc
-fits-value (multiset m) (collection vs) at e = each-fits (λ v i. fitsValue m v i) (λ v. Fitting m v) (λ v i. fits-value m v i) vs (at + 2) e
+demanded : (b : Bool) (at : ℕ) → demand {A = Unit {0}} b at tt ≡ ok tt → b ≡ true
+unfolding demand
+demanded true at e = refl
+demanded false at e = clash cc
+
+mutual
+  unfolding fitsValue fitsEach Fitting FittingEach count countᵐ
+
+  pub fits-value : (m : Matcher) (v : Value) (at : ℕ) → fitsValue m v at ≡ ok tt → Fitting m v
+  fits-value something v at e = tt
+  fits-value integer (int x) at e = tt
+  fits-value integer (collection vs) at e = clash cc
+  fits-value integer (tupled vs) at e = clash cc
+  fits-value (list m) (int x) at e = clash cc
+  fits-value (list m) (collection vs) at e = each-fits (λ v i. fitsValue m v i) (λ v. Fitting m v) (λ v i. fits-value m v i) vs (at + 2) e
+  fits-value (list m) (tupled vs) at e = clash cc
+  fits-value (multiset m) (int x) at e = clash cc
+  fits-value (multiset m) (collection vs) at e = each-fits (λ v i. fitsValue m v i) (λ v. Fitting m v) (λ v i. fits-value m v i) vs (at + 2) e
+  fits-value (multiset m) (tupled vs) at e = clash cc
+  fits-value (tupleOf ms) (int x) at e = clash cc
+  fits-value (tupleOf ms) (collection vs) at e = clash cc
+  fits-value (tupleOf ms) (tupled vs) at e =
+      let r = then-ok (demand {A = Unit {0}} (eqb (countᵐ ms) (count vs)) at tt) (λ _. fitsEach ms vs (at + 2)) tt e in
+      fits-each ms vs (at + 2) (eqb-true (countᵐ ms) (count vs) (demanded (eqb (countᵐ ms) (count vs)) at (r .1))) (r .2)
+
+  fits-each : (ms : Matchers) (vs : Values) (at : ℕ) → countᵐ ms ≡ count vs → fitsEach ms vs at ≡ ok tt → FittingEach ms vs
+  fits-each noMatchers empty at n e = tt
+  fits-each noMatchers (v ▸ vs) at n e = absurd (omega arith)
+  fits-each (m ▸ᵐ ms) empty at n e = absurd (omega arith)
+  fits-each (m ▸ᵐ ms) (v ▸ vs) at n e =
+      let r = then-ok (fitsValue m v at) (λ _. fitsEach ms vs (at + size v)) tt e in
+      (fits-value m v at (r .1), fits-each ms vs (at + size v) (omega arith) (r .2))
 
 -- ---- Picks and cuts of elements that fit.
 
@@ -77,7 +104,10 @@ unfolding halves over firstBy Fitting Fine Each consHalves joinHalves
 halves-fine (listCons m) (int x) f = tt
 halves-fine (listCons m) (collection empty) f = tt
 halves-fine (listCons m) (collection (v ▸ vs)) f = (f .0, f .1, tt)
+halves-fine (listCons m) (tupled vs) f = tt
 halves-fine (multisetCons m) (int x) f = tt
 halves-fine (multisetCons m) (collection vs) f = multiset-fine m (picks vs) (picks-each (λ v. Fitting m v) vs f)
+halves-fine (multisetCons m) (tupled vs) f = tt
 halves-fine (joins m) (int x) f = tt
 halves-fine (joins m) (collection vs) f = join-fine m (cuts vs) (cuts-each (λ v. Fitting m v) vs f)
+halves-fine (joins m) (tupled vs) f = tt

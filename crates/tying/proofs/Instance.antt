@@ -8,13 +8,14 @@ use Rattle.rules.specs.Reading.{ok, readTarget}
 use Rattle.rules.specs.Fit.{fitsValue}
 use Rattle.holding.specs.Places.{Target}
 use Rattle.holding.specs.Held.{wholeAt}
-use Rattle.holding.specs.Row.{holds}
-use Rattle.holding.specs.declared.rows.Binding.{Binding}
-use Rattle.holding.proofs.Accepted.{read-target, read-held, read-is}
+use Rattle.rows.specs.Row.{holds}
+use Rattle.rows.specs.declared.Binding.{Binding}
+use Rattle.holding.proofs.Accepted.{read-held, read-is}
 use Rattle.engine.specs.Held.{Data}
-use Rattle.tying.specs.Operations.{binding, Is, Left, isNone, isNumber, isSame, opens, pick}
+use Rattle.tying.specs.Operations.{binding, Is, Left, isNone, isNumber, isSame, isWide, partOf, opens, pick}
 use Rattle.tying.proofs.Fitting.{fits-value}
 use Rattle.tying.proofs.Tests.{none-ok, number-ok, same-ok, words-ok}
+use Rattle.tying.proofs.Tuples.{parts-ok}
 use Rattle.tying.proofs.Choices.{opens-ok, pick-ok}
 
 abbrev pub places : (s : List ℤ) → Target s → Data
@@ -33,6 +34,9 @@ places s g = record {
   opens-ok = opens-ok s g;
   pick = pick s;
   pick-ok = pick-ok s g;
+  isWide = isWide s;
+  part = partOf s;
+  parts-ok = parts-ok s g;
   stale = λ now before. binding (now .at) (before .marks);
   wordsOf = λ h. words (holds s h);
   wordsOf-ok = words-ok s g;

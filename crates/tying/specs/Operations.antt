@@ -1,5 +1,5 @@
 -- The machine's operations on held values, as the code does them: choices are marks too. The choices left at a cons are places; at a join the next front.
-use Prim.Native.Nat.{ℕ, zero, suc, _+_, _-_, _^_, _≤_, _<_}
+use Prim.Native.Nat.{ℕ, _+_, _-_, _≤_, _<_}
 use mathlib.Core.Path.{_≡_}
 use mathlib.Core.Bool.{Bool}
 use mathlib.Core.Option.{Option, none, some}
@@ -9,17 +9,17 @@ use lib.Dec.{eqb}
 use lib.Count.{trailingZeros}
 use lib.IntN.{ℤ, pos}
 use Rattle.rules.specs.Numbers.{same}
-use Rattle.rules.specs.Forms.{Matcher, something, integer, list, multiset, Value, Values}
+use Rattle.rules.specs.Forms.{Matcher, something, integer, list, multiset, tupleOf, Value, Values}
 use Rattle.rules.specs.Equality.{equal}
 use Rattle.rules.specs.Search.{Halves}
 use Rattle.words.specs.Words.{tagAt}
 use Rattle.marks.specs.Marks.{clear, positions, raise, splits}
 use Rattle.marks.specs.Marked.{choiceAt, partsAt}
-use Rattle.holding.specs.Places.{valueAt, elements, elementAt}
+use Rattle.holding.specs.Places.{valueAt, elements, countAt, elementAt}
 use Rattle.holding.specs.Held.{Held, wholeAt}
-use Rattle.holding.specs.Row.{holds}
-use Rattle.holding.specs.Equality.{isSum}
-use Rattle.holding.specs.declared.rows.Binding.{Binding}
+use Rattle.rows.specs.Row.{holds}
+use Rattle.equality.specs.Equality.{isSum}
+use Rattle.rows.specs.declared.Binding.{Binding}
 use Rattle.program.specs.Points.{Kind, listCons, multisetCons, joins}
 use Rattle.engine.specs.Held.{Picked}
 use Rattle.stepping.specs.Steps.{when, opensOf, noneOf, longerOf}
@@ -48,6 +48,18 @@ isSame s something c g h = equal something (holds s g) (holds s h)
 isSame s integer c g h = isSum s (g .at) c (h .at)
 isSame s (list m) c g h = equal (list m) (holds s g) (holds s h)
 isSame s (multiset m) c g h = equal (multiset m) (holds s g) (holds s h)
+isSame s (tupleOf ms) c g h = equal (tupleOf ms) (holds s g) (holds s h)
+
+-- ---- Tuples.
+
+unfoldable pub isWide : List ℤ → ℕ → Binding → Bool
+unfolding countAt
+isWide s k h = eqb (countAt s (h .at)) k
+
+-- Part i, whole.
+unfoldable pub partOf : List ℤ → Binding → ℕ → Binding
+unfolding elementAt wholeAt
+partOf s h i = binding (elementAt s (h .at) i) (wholeAt s (elementAt s (h .at) i))
 
 -- ---- Choices.
 
@@ -72,9 +84,9 @@ opens k h = opensBy (noneOf (code k) (h .marks)) (opensOf (code k) (h .marks))
 
 -- Place k is chosen of the choices c.
 unfoldable pub takePlace : List ℤ → Binding → ℕ → ℕ → Picked Binding ℕ
-unfolding someOf
+unfolding someOf partOf
 takePlace s h c k = record {
-  one = binding (elementAt s (h .at) k) (wholeAt s (elementAt s (h .at) k));
+  one = partOf s h k;
   two = binding (h .at) (clear k (h .marks));
   more = someOf (clear k c);
 }
@@ -101,7 +113,7 @@ elementsAt s h = elements (valueAt s (h .at))
 
 pub record LeftPlaces (s : List ℤ) (k : Kind) (h : Binding) (c : ℕ) (hs : List Halves) : Type 0 where
   pub held : Held s (h .at) (h .marks)
-  pub many : tagAt s (h .at) ≡ 0 → ⊥
+  pub many : tagAt s (h .at) ≡ 1
   pub some : 0 < c
   pub choices : Held s (h .at) c
   pub are : hs ≡ map (choiceAt (elementsAt s h) (h .marks)) (positions 64 c)
@@ -109,7 +121,7 @@ pub record LeftPlaces (s : List ℤ) (k : Kind) (h : Binding) (c : ℕ) (hs : Li
 
 pub record LeftFronts (s : List ℤ) (k : Kind) (h : Binding) (f : ℕ) (hs : List Halves) : Type 0 where
   pub held : Held s (h .at) (h .marks)
-  pub many : tagAt s (h .at) ≡ 0 → ⊥
+  pub many : tagAt s (h .at) ≡ 1
   pub within : f ≤ h .marks
   pub are : hs ≡ map (partsAt (elementsAt s h)) (map (raise f) (splits 64 (h .marks - f)))
   pub fine : Fine k hs

@@ -12,3 +12,7 @@ tagZ (negsuc n) = 2147483648
 -- The tag at an index; past the end a number that no word has.
 unfoldable pub tagAt : List ℤ → ℕ → ℕ
 tagAt s at = tagZ (getD s at (negsuc 0))
+
+-- The arrays of a program and the tables of its slots have an entry for each line; 256 words make at most 462 lines.
+abbrev pub entries : ℕ
+entries = 470

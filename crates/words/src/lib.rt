@@ -8,6 +8,9 @@ ghost use mir.Val.{toZ, ofZ};
 ghost use Rattle.rules.specs.Numbers.{plus};
 ghost use Rattle.words.specs.Words.{tagZ, tagAt};
 
+// The entries of a program's arrays and of the tables of its slots, one for each line; 256 words make at most 462 lines.
+pub const ENTRIES: usize = 470;
+
 // A word's number, or 2147483648, which no word has, where it is negative.
 pub fn tag_of(w: i32) -> u32
     ensures { λ r. ⌜ r ≡ tagZ w ⌝ }

@@ -1,45 +1,59 @@
--- `matcherFrom` by the tag that was read. Assumes nothing.
-use mathlib.Core.Path.{_≡_, refl, sym, _∙_, ap}
+-- The matcher at an index by the tags there, from the rules' reader. Assumes nothing.
+use mathlib.Core.Path.{_≡_, refl, _∙_}
+use mathlib.Core.Bool.{true, false}
 use mathlib.Core.Option.{Option, none, some}
 use mathlib.Core.List.{List}
 use Prim.Native.Nat.{ℕ, zero, suc, _+_, _-_, _<_, _≤_}
-use native.Mathlib.Numerals.{add-one}
+use native.Mathlib.Numerals.{add-one, add-two}
 use native.Mathlib.Omega.{arith}
-use borrow.Author.Needs.{needs}
 use lib.IntN.{ℤ}
 use lib.ListN.{length, drop, getElem?}
-use Rattle.rules.specs.Forms.{Matcher, something, integer, list, multiset}
-use Rattle.rules.specs.Reading.{Reader, fault, MatcherTag, bare, of, _then_, _>>=_, give, ended, known, entry, matcher, matcherTags, matcherParts, readMatcher, whole}
+use Rattle.rules.specs.Forms.{Matcher, something, integer, list, multiset, tupleOf, Matchers, noMatchers, _▸ᵐ_}
+use Rattle.rules.specs.Reading.{Reader, fault, MatcherTag, bare, of, ofAll, _then_, _>>=_, give, known, width}
+use Rattle.rules.specs.Reading.{matcher, matcherTags, matcherParts}
+use Rattle.promises.specs.Written.{matcherWords, levels, Widthsᵐ}
+use Rattle.promises.specs.Readers.{Complete}
+use Rattle.promises.specs.ReadMatcher.{matcher-sound, matcher-complete}
 use Rattle.words.specs.Words.{tagAt}
-use Rattle.reading.specs.Tests.{tested, restAt}
+use Rattle.reading.specs.Ends.{endOf, inRow, within}
 use Rattle.reading.specs.Matchers.{matcherFrom}
-use Rattle.reading.specs.declared.Tested.{Tested}
-use Rattle.reading.specs.declared.Tested.the-variants.{Fault}
-use Rattle.reading.proofs.Known.{past, meant, known-at, ended-at, tested-map}
+use Rattle.reading.specs.declared.Ended.{Ended}
+use Rattle.reading.specs.declared.Ended.the-variants.{End, Bad}
+use Rattle.reading.proofs.Known.{past, meant, known-at}
+use Rattle.reading.proofs.Rows.{Along, along, width-takes, counted-bad, counted-row, made}
 
-pub whole-from : (s : List ℤ) → tested (readMatcher s) ≡ matcherFrom s 4 0
-unfolding readMatcher whole matcherFrom
-whole-from s = refl
+pub matcher-along : (s : List ℤ) (left : ℕ) → Along s (matcher left)
+unfolding Complete
+matcher-along s left = along s (matcher left) matcherWords (λ m. (levels m ≤ left) × Widthsᵐ m) (matcher-sound left) (matcher-complete left)
 
 -- What comes of a tag, by its meaning in the table.
 module _ (part : Reader Matcher) (s : List ℤ) (at : ℕ) where
-  unfoldable opened : Option MatcherTag → Tested
-  unfolding meant _then_ matcherParts tested ended
-  opened o = tested ((meant at (drop (suc at) s) o then λ g. matcherParts part (g .it) (g .next) (g .rest)) then ended)
+  unfoldable opened : Option MatcherTag → Ended
+  unfolding meant _then_ matcherParts endOf
+  opened o = endOf (meant at (drop (suc at) s) o then λ g. matcherParts part (g .it) (g .next) (g .rest))
 
-  opened-bare : (m : Matcher) → opened (some (bare m)) ≡ restAt s (at + 1)
-  unfolding opened meant _then_ matcherParts give
-  opened-bare m = rw (add-one at) (ended-at s (suc at) m)
-
-  opened-of : (f : Matcher → Matcher) → opened (some (of f)) ≡ tested (part (suc at) (drop (suc at) s) then ended)
-  unfolding opened meant _then_ matcherParts _>>=_ give
-  opened-of f = tested-map f (part (suc at) (drop (suc at) s))
-
-  opened-none : opened none ≡ Fault at
-  unfolding opened meant _then_ tested
+  opened-none : opened none ≡ Bad at
+  unfolding opened meant _then_ endOf
   opened-none = refl
 
--- The table by the tag, with k tags 2 or 3 left.
+  opened-bare : (m : Matcher) → opened (some (bare m)) ≡ End (at + 1)
+  unfolding opened meant _then_ matcherParts give endOf
+  opened-bare m = rw (add-one at)
+
+  opened-of : (f : Matcher → Matcher) → opened (some (of f)) ≡ endOf (part (suc at) (drop (suc at) s))
+  unfolding opened meant _then_ matcherParts _>>=_
+  opened-of f = made f (part (suc at) (drop (suc at) s))
+
+  module _ (f : Matchers → Matcher) (n : ℕ) (e : n ≡ tagAt s (at + 1)) where
+    opened-wrong : within 2 n 4 ≡ false → opened (some (ofAll f)) ≡ Bad (at + 1)
+    unfolding opened meant _then_ matcherParts
+    opened-wrong h = rw (add-one at) (counted-bad width (λ k. within 2 k 4) width-takes noMatchers _▸ᵐ_ part f s (suc at) n (rw (add-one at) at e) h)
+
+    opened-row : Along s part → within 2 n 4 ≡ true → opened (some (ofAll f)) ≡ inRow (λ i. endOf (part i (drop i s))) n (at + 2)
+    unfolding opened meant _then_ matcherParts
+    opened-row a h = rw (add-two at) (counted-row width (λ k. within 2 k 4) width-takes noMatchers _▸ᵐ_ part f s (suc at) n (rw (add-one at) at e) a h)
+
+-- The table by the tag, with k levels left.
 leaf-tag : (k t : ℕ) → t < 2 → (m : Matcher) × (getElem? (matcherTags k) t ≡ some (bare m))
 unfolding matcherTags
 leaf-tag zero zero h = (something, refl)
@@ -49,13 +63,13 @@ leaf-tag (suc k) zero h = (something, refl)
 leaf-tag (suc k) (suc zero) h = (integer, refl)
 leaf-tag (suc k) (suc (suc t)) h = absurd (omega arith)
 
-node-tag : (k t : ℕ) → 2 ≤ t → t < 4 → (f : Matcher → Matcher) × (getElem? (matcherTags (suc k)) t ≡ some (of f))
+of-tag : (k t : ℕ) → 2 ≤ t → t < 4 → (f : Matcher → Matcher) × (getElem? (matcherTags (suc k)) t ≡ some (of f))
 unfolding matcherTags
-node-tag k zero g h = absurd (omega arith)
-node-tag k (suc zero) g h = absurd (omega arith)
-node-tag k (suc (suc zero)) g h = (list, refl)
-node-tag k (suc (suc (suc zero))) g h = (multiset, refl)
-node-tag k (suc (suc (suc (suc t)))) g h = absurd (omega arith)
+of-tag k zero g h = absurd (omega arith)
+of-tag k (suc zero) g h = absurd (omega arith)
+of-tag k (suc (suc zero)) g h = (list, refl)
+of-tag k (suc (suc (suc zero))) g h = (multiset, refl)
+of-tag k (suc (suc (suc (suc t)))) g h = absurd (omega arith)
 
 part-at : ℕ → Reader Matcher
 part-at zero = λ i us. fault i
@@ -67,38 +81,39 @@ module _ (s : List ℤ) (at t : ℕ) (e : t ≡ tagAt s at) where
   by-tag zero = rw (known-at (matcherTags 0) (omega arith) s at t e)
   by-tag (suc k) = rw (known-at (matcherTags (suc k)) (omega arith) s at t e)
 
-  leaf : (k : ℕ) → t < 2 → matcherFrom s k at ≡ restAt s (at + 1)
+  pub leaf : (k : ℕ) → t < 2 → matcherFrom s k at ≡ End (at + 1)
   leaf k h = let m = leaf-tag k t h in by-tag k ∙ rw (m .1) (opened-bare (part-at k) s at (m .0))
 
-  absent : (k : ℕ) → length (matcherTags k) ≤ t → matcherFrom s k at ≡ Fault at
+  absent : (k : ℕ) → length (matcherTags k) ≤ t → matcherFrom s k at ≡ Bad at
   absent k h = by-tag k ∙ rw (past (matcherTags k) t h) (opened-none (part-at k) s at)
 
-  node : (k : ℕ) → 2 ≤ t → t < 4 → matcherFrom s (suc k) at ≡ matcherFrom s k (at + 1)
+  pub other : (k : ℕ) → 4 < t → matcherFrom s k at ≡ Bad at
+  unfolding matcherTags
+  other zero h = absent zero (omega arith)
+  other (suc k) h = absent (suc k) h
+
+  pub deep : (k : ℕ) → k ≡ 0 → 2 ≤ t → matcherFrom s k at ≡ Bad at
+  unfolding matcherTags
+  deep zero q h = absent zero h
+  deep (suc k) q h = absurd (omega arith)
+
+  pub inside : (k : ℕ) → (k ≡ 0 → ⊥) → 2 ≤ t → t < 4 → matcherFrom s k at ≡ matcherFrom s (k - 1) (at + 1)
   unfolding matcherFrom part-at
-  node k g h = let f = node-tag k t g h in by-tag (suc k) ∙ rw (f .1, add-one at) (opened-of (part-at (suc k)) s at (f .0))
+  inside zero z g h = absurd (z refl)
+  inside (suc k) z g h =
+      let f = of-tag k t g h in
+      let p : suc k - 1 ≡ k = omega arith in
+      by-tag (suc k) ∙ rw (f .1, p, add-one at) (opened-of (part-at (suc k)) s at (f .0))
 
--- The laws as the code asks them: each premise is a fact that a place of the code has at hand, which `search` finds.
-module _ (s : List ℤ) (at t k : ℕ) (v : Tested) (i : v ≡ matcherFrom s k at) (e : t ≡ tagAt s at) where
-  pub ret-leaf : t < 2 → (r : Tested) → r ≡ restAt s (at + 1) → r ≡ v
-  ret-leaf h r q = q ∙ sym (i ∙ leaf s at t e k h)
+  module _ (n : ℕ) (q : n ≡ tagAt s (at + 1)) where
+    pub wrong : (k : ℕ) → (k ≡ 0 → ⊥) → t ≡ 4 → within 2 n 4 ≡ false → matcherFrom s k at ≡ Bad (at + 1)
+    unfolding matcherTags
+    wrong zero z h w = absurd (z refl)
+    wrong (suc k) z h w = by-tag (suc k) ∙ rw h (opened-wrong (part-at (suc k)) s at tupleOf n q w)
 
-  pub ret-full : k ≡ 0 → 2 ≤ t → Fault at ≡ v
-  unfolding matcherTags
-  ret-full q g = sym (i ∙ rw q (absent s at t e 0 g))
-
-  pub ret-other : 4 ≤ t → Fault at ≡ v
-  unfolding matcherTags
-  ret-other h = sym (i ∙ absent s at t e k (few k))
-    where
-      few : (j : ℕ) → length (matcherTags j) ≤ t
-      few zero = omega arith
-      few (suc j) = omega arith
-
-  pub turn : (k ≡ 0 → ⊥) → 2 ≤ t → t < 4 → v ≡ matcherFrom s (k - 1) (at + 1)
-  turn q g h = i ∙ go k q
-    where
-      go : (j : ℕ) → (j ≡ 0 → ⊥) → matcherFrom s j at ≡ matcherFrom s (j - 1) (at + 1)
-      go zero z = absurd (z refl)
-      go (suc j) z = let p : suc j - 1 ≡ j = omega arith in rw p (node s at t e j g h)
-
-pub ruleset rules = (whole-from, ret-leaf, ret-full, ret-other, turn, needs)
+    pub row : (k : ℕ) → (k ≡ 0 → ⊥) → t ≡ 4 → within 2 n 4 ≡ true → matcherFrom s k at ≡ inRow (matcherFrom s (k - 1)) n (at + 2)
+    unfolding matcherTags matcherFrom part-at
+    row zero z h w = absurd (z refl)
+    row (suc k) z h w =
+        let p : suc k - 1 ≡ k = omega arith in
+        by-tag (suc k) ∙ rw (h, p) (opened-row (part-at (suc k)) s at tupleOf n q (matcher-along s k) w)

@@ -9,9 +9,9 @@ use Rattle.searching.specs.Run.{Env, env, Run, run, settled, takeOf, run
 use Rattle.searching.proofs.Laws.{Here, here-start, here-end, here-spent, here-next, next-less, Asked, asked-3, asked-5, asked-6, asked-n, took, turn-takes, turn-picks, settled-by, Ready, ready, ready-place, ready-mul, ready-number, ready-number-mul, ready-bound, ready-sum}
 use Rattle.searching.proofs.advance.Statement.{statement}
 use Rattle.searching.proofs.advance.Tie as tie
-use Rattle.holding.proofs.equality.equal.Reads as equal-reads
-use Rattle.holding.proofs.equality.is_sum.Reads as is-sum-reads
-use Rattle.holding.proofs.rows.bind.Reads as bind-reads
+use Rattle.equality.proofs.equal.Reads as equal-reads
+use Rattle.equality.proofs.is_sum.Reads as is-sum-reads
+use Rattle.rows.proofs.bind.Reads as bind-reads
 use Rattle.searching.proofs.index.Reads as index-reads
 use Rattle.searching.proofs.take.Reads as take-reads
 use Rattle.stepping.proofs.State.settle.Reads as settle-reads

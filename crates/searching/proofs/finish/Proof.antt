@@ -3,8 +3,8 @@ use Rattle.searching.specs.Run.{filled, wrote}
 use Rattle.searching.proofs.Laws.{row-rules}
 use Rattle.searching.proofs.finish.Statement.{statement}
 use Rattle.searching.proofs.finish.Tie as tie
-use Rattle.holding.proofs.rows.put_row.Reads as put-row-reads
-use Rattle.holding.proofs.rows.row_size.Reads as row-size-reads
+use Rattle.rows.proofs.put_row.Reads as put-row-reads
+use Rattle.rows.proofs.row_size.Reads as row-size-reads
 
 pub finish-spec : {M : Type 1} → statement M
 unfolding filled wrote

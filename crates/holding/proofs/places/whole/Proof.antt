@@ -2,7 +2,7 @@
 use Rattle.holding.proofs.Counting.{count-rules}
 use Rattle.holding.proofs.places.whole.Statement.{statement}
 use Rattle.holding.proofs.places.whole.Tie as tie
-use Rattle.holding.proofs.places.count_at.Reads as count-at-reads
+use Rattle.holding.proofs.places.marks_at.Reads as marks-at-reads
 use Rattle.marks.proofs.full.Reads as full-reads
 
 pub whole-spec : {M : Type 1} → statement M

@@ -3,12 +3,14 @@ use Prim.Native.Nat.{ℕ, _<_, _-_}
 use mathlib.Core.Path.{_≡_}
 use borrow.Fn.Kinds.{In}
 use borrow.Fn.PlainCycle.{Measures, is, falls, and}
-use Rattle.reading.specs.Targets.{valueFrom, inRow}
+use Rattle.reading.specs.Ends.{inRow}
+use Rattle.reading.specs.Targets.{valueFrom}
 use Rattle.reading.proofs.target.Steps.{rules}
 use Rattle.reading.proofs.target.value_end.Reads as value-end
 use Rattle.reading.proofs.target.value_end.Kinds as value-end-kinds
 use Rattle.reading.proofs.target.+value_end.Lts-value_end as value-end-lts
 use Rattle.words.proofs.tag_at.Reads as tag-at-reads
+use Rattle.reading.proofs.target.count_fits.Reads as count-fits-reads
 use Rattle.reading.proofs.target.+value_end.{statement}
 use Rattle.reading.proofs.target.+value_end.Tie.{close}
 
@@ -28,7 +30,8 @@ abbrev μ-loop : value-end-lts.MeasureT-loop
 μ-loop s at depth t left₀ e₀ left e = left
 
 pub +value-end-spec : {M : Type 1} → statement M
-+value-end-spec = close μ-value-end λ t. value-end-lts.spec (tag-at-reads.Asked, tag-at-reads.Learnt, value-end-below t, value-end.Post) (value-end-at t) value-end.Post Inv-loop μ-loop
++value-end-spec = close μ-value-end λ t. value-end-lts.spec (tag-at-reads.Asked, tag-at-reads.Learnt, count-fits-reads.Asked, count-fits-reads.Learnt, value-end-below t, value-end.Post) (value-end-at t) value-end.Post Inv-loop μ-loop
+    (λ c. search rules)
     (λ c. search rules)
     (λ c. search rules)
     (λ c. search rules)

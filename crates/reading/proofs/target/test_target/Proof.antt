@@ -1,14 +1,11 @@
 -- `reading::target::test_target` meets its contract. Assumes nothing.
-use Rattle.reading.proofs.target.Whole.{rules}
+use Rattle.reading.proofs.target.Steps.{whole-rules}
 use Rattle.reading.proofs.target.test_target.Statement.{statement}
 use Rattle.reading.proofs.target.test_target.Tie as tie
 
 pub test-target-spec : {M : Type 1} → statement M
 test-target-spec = tie.close (tie.spec
-    (λ c. search rules)
-    (λ c. search rules)
-    (λ c. search rules)
-    (λ c. search rules)
-    (λ c. search rules)
-    (λ c. search rules)
-    (λ c. search rules))
+    (λ c. search whole-rules)
+    (λ c κs. search whole-rules)
+    (λ c κs. search whole-rules)
+    (λ c. search whole-rules))

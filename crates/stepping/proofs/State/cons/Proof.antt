@@ -1,18 +1,18 @@
 -- `stepping::State::cons` meets its contract. Assumes nothing.
-use Rattle.stepping.specs.Steps.{moved}
+use Rattle.stepping.specs.Steps.{moved, topped}
 use Rattle.stepping.proofs.Laws.{cons-rules, cons-is}
 use Rattle.stepping.proofs.State.cons.Statement.{statement}
 use Rattle.stepping.proofs.State.cons.Tie as tie
 use Rattle.marks.proofs.lowest.Reads as lowest-reads
 use Rattle.marks.proofs.rest.Reads as rest-reads
 use Rattle.marks.proofs.without.Reads as without-reads
-use Rattle.stepping.proofs.State.leave.Reads as leave-reads
+use Rattle.stepping.proofs.leaves.leave.Reads as leave-reads
 use Rattle.holding.proofs.places.whole.Reads as whole-reads
 use Rattle.holding.proofs.places.wide.Reads as wide-reads
 use Rattle.holding.proofs.places.element.Reads as element-reads
 
 pub cons-spec : {M : Type 1} → statement M
-unfolding moved
+unfolding moved topped
 cons-spec =
     tie.close
     (tie.spec

@@ -1,14 +1,14 @@
 -- `stepping::State::join` meets its contract. Assumes nothing.
-use Rattle.stepping.specs.Steps.{moved}
+use Rattle.stepping.specs.Steps.{moved, topped}
 use Rattle.stepping.proofs.Laws.{join-rules}
 use Rattle.stepping.proofs.State.join.Statement.{statement}
 use Rattle.stepping.proofs.State.join.Tie as tie
-use Rattle.stepping.proofs.State.leave.Reads as leave-reads
-use Rattle.stepping.proofs.longer_front.Reads as longer-front-reads
+use Rattle.stepping.proofs.leaves.leave.Reads as leave-reads
+use Rattle.stepping.proofs.leaves.longer_front.Reads as longer-front-reads
 use Rattle.holding.proofs.places.wide.Reads as wide-reads
 
 pub join-spec : {M : Type 1} → statement M
-unfolding moved
+unfolding moved topped
 join-spec =
     tie.close
     (tie.spec

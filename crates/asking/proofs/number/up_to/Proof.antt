@@ -1,0 +1,18 @@
+-- `asking::number::up_to` meets its contract. Assumes nothing.
+use Rattle.asking.proofs.number.Laws.{count-rules}
+use Rattle.asking.proofs.number.up_to.Statement.{statement}
+use Rattle.asking.proofs.number.up_to.Tie as tie
+
+pub up-to-spec : {M : Type 1} → statement M
+up-to-spec =
+    tie.close
+    (tie.spec
+    (λ c κs. search count-rules)
+    (λ c. search count-rules)
+    (λ c. search count-rules)
+    (λ c. search count-rules)
+    (λ c. search count-rules)
+    (λ c. search count-rules)
+    (λ c. search count-rules)
+    (λ c. search count-rules)
+    (λ c. search count-rules))

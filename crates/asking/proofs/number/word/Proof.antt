@@ -1,0 +1,24 @@
+-- `asking::number::word` meets its contract. Assumes nothing.
+use Rattle.asking.proofs.number.Laws.{word-rules}
+use Rattle.asking.proofs.number.word.Statement.{statement}
+use Rattle.asking.proofs.number.word.Tie as tie
+
+pub word-spec : {M : Type 1} → statement M
+word-spec =
+    tie.close
+    (tie.spec
+    (λ c κs. search word-rules)
+    (λ c. search word-rules)
+    (λ c. search word-rules)
+    (λ c κs. search word-rules)
+    (λ c. search word-rules)
+    (λ c. search word-rules)
+    (λ c. search word-rules)
+    (λ c. search word-rules)
+    (λ c κs. search word-rules)
+    (λ c. search word-rules)
+    (λ c. search word-rules)
+    (λ c. search word-rules)
+    (λ c. search word-rules)
+    (λ c. search word-rules)
+    (λ c. search word-rules))

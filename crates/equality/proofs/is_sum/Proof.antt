@@ -1,0 +1,20 @@
+-- `equality::is_sum` meets its contract. Assumes nothing.
+use Rattle.equality.proofs.Comparing.{word-rules}
+use Rattle.equality.proofs.is_sum.Statement.{statement}
+use Rattle.equality.proofs.is_sum.Tie as tie
+use Rattle.equality.proofs.alike.Reads as alike-reads
+use Rattle.words.proofs.sum.Reads as sum-reads
+
+pub is-sum-spec : {M : Type 1} → statement M
+is-sum-spec =
+    tie.close
+    (tie.spec
+    (λ c. search word-rules)
+    (λ c. search word-rules)
+    (λ c. search word-rules)
+    (λ c κs. search word-rules)
+    (λ c. search word-rules)
+    (λ c. search word-rules)
+    (λ c. search word-rules)
+    (λ c κs. search word-rules)
+    (λ c. search word-rules))

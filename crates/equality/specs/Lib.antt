@@ -1,0 +1,2 @@
+-- Equality of held values.
+pub mod Equality

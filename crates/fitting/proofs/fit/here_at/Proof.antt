@@ -1,0 +1,31 @@
+-- `fitting::fit::here_at` meets its contract. Assumes nothing.
+use Rattle.fitting.proofs.fit.Tags.{rules}
+use Rattle.fitting.proofs.fit.here_at.Statement.{statement}
+use Rattle.fitting.proofs.fit.here_at.Tie as tie
+
+pub here-at-spec : {M : Type 1} → statement M
+here-at-spec = tie.close (tie.spec
+    (λ c. search rules)
+    (λ c. search rules)
+    (λ c. search rules)
+    (λ c. search rules)
+    (λ c. search rules)
+    (λ c. search rules)
+    (λ c. search rules)
+    (λ c. search rules)
+    (λ c. search rules)
+    (λ c. search rules)
+    (λ c. search rules)
+    (λ c. search rules)
+    (λ c. search rules)
+    (λ c. search rules)
+    (λ c. search rules)
+    (λ c. search rules)
+    (λ c. search rules)
+    (λ c. search rules)
+    (λ c. search rules)
+    (λ c. search rules)
+    (λ c. search rules)
+    (λ c. search rules)
+    (λ c. search rules)
+    (λ c. search rules))

@@ -1,0 +1,3 @@
+-- What the proofs on shapes use.
+pub mod Steps
+pub mod Shaped

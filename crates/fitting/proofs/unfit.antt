@@ -1,0 +1,3 @@
+-- What the proofs of test 6 use.
+pub mod Steps
+pub mod Fitted

@@ -1,0 +1,18 @@
+-- What the code's answer stands for: each case of `Judgement` is an answer of the rules.
+use mathlib.Core.List.{List}
+use lib.IntN.{ℤ}
+use Rattle.rules.specs.Forms.{Value}
+use Rattle.rules.specs.Reading.{readMatcher}
+use Rattle.rules.specs.Services.{Judged, accepted, refused, test, targetOf}
+use Rattle.judging.specs.declared.Judgement.{Judgement}
+use Rattle.judging.specs.declared.Judgement.the-variants.{Accepted, Refused}
+
+-- Document 01's number of the answer, and the place.
+unfoldable pub judgement : {A : Type 0} → Judged A → Judgement
+judgement (accepted a) = Accepted
+judgement (refused answer place) = Refused answer place
+
+-- Tests 5 and 6 under the matcher that the words ms are; test 1 where they are none.
+unfoldable pub targetUnder : (ms ts : List ℤ) → Judged Value
+unfolding test readMatcher targetOf
+targetUnder ms ts = test 1 (readMatcher ms) λ m. targetOf m ts

@@ -1,0 +1,2 @@
+-- What the tests in their order answer.
+pub mod Judgements

@@ -1,0 +1,72 @@
+// The tests in document 01's order: 1 to 4 over matcher and pattern, 5 and 6 over a target.
+use fitting::fit;
+use fitting::unfit::fit_end;
+use fitting::variables;
+use fitting::variables::Counted;
+use reading::Ended;
+use reading::Tested;
+use reading::matcher::test_matcher;
+use reading::pattern::test_pattern;
+use reading::target::test_target;
+ghost use mathlib.Core.Path.{_≡_};
+ghost use Rattle.rules.specs.Services.{ruleOf};
+ghost use Rattle.judging.specs.Judgements.{judgement, targetUnder};
+
+// Accepted; or refused, with document 01's number of the answer and the place.
+pub enum Judgement {
+    Accepted,
+    Refused(u32, usize),
+}
+
+pub const MATCHER: u32 = 1;
+
+pub const PATTERN: u32 = 2;
+
+pub const VARIABLE: u32 = 3;
+
+pub const MISFIT: u32 = 4;
+
+pub const TARGET: u32 = 5;
+
+pub const UNFIT: u32 = 6;
+
+// Tests 1 to 4, each over its whole slice.
+pub fn rule_refused(m: &[i32], p: &[i32]) -> Judgement
+    ensures { λ r. ⌜ r ≡ judgement (ruleOf (now (m .entry)) (now (p .entry))) ⌝ }
+{
+    let a = test_matcher(m);
+    if let Tested::Fault(i) = a {
+        return Judgement::Refused(MATCHER, i);
+    }
+    let b = test_pattern(p);
+    if let Tested::Fault(i) = b {
+        return Judgement::Refused(PATTERN, i);
+    }
+    let c = variables::walk(p);
+    if let Counted::Fault(i) = c {
+        return Judgement::Refused(VARIABLE, i);
+    }
+    let d = fit::walk(m, p);
+    if let Tested::Fault(i) = d {
+        return Judgement::Refused(MISFIT, i);
+    }
+    Judgement::Accepted
+}
+
+// Tests 5 and 6, each over its whole slice, for a whole matcher; test 1 where it is none.
+pub fn target_refused(m: &[i32], t: &[i32]) -> Judgement
+    ensures { λ r. ⌜ r ≡ judgement (targetUnder (now (m .entry)) (now (t .entry))) ⌝ }
+{
+    let a = test_matcher(m);
+    if let Tested::Fault(i) = a {
+        return Judgement::Refused(MATCHER, i);
+    }
+    let b = test_target(t);
+    if let Tested::Fault(i) = b {
+        return Judgement::Refused(TARGET, i);
+    }
+    match fit_end(t, 0, m, 0, 8) {
+        Ended::End(_) => Judgement::Accepted,
+        Ended::Bad(i) => Judgement::Refused(UNFIT, i),
+    }
+}

@@ -1,0 +1,2 @@
+-- Matchers by the places of their tags in a matcher's words.
+pub mod Places

@@ -1,0 +1,4 @@
+// The trial program's output, written.
+mod print;
+pub mod report;
+pub mod rows;

@@ -1,0 +1,14 @@
+-- `program::parts::first_under` meets its contract. Assumes nothing.
+use Rattle.program.proofs.Laws.{under-rules, under-fits}
+use Rattle.program.proofs.parts.first_under.Statement.{statement}
+use Rattle.program.proofs.parts.first_under.Tie as tie
+
+pub first-under-spec : {M : Type 1} → statement M
+first-under-spec =
+    tie.close
+    (tie.spec
+    (λ c. search under-rules)
+    (λ c. search under-rules)
+    (λ c. search under-rules)
+    (λ c. under-fits _ _ (c .before .if1 .left) (c .before .before .pre))
+    (λ c. search under-rules))

@@ -1,0 +1,23 @@
+-- `program::parts::pop` meets its contract. Assumes nothing.
+use Rattle.program.proofs.Laws.{pop-rules}
+use Rattle.program.proofs.parts.pop.Statement.{statement}
+use Rattle.program.proofs.parts.pop.Tie as tie
+
+pub pop-spec : {M : Type 1} → statement M
+pop-spec =
+    tie.close
+    (tie.spec
+    (λ c. search pop-rules)
+    (λ c. search pop-rules)
+    (λ c. search pop-rules)
+    (λ c. search pop-rules)
+    (λ c. search pop-rules)
+    (λ c. search pop-rules)
+    (λ c κs. search pop-rules)
+    (λ c. search pop-rules)
+    (λ c. search pop-rules)
+    (λ c. search pop-rules)
+    (λ c. search pop-rules)
+    (λ c. search pop-rules)
+    (λ c. search pop-rules)
+    (λ c. search pop-rules))

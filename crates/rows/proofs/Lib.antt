@@ -1,0 +1,3 @@
+-- Rows: the laws of the code, and those that the crates above use.
+pub mod Room
+pub mod Row

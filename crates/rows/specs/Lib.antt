@@ -1,0 +1,2 @@
+-- The values that the variables are bound to.
+pub mod Row

@@ -1,0 +1,15 @@
+-- `stepping::State::divide` meets its contract. Assumes nothing.
+use Rattle.stepping.proofs.Laws.{divide-rules}
+use Rattle.stepping.proofs.State.divide.Statement.{statement}
+use Rattle.stepping.proofs.State.divide.Tie as tie
+use Rattle.stepping.proofs.State.apart.Reads as apart-reads
+use Rattle.stepping.proofs.State.split.Reads as split-reads
+
+pub divide-spec : {M : Type 1} → statement M
+divide-spec =
+    tie.close
+    (tie.spec
+    (λ c κs. (search divide-rules, (search divide-rules, search divide-rules)))  -- apart-requires
+    (λ c. search divide-rules)  -- returns
+    (λ c κs. search divide-rules)  -- split-requires
+    (λ c. search divide-rules))

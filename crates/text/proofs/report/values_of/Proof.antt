@@ -1,8 +1,0 @@
--- `text::report::values_of` meets its contract. Assumes nothing.
-use Rattle.text.proofs.report.Laws.{values-rules}
-use Rattle.text.proofs.report.values_of.Statement.{statement}
-use Rattle.text.proofs.report.values_of.Tie as tie
-
-pub values-of-spec : {M : Type 1} → statement M
-values-of-spec =
-    tie.close (tie.spec (λ c κs. search values-rules) (λ c. search values-rules) (λ c. search values-rules) (λ c. search values-rules) (λ c. search values-rules))
