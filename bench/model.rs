@@ -279,10 +279,11 @@ fn sorted(m: &Matcher, v: &Value) -> Value {
     }
 }
 
-fn raised(v: &Value, c: i32) -> Value {
+/// The value plus c; none where the sum is outside the signed range.
+fn raised(v: &Value, c: i32) -> Option<Value> {
     match v {
-        Value::Int(x) => Value::Int(((i64::from(*x) + i64::from(c)) as u64 & 0xffff_ffff) as u32 as i32),
-        other => other.clone(),
+        Value::Int(x) => i32::try_from(i64::from(*x) + i64::from(c)).ok().map(Value::Int),
+        other => Some(other.clone()),
     }
 }
 
@@ -314,7 +315,7 @@ fn after<'a>(atom: &Atom<'a>, older: State<'a>) -> Vec<State<'a>> {
             vec![state]
         }
         (Form::Constant(c), _) => keep(*v == Value::Int(*c)),
-        (Form::Value(x, c), _) => keep(sorted(m, &raised(&older.bindings[*x as usize], *c)) == sorted(m, v)),
+        (Form::Value(x, c), _) => keep(raised(&older.bindings[*x as usize], *c).is_some_and(|w| sorted(m, &w) == sorted(m, v))),
         (Form::Nil, _) => keep(*v == Value::Collection(Vec::new())),
         (Form::Cons(a, b), Matcher::List(inner)) => elements
             .split_first()

@@ -501,7 +501,7 @@ impl Search<'_> {
     #[inline]
     fn equal(&self, m: usize, x: Held, c: i32, y: Held) -> bool {
         match self.matcher[m] {
-            INTEGER => self.target[x.at + 1].wrapping_add(c) == self.target[y.at + 1],
+            INTEGER => self.target[x.at + 1].checked_add(c) == Some(self.target[y.at + 1]),
             LIST => self.in_order(m + 1, x, y),
             MULTISET => self.paired_off(m + 1, x, y),
             _ => self.part_by_part(m, x, y),

@@ -19,13 +19,17 @@ fn main() {
     let d = trial::play(b"tuples-valid.txt", c);
     let e = trial::play(b"tuples-damaged.txt", d);
     let f = trial::play(b"tuples-limits.txt", e);
-    let g = trial::play(b"rules.txt", f);
-    let h = published::play(b"published.txt", g);
-    let i = review::play(b"review.txt", h);
-    let j = review::play(b"tuples-review.txt", i);
-    let k = review::play(b"rules-review.txt", j);
-    io::print_decimal(STDOUT_FILENO, k.cases);
+    let g = trial::play(b"sums-valid.txt", f);
+    let h = trial::play(b"sums-damaged.txt", g);
+    let i = trial::play(b"sums-limits.txt", h);
+    let j = trial::play(b"rules.txt", i);
+    let k = published::play(b"published.txt", j);
+    let l = review::play(b"review.txt", k);
+    let m = review::play(b"tuples-review.txt", l);
+    let n = review::play(b"sums-review.txt", m);
+    let o = review::play(b"rules-review.txt", n);
+    io::print_decimal(STDOUT_FILENO, o.cases);
     io::write_all(STDOUT_FILENO, b" cases, ");
-    io::print_decimal(STDOUT_FILENO, k.differ);
+    io::print_decimal(STDOUT_FILENO, o.differ);
     io::write_all(STDOUT_FILENO, b" differ\n");
 }

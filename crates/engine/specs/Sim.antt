@@ -12,7 +12,7 @@ use Rattle.rules.specs.Forms.{Matcher, something, tupleOf, Matchers, noMatchers
 use Rattle.rules.specs.Forms.{Pattern, Patterns, noPatterns, _▸ᵖ_, countᵖ}
 use Rattle.rules.specs.Fit.{members, isSomething}
 use Rattle.rules.specs.Reading.{entry}
-use Rattle.rules.specs.Equality.{Bindings, equal, isValue, raised}
+use Rattle.rules.specs.Equality.{Bindings, raised, equalTo, isValue}
 use Rattle.rules.specs.Search.{Halves, Atom, State, state, dropIf, atoms, apart as takeApart, after}
 use Rattle.program.specs.Points.{Kind, over, firstBy, halves, branch, after-whole, Test, asConstant, asValue, asNil, testBy, passes, Sound, after-test}
 use Rattle.program.specs.Points.{Instr, split, apart, Item, item, Point, point, finish, reserve, enter, from, known, reserved, firstOf, othersOf, items}
@@ -21,9 +21,9 @@ use Rattle.engine.specs.Held.{Data, Opened, Parts}
 use Rattle.engine.specs.Engine.{put, Slot, Conf, Turn, on, back, check, next, pushed, opening, kept, keeping, parting, exec, slotAfter, topAfter, chosen, choose, nextChoice, settle}
 use Rattle.engine.specs.Rep.{Waits, waits-none, waits, Bound, bound-none, bound, At, at, done, Chain, shut, open-at, Rep, over-all, live, put-same, put-below, waits-agree, bound-agree, chain-agree}
 
-isValue-at : (m : Matcher) (e : Bindings) (x : ℕ) (c : ℤ) (v w : Value) → getElem? e x ≡ some w → isValue m e (pos x) c v ≡ equal m (raised c w) v
+isValue-at : (m : Matcher) (e : Bindings) (x : ℕ) (c : ℤ) (v w : Value) → getElem? e x ≡ some w → isValue m e (pos x) c v ≡ equalTo m (raised c w) v
 unfolding isValue entry
-isValue-at m e x c v w h = ap (λ z. elim z as (λ _. Bool) [ none ↦ false | some w ↦ equal m (raised c w) v ]) h
+isValue-at m e x c v w h = ap (λ z. elim z as (λ _. Bool) [ none ↦ false | some w ↦ equalTo m (raised c w) v ]) h
 
 module _ (D : Data) where
   pub bound-snoc : {f : ℕ → D .Held} {i : ℕ} {ms : List Matcher} {e : Bindings} {m : Matcher} {v : Value}

@@ -1,7 +1,7 @@
 -- Equality of words, of whole values and of what is left of collections, as the code asks. Assumes nothing.
 use mathlib.Core.Path.{_≡_, refl, sym, _∙_, ap}
 use mathlib.Core.Bool.{Bool, true, false, cond, _&&_}
-use mathlib.Core.Option.{none, some}
+use mathlib.Core.Option.{Option, none, some}
 use mathlib.Core.List.{List, _∷_}
 use Prim.Native.Nat.{ℕ, _+_, _<_, _≤_}
 use native.Mathlib.Omega.{arith}
@@ -16,25 +16,43 @@ use Rattle.rules.specs.Numbers.{same, plus}
 use Rattle.rules.specs.Forms.{Value, Values, empty, _▸_}
 use Rattle.rules.specs.Equality.{inOrder, equal}
 use Rattle.promises.specs.Pairing.{withoutFirst, greedy}
+use Rattle.words.specs.declared.Total.{Total}
+use Rattle.words.specs.declared.Total.the-variants.{Is, Outside}
+use Rattle.words.specs.Words.{summed}
 use Rattle.marks.specs.Marks.{positions, clear}
 use Rattle.marks.specs.Marked.{nth}
 use Rattle.marks.proofs.Places.{positions-low, positions-none}
 use Rattle.holding.specs.Places.{valueAt, elements, Target, Tag, elementAt}
 use Rattle.holding.specs.Held.{Held, wholeAt, left}
 use Rattle.matchers.specs.Places.{matcherAt}
-use Rattle.equality.specs.Equality.{equalAt, wholesEqual, leftInOrder, leftPaired, firstIn, firstEqual, isSum}
+use Rattle.equality.specs.Equality.{equalAt, wholesEqual, leftInOrder, leftPaired, firstIn, firstEqual, sameTo, isSum}
 use Rattle.holding.proofs.Bits.{same-bits}
 use Rattle.holding.proofs.Held.{held-64, held-tag, held-clear, held-some, whole-held, whole-value, left-none, next-in, next-less, next-tag, next-value, next-left}
 use Rattle.equality.proofs.First.{leftOf, without-first, first-found, first-none}
 
 -- ---- Words.
 
-pub sum-is : (s : List ℤ) (a b : ℕ) (r : Bool) (x′ y y′ c c′ z′ : ℤ) → y ≡ plus x′ c′ → r ≡ same y′ z′ → y′ ≡ y → x′ ≡ getD s (a + 1) (pos 0) → c′ ≡ c
-    → z′ ≡ getD s (b + 1) (pos 0) → r ≡ isSum s a c b
-unfolding isSum
-sum-is s a b r x′ y y′ c c′ z′ e f p q u t = cc
+-- A sum as the code gives it.
+total-is : (o : Option ℤ) (y z : ℤ) → Is y ≡ summed o → same y z ≡ sameTo o z
+unfolding summed sameTo
+total-is none y z e = let q : _≡_ {A = ℕ} 0 1 = cc in absurd (omega arith)
+total-is (some w) y z e = let q : y ≡ w = cc in rw q
 
-pub ruleset word-rules = (same-bits, sum-is, needs)
+no-total : (o : Option ℤ) (z : ℤ) → Outside ≡ summed o → false ≡ sameTo o z
+unfolding summed sameTo
+no-total none z e = refl
+no-total (some w) z e = let q : _≡_ {A = ℕ} 0 1 = cc in absurd (omega arith)
+
+module _ (s : List ℤ) (a b : ℕ) (x′ c c′ : ℤ) (t : Total) (e : t ≡ summed (plus x′ c′)) (q : x′ ≡ getD s (a + 1) (pos 0)) (u : c′ ≡ c) where
+  pub sum-is : (r : Bool) (y y′ z′ : ℤ) → t ≡ Is y → r ≡ same y′ z′ → y′ ≡ y → z′ ≡ getD s (b + 1) (pos 0) → r ≡ isSum s a c b
+  unfolding isSum
+  sum-is r y y′ z′ k f p w = let l = total-is (plus x′ c′) y z′ (sym k ∙ e) in f ∙ rw p (l ∙ rw (q, u, w))
+
+  pub no-sum : t ≡ Outside → false ≡ isSum s a c b
+  unfolding isSum
+  no-sum k = let l = no-total (plus x′ c′) (getD s (b + 1) (pos 0)) (sym k ∙ e) in l ∙ rw (q, u)
+
+pub ruleset word-rules = (same-bits, sum-is, no-sum, needs)
 
 -- ---- Whole values.
 

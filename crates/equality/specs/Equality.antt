@@ -1,6 +1,7 @@
 -- Document 01, section 4, tag 3: equality of held values under a matcher, as the code goes about it.
 use Prim.Native.Nat.{ℕ, _+_, _-_}
 use mathlib.Core.Bool.{Bool, true, false, cond}
+use mathlib.Core.Option.{Option, none, some}
 use mathlib.Core.List.{List, [], _∷_}
 use lib.ListN.{getD}
 use lib.IntN.{ℤ, pos}
@@ -51,6 +52,12 @@ unfoldable pub firstEqual : List ℤ → ℕ → List ℤ → ℕ → ℕ → �
 unfolding matcherAt firstIn
 firstEqual mt i s a b y = firstIn (equal (matcherAt mt i) (valueAt s a)) (elements (valueAt s b)) (positions 64 y)
 
--- Of integers: the first plus c is the second.
+-- The same as a number, if there is one.
+unfoldable pub sameTo : Option ℤ → ℤ → Bool
+sameTo none z = false
+sameTo (some y) z = same y z
+
+-- Of integers: the first plus c, if there is such a sum, is the second.
 unfoldable pub isSum : List ℤ → ℕ → ℤ → ℕ → Bool
-isSum s a c b = same (plus (getD s (a + 1) (pos 0)) c) (getD s (b + 1) (pos 0))
+unfolding sameTo
+isSum s a c b = sameTo (plus (getD s (a + 1) (pos 0)) c) (getD s (b + 1) (pos 0))

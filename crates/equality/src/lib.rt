@@ -8,13 +8,14 @@ use marks::rest;
 use marks::without;
 use matchers::matcher_end;
 use matchers::width_at;
+use words::Total;
 use words::sum;
 use words::tag_at;
 ghost use mathlib.Core.Path.{_≡_};
 ghost use Prim.Native.Nat.{_+_, _<_, _≤_};
 ghost use lib.ListN.{length, getD};
 ghost use lib.IntN.{pos};
-ghost use Rattle.rules.specs.Numbers.{same, plus};
+ghost use Rattle.rules.specs.Numbers.{same};
 ghost use Rattle.holding.specs.Places.{countAt, Target, Tag};
 ghost use Rattle.holding.specs.Tables.{Places};
 ghost use Rattle.holding.specs.Held.{Held};
@@ -33,9 +34,12 @@ pub fn is_sum(s: &[i32], a: usize, c: i32, b: usize) -> bool
     ensures { λ r. ⌜ r ≡ isSum (now (s .entry)) a c b ⌝ }
 {
     let x = s[a + 1];
-    let y = sum(x, c);
+    let t = sum(x, c);
     let z = s[b + 1];
-    alike(y, z)
+    match t {
+        Total::Is(y) => alike(y, z),
+        Total::Outside => false,
+    }
 }
 
 fn wide_count(x: u32) -> usize

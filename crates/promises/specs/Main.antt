@@ -1,18 +1,21 @@
--- What document 01 demands, tuples of document 02 included, as theorems about its definitions. Each is stated here and proved elsewhere; what it assumes
+-- What document 01 demands, with tuples and sums of document 02, as theorems about its definitions. Each is stated here and proved elsewhere; what it assumes
 -- stands before its arrows, and nothing else is assumed. The words that the statements use are defined in Trace (order, seen), Solve (founds), Listing
 -- (Listing), Budget (rowsOf, report, Full, Outcome), Matching (states, ways, rowsOfWays), Bound (product), Written (the words, the numbers and the widths
 -- of the forms), Faults, Reviewing (Review, TooBig, countOf) and Pairing (greedy).
 use Prim.Native.Nat.{ℕ, suc, _*_, _≤_, _<_}
 use mathlib.Core.Path.{_≡_, sym, _∙_}
+use mathlib.Core.Bool.{true, false}
 use mathlib.Core.Logic.{_↔_}
+use mathlib.Core.Option.{some}
 use mathlib.Core.List.{List, [], _∷_, _++_, map}
 use lib.ListN.{length, take, drop}
 use lib.Dec.{T}
-use lib.IntN.{ℤ, pos}
-use Rattle.rules.specs.Forms.{Matcher, Pattern, Value, Values, int, collection, tupled, empty, _▸_, multiset, words}
-use Rattle.rules.specs.Reading.{ok, readMatcher, readPattern, readTarget}
+use lib.IntN.{ℤ, pos, _+ℤ_}
+use Rattle.rules.specs.Numbers.{same, inRange}
+use Rattle.rules.specs.Forms.{Matcher, integer, Pattern, Value, Values, int, collection, tupled, empty, _▸_, multiset, words}
+use Rattle.rules.specs.Reading.{ok, entry, readMatcher, readPattern, readTarget}
 use Rattle.rules.specs.Variables.{variables}
-use Rattle.rules.specs.Equality.{Bindings, equal}
+use Rattle.rules.specs.Equality.{Bindings, equal, isValue}
 use Rattle.rules.specs.Search.{run, start}
 use Rattle.rules.specs.Ways.{Way, Good}
 use Rattle.rules.specs.Review.{weights}
@@ -23,6 +26,7 @@ use Rattle.promises.specs.Solve.{Solution, founds, founds-start}
 use Rattle.promises.specs.Listing.{Listing, solve-listing, listing-unique}
 use Rattle.promises.specs.Budget.{report, Full, Outcome}
 use Rattle.promises.specs.Bound.{product}
+use Rattle.promises.specs.Sums.{sum-inside, sum-outside}
 use Rattle.promises.specs.Pairing.{greedy, equal-equiv, multisets-greedy}
 use Rattle.promises.specs.ReadMatcher.{matcher-read, matcher-once}
 use Rattle.promises.specs.ReadPattern.{pattern-read, pattern-once}
@@ -184,6 +188,14 @@ equal-symmetric m = equal-equiv m .symm
 
 pub equal-transitive : (m : Matcher) (a b c : Value) → T (equal m a b) → T (equal m b c) → T (equal m a c)
 equal-transitive m = equal-equiv m .tran
+
+-- ---- Sums: under integer a tag 3 compares the sum of the integers; outside the signed 32-bit range it equals nothing.
+
+pub sum-in-range : (e : Bindings) (v x c : ℤ) → entry e v ≡ some (int x) → inRange (x +ℤ c) ≡ true → (y : ℤ) → isValue integer e v c (int y) ≡ same (x +ℤ c) y
+sum-in-range = sum-inside
+
+pub sum-out-of-range : (e : Bindings) (v x c : ℤ) → entry e v ≡ some (int x) → inRange (x +ℤ c) ≡ false → (w : Value) → isValue integer e v c w ≡ false
+sum-out-of-range = sum-outside
 
 -- ---- Words are read one way: what is read is what some matcher, pattern or value in the limits writes out, and no words are written by two. `Widths`:
 -- every tuple has 2 to 4 parts.

@@ -1,24 +1,26 @@
--- The sum of tag 3 by its cases: in the signed range it is itself, above it 2^32 less, below it 2^32 more.
-use Prim.Native.Nat.{ℕ, suc, _-_, _^_, _≤_, _<_}
-use native.Mathlib.Omega.{arith}
-use native.Mathlib.Nat.{mod-eq-of-lt}
-use mathlib.Core.Path.{_≡_, ap}
-use lib.IntN.{pos, negsuc}
-use Rattle.rules.specs.Numbers.{residue, signed}
-use Rattle.promises.specs.Tests.{ltb-true, ltb-false}
+-- Document 02, No. 2: what tag 3 under integer compares. In the signed 32-bit range the sum is the sum of the integers; outside it equals nothing.
+use mathlib.Core.Path.{_≡_}
+use mathlib.Core.Bool.{true, false}
+use mathlib.Core.Option.{none, some}
+use lib.IntN.{ℤ, _+ℤ_}
+use Rattle.rules.specs.Numbers.{same, inRange, plus-inside, plus-outside}
+use Rattle.rules.specs.Forms.{integer, Value, int}
+use Rattle.rules.specs.Reading.{entry}
+use Rattle.rules.specs.Equality.{Bindings, equal, raised, equalTo, isValue}
 
-pub wrap-up : (n : ℕ) → n < 2 ^ 31 → signed (residue (pos n)) ≡ pos n
-unfolding residue signed
-wrap-up n h = rw (mod-eq-of-lt {n = n} {m = 2 ^ 32} (omega arith), ltb-true n (2 ^ 31) h)
+raised-inside : (x c : ℤ) → inRange (x +ℤ c) ≡ true → raised c (int x) ≡ some (int (x +ℤ c))
+unfolding raised
+raised-inside x c h = rw (plus-inside x c h, raised)
 
-pub wrap-over : (n : ℕ) → 2 ^ 31 ≤ n → n < 2 ^ 32 → signed (residue (pos n)) ≡ negsuc (2 ^ 32 - suc n)
-unfolding residue signed
-wrap-over n h k = rw (mod-eq-of-lt {n = n} {m = 2 ^ 32} k, ltb-false n (2 ^ 31) h)
+raised-outside : (x c : ℤ) → inRange (x +ℤ c) ≡ false → raised c (int x) ≡ none
+unfolding raised
+raised-outside x c h = rw (plus-outside x c h, raised)
 
-pub wrap-down : (n : ℕ) → n < 2 ^ 31 → signed (residue (negsuc n)) ≡ negsuc n
-unfolding residue signed
-wrap-down n h = rw (mod-eq-of-lt {n = n} {m = 2 ^ 32} (omega arith), ltb-false (2 ^ 32 - suc n) (2 ^ 31) (omega arith)) (ap negsuc (omega arith))
+module _ (e : Bindings) (v : ℤ) (x c : ℤ) (held : entry e v ≡ some (int x)) where
+  pub sum-inside : inRange (x +ℤ c) ≡ true → (y : ℤ) → isValue integer e v c (int y) ≡ same (x +ℤ c) y
+  unfolding isValue equalTo equal
+  sum-inside h y = rw (held, isValue, raised-inside x c h)
 
-pub wrap-under : (n : ℕ) → 2 ^ 31 ≤ n → n < 2 ^ 32 → signed (residue (negsuc n)) ≡ pos (2 ^ 32 - suc n)
-unfolding residue signed
-wrap-under n h k = rw (mod-eq-of-lt {n = n} {m = 2 ^ 32} k, ltb-true (2 ^ 32 - suc n) (2 ^ 31) (omega arith))
+  pub sum-outside : inRange (x +ℤ c) ≡ false → (w : Value) → isValue integer e v c w ≡ false
+  unfolding isValue equalTo
+  sum-outside h w = rw (held, isValue, raised-outside x c h)

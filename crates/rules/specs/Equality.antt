@@ -1,6 +1,6 @@
 -- Document 01, section 4, tags 2, 3 and 4: what they test. The search and the good ways both rest on this.
 use mathlib.Core.Bool.{Bool, true, false, _&&_, _||_}
-use mathlib.Core.Option.{none, some}
+use mathlib.Core.Option.{Option, none, some}
 use mathlib.Core.List.{List, [], _∷_, map}
 use lib.IntN.{ℤ}
 use Rattle.rules.specs.Numbers.{same, plus}
@@ -85,17 +85,23 @@ unfoldable pub isConstant : ℤ → Value → Bool
 unfolding equal
 isConstant c v = equal integer (int c) v
 
--- A value, plus c. (At a collection or a tuple c is 0.)
-unfoldable pub raised : ℤ → Value → Value
+-- A value, plus c, if there is such a value. (At a collection or a tuple c is 0.)
+unfoldable pub raised : ℤ → Value → Option Value
 unfolding plus
-raised c (int x) = int (plus x c)
-raised c (collection vs) = collection vs
-raised c (tupled vs) = tupled vs
+raised c (int x) = elim (plus x c) [ none ↦ none | some y ↦ some (int y) ]
+raised c (collection vs) = some (collection vs)
+raised c (tupled vs) = some (tupled vs)
+
+-- Equal to a value, if there is one.
+unfoldable pub equalTo : Matcher → Option Value → Value → Bool
+unfolding equal
+equalTo m none v = false
+equalTo m (some w) v = equal m w v
 
 -- Tag 3: the value of variable x, plus c, against v.
 unfoldable pub isValue : Matcher → Bindings → ℤ → ℤ → Value → Bool
-unfolding entry raised equal
-isValue m e x c v = elim (entry e x) [ none ↦ false | some w ↦ equal m (raised c w) v ]
+unfolding entry raised equalTo
+isValue m e x c v = elim (entry e x) [ none ↦ false | some w ↦ equalTo m (raised c w) v ]
 
 -- Tag 4: an empty collection.
 unfoldable pub isEmpty : Value → Bool

@@ -14,4 +14,5 @@ pub mod Services
 pub mod Tables
 pub mod Worked
 pub mod WorkedTuples
+pub mod WorkedSums
 pub mod Refusals

@@ -1,4 +1,4 @@
--- Document 01, section 8: the cases marked P, with the budgets, rooms and caps that stand beside them, in one table under one claim.
+-- Document 01, section 8, and document 02, No. 2 (P11): the cases marked P, with the budgets, rooms and caps that stand beside them, in one table under one claim.
 use Prim.Native.Nat.{ℕ}
 use mathlib.Core.Path.{_≡_, refl}
 use mathlib.Core.List.{List, [], _∷_, _++_, map}
@@ -59,8 +59,7 @@ table =
     ∷ matching (nums (2 ∷ 2 ∷ 1 ∷ [])) justTwo pairs 1000 64 ⇒ (0 ∷ 0 ∷ 0 ∷ 5 ∷ 0 ∷ []) writing []  -- P9
     ∷ matching multisetInteger oneMore (braces (nums (3 ∷ 4 ∷ 8 ∷ 9 ∷ []))) 1000 64 ⇒ (0 ∷ 0 ∷ 2 ∷ 31 ∷ 4 ∷ [])
     writing nums (0 ∷ 3 ∷ 0 ∷ 8 ∷ [])  -- P10
-    ∷ matching multisetInteger oneMore (braces (pos 2147483647 ∷ minus 2147483648 ∷ [])) 1000 64 ⇒ (0 ∷ 0 ∷ 1 ∷ 12 ∷ 2 ∷ [])
-    writing nums (0 ∷ 2147483647 ∷ [])  -- P11
+    ∷ matching multisetInteger oneMore (braces (pos 2147483647 ∷ minus 2147483648 ∷ [])) 1000 64 ⇒ (0 ∷ 0 ∷ 0 ∷ 9 ∷ 0 ∷ []) writing []  -- P11
     ∷ matching multisetInteger R units 8 64 ⇒ (7 ∷ 0 ∷ 0 ∷ 8 ∷ 0 ∷ []) writing []  -- P1 with other budgets
     ∷ matching multisetInteger R units 9 64 ⇒ (7 ∷ 0 ∷ 1 ∷ 9 ∷ 2 ∷ []) writing two
     ∷ matching multisetInteger R units 1000 3 ⇒ (8 ∷ 0 ∷ 1 ∷ 21 ∷ 2 ∷ []) writing two  -- P12

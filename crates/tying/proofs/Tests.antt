@@ -2,22 +2,23 @@
 use Prim.Native.Nat.{ℕ, _+_, _<_}
 use mathlib.Core.Path.{_≡_, refl, sym, _∙_, ap}
 use mathlib.Core.Bool.{Bool, true, false}
+use mathlib.Core.Option.{Option, none, some}
 use mathlib.Core.List.{List}
 use native.Mathlib.Omega.{arith}
 use borrow.Author.Tests.{eq-eqb, ne-eqb, eqb-true, eqb-false}
 use lib.Dec.{eqb}
 use lib.ListN.{getD}
 use lib.IntN.{ℤ, pos, negsuc}
-use Rattle.rules.specs.Numbers.{same}
+use Rattle.rules.specs.Numbers.{same, plus}
 use Rattle.rules.specs.Forms.{Matcher, something, integer, list, multiset, tupleOf, Matchers, Value, int, collection, tupled, words}
 use Rattle.rules.specs.Fit.{takes, tagsOf, among, solid, isInteger, ofCollection, ofTuple, sameShape}
-use Rattle.rules.specs.Equality.{equal, raised, isConstant, isEmpty}
+use Rattle.rules.specs.Equality.{equal, raised, equalTo, isConstant, isEmpty}
 use Rattle.words.specs.Words.{tagAt}
 use Rattle.marks.proofs.Marked.{empty-marked}
 use Rattle.holding.specs.Places.{valueAt, elements, Target}
 use Rattle.holding.specs.Held.{left}
 use Rattle.rows.specs.Row.{holds}
-use Rattle.equality.specs.Equality.{isSum}
+use Rattle.equality.specs.Equality.{sameTo, isSum}
 use Rattle.rows.specs.declared.Binding.{Binding}
 use Rattle.holding.proofs.Elements.{tagOf}
 use Rattle.equality.proofs.ByTag.{wants, tag-held}
@@ -80,11 +81,20 @@ tuple-wants f (multiset m) t = clash cc
 tuple-wants f (tupleOf ms) t = refl
 
 -- To a collection and to a tuple nothing is added.
-raised-same : (c : ℤ) (w : Value) → (tagOf w ≡ 0 → ⊥) → raised c w ≡ w
+raised-same : (c : ℤ) (w : Value) → (tagOf w ≡ 0 → ⊥) → raised c w ≡ some w
 unfolding raised
 raised-same c (int x) n = absurd (n refl)
 raised-same c (collection vs) n = refl
 raised-same c (tupled vs) n = refl
+
+-- To an integer c is added, and a sum that is none equals nothing.
+raised-sum : (x c y : ℤ) → sameTo (plus x c) y ≡ equalTo integer (raised c (int x)) (int y)
+unfolding sameTo raised equalTo equal
+raised-sum x c y = go (plus x c)
+  where
+    go : (o : Option ℤ) → sameTo o y ≡ equalTo integer (elim o as (λ _. Option Value) [ none ↦ none | some z ↦ some (int z) ]) (int y)
+    go none = refl
+    go (some z) = refl
 
 eqb-comm : (a b : ℕ) → eqb a b ≡ eqb b a
 eqb-comm a b = go (eqb a b) refl
@@ -131,14 +141,15 @@ module _ (s : List ℤ) (g : Target s) where
 
   -- What is not an integer is compared as it is held.
   whole-ok : (m k : Matcher) (c : ℤ) (a h : Binding) (w v : Value) (t : ℕ) → wants k ≡ t → 0 < t → t < 3 → Is s k a w → Is s m h v
-      → equal m (holds s a) (holds s h) ≡ equal m (raised c w) v
+      → equal m (holds s a) (holds s h) ≡ equalTo m (raised c w) v
+  unfolding equalTo
   whole-ok m k c a h w v t e l n i j = rw (i .is, j .is, raised-same c w (λ z. omega (arith, value-tag k a w t e n i)))
 
   pub same-ok : (m k : Matcher) (c : ℤ) (a h : Binding) (w v : Value) → solid m ≡ true → sameShape m k ≡ true → Is s k a w → Is s m h v
-      → isSame s m c a h ≡ equal m (raised c w) v
-  unfolding isSame isSum equal raised solid sameShape
+      → isSame s m c a h ≡ equalTo m (raised c w) v
+  unfolding isSame isSum solid sameShape
   same-ok something k c a h w v t x i j = clash cc
-  same-ok integer k c a h w v t x i j = rw (is-int k a w (integer-wants k x) i, is-int integer h v refl j)
+  same-ok integer k c a h w v t x i j = rw (is-int k a w (integer-wants k x) i, is-int integer h v refl j) (raised-sum _ c _)
   same-ok (list m) k c a h w v t x i j = whole-ok (list m) k c a h w v 1 (collection-wants _ k x) (omega arith) (omega arith) i j
   same-ok (multiset m) k c a h w v t x i j = whole-ok (multiset m) k c a h w v 1 (collection-wants _ k x) (omega arith) (omega arith) i j
   same-ok (tupleOf ms) k c a h w v t x i j = whole-ok (tupleOf ms) k c a h w v 2 (tuple-wants _ k x) (omega arith) (omega arith) i j

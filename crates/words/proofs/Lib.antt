@@ -1,4 +1,4 @@
 -- What the proofs of several functions use, here and above.
 pub mod Signed
 pub mod Signs
-pub mod Wrap
+pub mod Sums

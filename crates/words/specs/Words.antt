@@ -1,8 +1,11 @@
--- A word as an unsigned tag: numbers that no table has stand for a negative word and for a word that is not there.
+-- A word as an unsigned tag: numbers that no table has stand for a negative word and for a word that is not there. The sum of tag 3 as the code gives it.
 use Prim.Native.Nat.{ℕ}
+use mathlib.Core.Option.{Option, none, some}
 use mathlib.Core.List.{List}
 use lib.ListN.{getD}
 use lib.IntN.{ℤ, pos, negsuc}
+use Rattle.words.specs.declared.Total.{Total}
+use Rattle.words.specs.declared.Total.the-variants.{Is, Outside}
 
 -- A word's number; of a negative word a number that no word has.
 abbrev pub tagZ : ℤ → ℕ
@@ -16,3 +19,8 @@ tagAt s at = tagZ (getD s at (negsuc 0))
 -- The arrays of a program and the tables of its slots have an entry for each line; 256 words make at most 462 lines.
 abbrev pub entries : ℕ
 entries = 470
+
+-- A sum, or that there is none.
+unfoldable pub summed : Option ℤ → Total
+summed none = Outside
+summed (some y) = Is y

@@ -6,10 +6,16 @@ ghost use lib.Signed.{mag};
 ghost use mir.Syntax.{w32};
 ghost use mir.Val.{toZ, ofZ};
 ghost use Rattle.rules.specs.Numbers.{plus};
-ghost use Rattle.words.specs.Words.{tagZ, tagAt};
+ghost use Rattle.words.specs.Words.{tagZ, tagAt, summed};
 
 // The entries of a program's arrays and of the tables of its slots, one for each line; 256 words make at most 462 lines.
 pub const ENTRIES: usize = 470;
+
+// The sum of tag 3, where there is one.
+pub enum Total {
+    Is(i32),
+    Outside,
+}
 
 // A word's number, or 2147483648, which no word has, where it is negative.
 pub fn tag_of(w: i32) -> u32
@@ -49,18 +55,18 @@ fn added(a: i64, b: i64) -> i64
     a + b
 }
 
-// x + c modulo 2^32, in the signed range.
-pub fn sum(x: i32, c: i32) -> i32
-    ensures { λ r. ⌜ r ≡ plus x c ⌝ }
+// x + c, where it is in the signed 32-bit range.
+pub fn sum(x: i32, c: i32) -> Total
+    ensures { λ r. ⌜ r ≡ summed (plus x c) ⌝ }
 {
     let z = added(wide(x), wide(c));
     if z < -2147483648 {
-        return narrow(added(z, 4294967296));
+        return Total::Outside;
     }
     if 2147483647 < z {
-        return narrow(added(z, -4294967296));
+        return Total::Outside;
     }
-    narrow(z)
+    Total::Is(narrow(z))
 }
 
 // The two's complement bits of a word.

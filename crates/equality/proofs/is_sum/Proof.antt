@@ -16,5 +16,8 @@ is-sum-spec =
     (λ c. search word-rules)
     (λ c. search word-rules)
     (λ c. search word-rules)
+    (λ c. search word-rules)
     (λ c κs. search word-rules)
+    (λ c. search word-rules)
+    (λ c. search word-rules)
     (λ c. search word-rules))

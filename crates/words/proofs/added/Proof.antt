@@ -1,5 +1,5 @@
 -- `words::added` meets its contract. Assumes nothing.
-use Rattle.words.proofs.Wrap.{cast-rules}
+use Rattle.words.proofs.Sums.{cast-rules}
 use Rattle.words.proofs.added.Statement.{statement}
 use Rattle.words.proofs.added.Tie as tie
 

@@ -1,5 +1,5 @@
 -- `words::sum` meets its contract. Assumes nothing.
-use Rattle.words.proofs.Wrap.{sum-rules}
+use Rattle.words.proofs.Sums.{sum-rules}
 use Rattle.words.proofs.sum.Statement.{statement}
 use Rattle.words.proofs.sum.Tie as tie
 
@@ -10,11 +10,7 @@ sum-spec =
     (λ c κs. search sum-rules)
     (λ c κs. search sum-rules)
     (λ c κs. search sum-rules)
-    (λ c κs. search sum-rules)
-    (λ c κs. search sum-rules)
     (λ c. search sum-rules)
-    (λ c κs. search sum-rules)
-    (λ c κs. search sum-rules)
     (λ c. search sum-rules)
     (λ c κs. search sum-rules)
     (λ c. search sum-rules))

@@ -1,5 +1,5 @@
 -- `words::wide` meets its contract. Assumes nothing.
-use Rattle.words.proofs.Wrap.{cast-rules}
+use Rattle.words.proofs.Sums.{cast-rules}
 use Rattle.words.proofs.wide.Statement.{statement}
 use Rattle.words.proofs.wide.Tie as tie
 
