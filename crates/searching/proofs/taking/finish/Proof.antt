@@ -1,8 +1,8 @@
--- `searching::finish` meets its contract. Assumes nothing.
+-- `searching::taking::finish` meets its contract. Assumes nothing.
 use Rattle.searching.specs.Run.{filled, wrote}
 use Rattle.searching.proofs.Laws.{row-rules}
-use Rattle.searching.proofs.finish.Statement.{statement}
-use Rattle.searching.proofs.finish.Tie as tie
+use Rattle.searching.proofs.taking.finish.Statement.{statement}
+use Rattle.searching.proofs.taking.finish.Tie as tie
 use Rattle.rows.proofs.put_row.Reads as put-row-reads
 use Rattle.rows.proofs.row_size.Reads as row-size-reads
 

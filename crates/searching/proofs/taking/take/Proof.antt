@@ -1,8 +1,8 @@
--- `searching::take` meets its contract. Assumes nothing.
+-- `searching::taking::take` meets its contract. Assumes nothing.
 use Rattle.searching.proofs.Laws.{take-rules}
-use Rattle.searching.proofs.take.Statement.{statement}
-use Rattle.searching.proofs.take.Tie as tie
-use Rattle.searching.proofs.finish.Reads as finish-reads
+use Rattle.searching.proofs.taking.take.Statement.{statement}
+use Rattle.searching.proofs.taking.take.Tie as tie
+use Rattle.searching.proofs.taking.finish.Reads as finish-reads
 use Rattle.stepping.proofs.State.step.Reads as step-reads
 
 pub take-spec : {M : Type 1} → statement M
