@@ -1,9 +1,9 @@
--- `services::tally::factor` meets its contract: each arm is a row of the table. Assumes nothing.
+-- `tallying::factor` meets its contract: each arm is a row of the table. Assumes nothing.
 use borrow.Author.Needs.{needs}
 use borrow.Author.Tests.{ne-eqb}
-use Rattle.services.specs.Tally.{factorOf}
-use Rattle.services.proofs.tally.factor.Statement.{statement}
-use Rattle.services.proofs.tally.factor.Tie as tie
+use Rattle.tallying.specs.Tally.{factorOf}
+use Rattle.tallying.proofs.factor.Statement.{statement}
+use Rattle.tallying.proofs.factor.Tie as tie
 
 add-result : tie.Need-add-result
 add-result c = search needs

@@ -1,8 +1,8 @@
--- `services::tally::reserved_after` meets its contract: each arm is a row of the table. Assumes nothing.
+-- `tallying::reserved_after` meets its contract: each arm is a row of the table. Assumes nothing.
 use borrow.Author.Tests.{ne-eqb}
-use Rattle.services.specs.Tally.{reservedAfter}
-use Rattle.services.proofs.tally.reserved_after.Statement.{statement}
-use Rattle.services.proofs.tally.reserved_after.Tie as tie
+use Rattle.tallying.specs.Tally.{reservedAfter}
+use Rattle.tallying.proofs.reserved_after.Statement.{statement}
+use Rattle.tallying.proofs.reserved_after.Tie as tie
 
 returns : tie.Need-returns
 unfolding reservedAfter
