@@ -69,7 +69,8 @@ fn published(services: &Services, text: &str, count: &mut Count) {
     let mut block: Vec<&str> = Vec::new();
     for line in text.lines() {
         if line.starts_with('#') {
-            landed = matches!(line, "# needs: base" | "# needs: 1") || (landed && !line.starts_with("# needs:"));
+            landed = matches!(line, "# needs: base" | "# needs: 1" | "# needs: 3" | "# needs: 1,3")
+                || (landed && !line.starts_with("# needs:"));
         } else if line != "--" {
             if !(block.is_empty() && line.is_empty()) {
                 block.push(line);

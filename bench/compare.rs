@@ -11,6 +11,7 @@ pub struct Tally {
     pub differ: u64,
     pub answers: [u64; 11],
     pub tuples: [u64; 11],
+    pub choices: [u64; 11],
 }
 
 struct Seen<T> {
@@ -38,10 +39,12 @@ fn near(r: &mut Random, end: u64, most: u64) -> u64 {
 }
 
 impl Tally {
-    fn see(&mut self, answer: u64, matcher: &[i32], same: bool, input: impl FnOnce() -> String) {
+    fn see(&mut self, answer: u64, rule: [&[i32]; 2], same: bool, input: impl FnOnce() -> String) {
+        let [matcher, pattern] = rule;
         self.inputs += 1;
         self.answers[answer as usize] += 1;
         self.tuples[answer as usize] += u64::from(matcher.contains(&4));
+        self.choices[answer as usize] += u64::from(pattern.iter().any(|word| (8..=10).contains(word)));
         if !same {
             self.differ += 1;
             if self.differ <= 5 {
@@ -64,10 +67,14 @@ impl Tally {
             }
         }
         if r.once_in(10) {
-            let cap = if r.once_in(8) { r.pick(&[-1, 65, i32::MIN, i32::MAX]) } else { r.below(65) as i32 };
+            let cap = match r.below(8) {
+                0 => r.pick(&[-1, 65, i32::MIN, i32::MAX]),
+                1 | 2 => r.below(3) as i32,
+                _ => r.below(65) as i32,
+            };
             let (ours, theirs) =
                 (reference::review(&matcher, &pattern, cap), (services.review)(&matcher, &pattern, cap));
-            self.see(ours[0], &matcher, ours == theirs, || {
+            self.see(ours[0], [&matcher, &pattern], ours == theirs, || {
                 format!("review {matcher:?} {pattern:?} {cap} {ours:?} {theirs:?}")
             });
             return;
@@ -83,14 +90,14 @@ impl Tally {
         let untouched = GUARD + ours.numbers[4] as usize;
         let kept = ours.room[..GUARD] == held[..GUARD] && ours.room[untouched..] == held[untouched..];
         let same = ours.numbers == theirs.numbers && ours.room == theirs.room && kept;
-        self.see(ours.numbers[0], m, same, || {
+        self.see(ours.numbers[0], [m, p], same, || {
             format!("{m:?} {p:?} {t:?} {budget} {room}: {:?} {:?}", ours.numbers, theirs.numbers)
         });
     }
 }
 
 pub fn random(services: &Services, inputs: u64, seed: u64) -> Tally {
-    let mut tally = Tally { inputs: 0, differ: 0, answers: [0; 11], tuples: [0; 11] };
+    let mut tally = Tally { inputs: 0, differ: 0, answers: [0; 11], tuples: [0; 11], choices: [0; 11] };
     let mut r = Random(seed);
     while tally.inputs < inputs {
         tally.one(&mut r, services);

@@ -120,17 +120,22 @@ fn shape(matcher: &[i32], m: usize) -> Vec<i32> {
     }
 }
 
-/// Makes a pattern that fits the matcher, or now and then just does not.
+/// Makes a pattern that fits the matcher, or now and then just does not. `closed` inside an or or a not, where no variable may stand; `twofold` so
+/// many ors one after the other are still to come, each with twice the ways.
 struct Rule<'a> {
     matcher: &'a [i32],
     pattern: Vec<i32>,
     under: Vec<usize>,
+    closed: bool,
+    twofold: u64,
 }
 
 impl Rule<'_> {
     fn part(&mut self, r: &mut Random, m: usize, room: usize) {
         let tag = self.matcher[m];
-        if tag == 4 && room > 0 && !r.once_in(3) {
+        if room > 0 && r.once_in(6) {
+            self.choices(r, m, room);
+        } else if tag == 4 && room > 0 && !r.once_in(3) {
             self.tuple(r, m, room);
         } else if (tag == 2 || tag == 3) && room > 1 && !r.once_in(4) {
             let join = tag == 2 && r.once_in(3);
@@ -141,6 +146,20 @@ impl Rule<'_> {
         } else {
             self.leaf(r, m);
         }
+    }
+
+    /// An and, an or or a not.
+    fn choices(&mut self, r: &mut Random, m: usize, room: usize) {
+        let tag = r.pick(&[8, 8, 9, 9, 10]);
+        self.pattern.push(tag);
+        let closed = self.closed;
+        self.closed |= tag != 8;
+        let first = r.below(room as u64) as usize;
+        if tag != 10 {
+            self.part(r, m, first);
+        }
+        self.part(r, m, room - 1 - first);
+        self.closed = closed;
     }
 
     fn tuple(&mut self, r: &mut Random, m: usize, room: usize) {
@@ -169,8 +188,11 @@ impl Rule<'_> {
 
     fn leaf(&mut self, r: &mut Random, m: usize) {
         let tag = self.matcher[m];
+        for _ in 0..std::mem::take(&mut self.twofold) {
+            self.pattern.extend([8, 9, 0, 0]);
+        }
         match (r.below(7), self.comparable(r, m)) {
-            (0, _) | (1, _) if self.under.len() < 16 || r.once_in(8) => {
+            (0, _) | (1, _) if (self.under.len() < 16 || r.once_in(8)) && (!self.closed || r.once_in(60)) => {
                 self.pattern.extend([1, self.under.len() as i32]);
                 self.under.push(m);
             }
@@ -186,7 +208,8 @@ impl Rule<'_> {
 }
 
 pub fn pattern(r: &mut Random, matcher: &[i32]) -> Vec<i32> {
-    let mut rule = Rule { matcher, pattern: Vec::new(), under: Vec::new() };
+    let twofold = if r.once_in(25) { 1 + r.below(50) } else { 0 };
+    let mut rule = Rule { matcher, pattern: Vec::new(), under: Vec::new(), closed: false, twofold };
     let room = if r.once_in(20) { 100 } else { 1 + r.below(9) as usize };
     rule.part(r, 0, room);
     rule.pattern
@@ -314,7 +337,7 @@ pub fn target(r: &mut Random, matcher: &[i32]) -> Vec<i32> {
 /// One wrong word, one too many, one too few, the end cut off, or far too long.
 pub fn damage(r: &mut Random, words: &mut Vec<i32>) {
     let at = r.below(words.len() as u64 + 1) as usize;
-    let word = if r.once_in(3) { r.pick(&[65, 8, -1, i32::MIN, i32::MAX]) } else { r.below(8) as i32 };
+    let word = if r.once_in(3) { r.pick(&[65, 11, -1, i32::MIN, i32::MAX]) } else { r.below(11) as i32 };
     match r.below(6) {
         0 => words.insert(at, word),
         1 => words.truncate(at),

@@ -26,8 +26,7 @@ const REFERENCE: Services =
     Services { name: "the reference", match_words: reference::match_words, review: reference::review };
 
 #[cfg(library)]
-const TESTED: Services =
-    Services { name: "the library", match_words: library::match_words, review: library::review };
+const TESTED: Services = Services { name: "the library", match_words: library::match_words, review: library::review };
 
 #[cfg(not(library))]
 const TESTED: Services = Services { name: "the slow program", match_words: model::match_words, review: model::review };
@@ -48,6 +47,7 @@ fn run_comparison(inputs: u64, seed: u64) -> bool {
     println!("{} against the reference: {} random inputs, {} differ", TESTED.name, tally.inputs, tally.differ);
     println!("  by answer, 0 to 10: {:?}", tally.answers);
     println!("  of these under tuples: {:?}", tally.tuples);
+    println!("  of these with and, or, not: {:?}", tally.choices);
     tally.differ == 0
 }
 

@@ -1,4 +1,4 @@
-//! Document 01, with the tuples of document 02, written out sentence by sentence over trees and lists of states: slow, and unlike the reference in every way, to check that one by.
+//! Document 01, with tuples, sums, and, or, not of document 02, written out sentence by sentence over trees and lists of states: slow, and unlike the reference in every way, to check that one by.
 
 use crate::reference::{Matched, Reviewed};
 
@@ -28,6 +28,9 @@ enum Form {
     Cons(Box<Pattern>, Box<Pattern>),
     Join(Box<Pattern>, Box<Pattern>),
     Tuple(Vec<Pattern>),
+    And(Box<Pattern>, Box<Pattern>),
+    Or(Box<Pattern>, Box<Pattern>),
+    Not(Box<Pattern>),
 }
 
 #[derive(Clone, PartialEq, Eq, PartialOrd, Ord)]
@@ -95,6 +98,9 @@ impl Words<'_> {
             5 => Form::Cons(Box::new(self.pattern()?), Box::new(self.pattern()?)),
             6 => Form::Join(Box::new(self.pattern()?), Box::new(self.pattern()?)),
             7 => Form::Tuple((0..self.width()?).map(|_| self.pattern()).collect::<Result<_, _>>()?),
+            8 => Form::And(Box::new(self.pattern()?), Box::new(self.pattern()?)),
+            9 => Form::Or(Box::new(self.pattern()?), Box::new(self.pattern()?)),
+            10 => Form::Not(Box::new(self.pattern()?)),
             _ => return Err(at),
         };
         Ok(Pattern { at, form })
@@ -134,24 +140,24 @@ fn limited(words: &[i32], most: usize) -> Result<(), Fault> {
 
 // ---- Section 2: variables and fit.
 
-fn tags(p: &Pattern) -> Vec<&Pattern> {
-    let mut all = vec![p];
-    match &p.form {
-        Form::Cons(a, b) | Form::Join(a, b) => {
-            all.extend(tags(a));
-            all.extend(tags(b));
-        }
-        Form::Tuple(parts) => all.extend(parts.iter().flat_map(tags)),
-        _ => {}
-    }
-    all
+/// The tags left to right, and whether each stands inside an or or a not.
+fn tags(p: &Pattern, inside: bool) -> Vec<(&Pattern, bool)> {
+    let below = inside || matches!(p.form, Form::Or(..) | Form::Not(_));
+    let parts: Vec<&Pattern> = match &p.form {
+        Form::Cons(a, b) | Form::Join(a, b) | Form::And(a, b) | Form::Or(a, b) => vec![a, b],
+        Form::Tuple(parts) => parts.iter().collect(),
+        Form::Not(a) => vec![a],
+        _ => Vec::new(),
+    };
+    let parts = parts.into_iter().flat_map(|part| tags(part, below));
+    std::iter::once((p, inside)).chain(parts).collect()
 }
 
 fn variables(p: &Pattern) -> Result<(), Fault> {
     let mut next = 0;
-    for tag in tags(p) {
+    for (tag, inside) in tags(p, false) {
         match tag.form {
-            Form::Variable(v) if v == next && next < 16 => next += 1,
+            Form::Variable(v) if v == next && next < 16 && !inside => next += 1,
             Form::Variable(_) => return Err(tag.at),
             Form::Value(v, _) if !(0..next).contains(&v) => return Err(tag.at),
             _ => {}
@@ -204,6 +210,11 @@ fn fits<'a>(p: &Pattern, m: &'a Matcher, under: &mut Vec<&'a Matcher>) -> Result
             fits(a, m, under)?;
             return fits(b, m, under);
         }
+        (Form::And(a, b), _) | (Form::Or(a, b), _) => {
+            fits(a, m, under)?;
+            return fits(b, m, under);
+        }
+        (Form::Not(a), _) => return fits(a, m, under),
         (Form::Tuple(ps), _) => match m {
             Matcher::Tuple(ms) if ms.len() == ps.len() => {
                 return ps.iter().zip(ms).try_for_each(|(p, m)| fits(p, m, under))
@@ -302,6 +313,11 @@ fn after<'a>(atom: &Atom<'a>, older: State<'a>) -> Vec<State<'a>> {
         state.atoms.push(Atom { pattern: a, matcher: am, value: av });
         state
     };
+    let same = |parts: &[&'a Pattern]| {
+        let mut state = older.clone();
+        state.atoms.extend(parts.iter().rev().map(|&part| Atom { pattern: part, matcher: m, value: v.clone() }));
+        state
+    };
     match (&atom.pattern.form, m) {
         (Form::Wildcard, Matcher::Something) => keep(true),
         (Form::Variable(_), Matcher::Something) => {
@@ -315,7 +331,9 @@ fn after<'a>(atom: &Atom<'a>, older: State<'a>) -> Vec<State<'a>> {
             vec![state]
         }
         (Form::Constant(c), _) => keep(*v == Value::Int(*c)),
-        (Form::Value(x, c), _) => keep(raised(&older.bindings[*x as usize], *c).is_some_and(|w| sorted(m, &w) == sorted(m, v))),
+        (Form::Value(x, c), _) => {
+            keep(raised(&older.bindings[*x as usize], *c).is_some_and(|w| sorted(m, &w) == sorted(m, v)))
+        }
         (Form::Nil, _) => keep(*v == Value::Collection(Vec::new())),
         (Form::Cons(a, b), Matcher::List(inner)) => elements
             .split_first()
@@ -332,6 +350,8 @@ fn after<'a>(atom: &Atom<'a>, older: State<'a>) -> Vec<State<'a>> {
         (Form::Join(a, b), _) => (0..=elements.len())
             .map(|k| two(a, m, Value::Collection(elements[..k].to_vec()), b, elements[k..].to_vec()))
             .collect(),
+        (Form::And(a, b), _) => vec![same(&[a, b])],
+        (Form::Or(a, b), _) => vec![same(&[a]), same(&[b])],
         (Form::Tuple(ps), Matcher::Tuple(ms)) => {
             let mut state = older.clone();
             for ((p, m), v) in ps.iter().zip(ms).zip(elements).rev() {
@@ -357,18 +377,44 @@ fn write(v: &Value, words: &mut Vec<i32>) {
     }
 }
 
+/// The states of the run, or of a search inside a not, that wait; and the state that follows the not if its search finds no row.
+struct Searching<'a> {
+    waiting: Vec<State<'a>>,
+    follows: Option<State<'a>>,
+}
+
+/// The next state to be taken up. A search without a state has ended, and what follows its not waits in the search around it.
+fn next<'a>(searches: &mut Vec<Searching<'a>>) -> Option<State<'a>> {
+    loop {
+        match searches.last_mut()?.waiting.pop() {
+            Some(state) => return Some(state),
+            None => {
+                let ended = searches.pop()?;
+                searches.last_mut()?.waiting.extend(ended.follows);
+            }
+        }
+    }
+}
+
 fn run(m: &Matcher, p: &Pattern, v: Value, budget: u32, room: &mut [i32]) -> Matched {
-    let start = State { atoms: vec![Atom { pattern: p, matcher: m, value: v }], bindings: Vec::new() };
-    let (mut waiting, mut rows, mut steps, mut written) = (vec![start], 0, 0, 0);
-    let mut answer = 0;
-    while let Some(mut state) = waiting.pop() {
+    let first = |pattern, matcher, value, bindings| State { atoms: vec![Atom { pattern, matcher, value }], bindings };
+    let mut searches = vec![Searching { waiting: vec![first(p, m, v, Vec::new())], follows: None }];
+    let (mut answer, mut rows, mut steps, mut written) = (0, 0, 0, 0);
+    while let Some(mut state) = next(&mut searches) {
         if steps == u64::from(budget) {
             answer = 7;
             break;
         }
         steps += 1;
         match state.atoms.pop() {
-            Some(atom) => waiting.extend(after(&atom, state).into_iter().rev()),
+            Some(Atom { pattern: Pattern { form: Form::Not(p), .. }, matcher, value }) => {
+                let start = first(p, matcher, value, state.bindings.clone());
+                searches.push(Searching { waiting: vec![start], follows: Some(state) });
+            }
+            Some(atom) => searches.last_mut().unwrap().waiting.extend(after(&atom, state).into_iter().rev()),
+            None if searches.len() > 1 => {
+                searches.pop();
+            }
             None => {
                 let mut row = Vec::new();
                 state.bindings.iter().for_each(|v| write(v, &mut row));
@@ -412,21 +458,51 @@ pub fn match_words(matcher: &[i32], pattern: &[i32], target: &[i32], budget: u32
     }
 }
 
-/// Section 6, over the tags left to right.
-fn weights(p: &Pattern, m: &Matcher, cap: u128) -> Vec<(u128, u128)> {
-    let leaf = |steps| vec![(steps, 1)];
-    let both = |factor, first, second| [vec![(1, factor)], first, second].concat();
+/// A number that stops at the largest: 0 times any number is still 0.
+#[derive(Clone, Copy)]
+struct Capped(u128);
+
+impl std::ops::Add for Capped {
+    type Output = Capped;
+    fn add(self, other: Capped) -> Capped {
+        Capped(self.0.saturating_add(other.0))
+    }
+}
+
+impl std::ops::Mul for Capped {
+    type Output = Capped;
+    fn mul(self, other: Capped) -> Capped {
+        Capped(self.0.saturating_mul(other.0))
+    }
+}
+
+/// Section 6 on the tree: the count of a part without its closing product, and its factor.
+fn weight(p: &Pattern, m: &Matcher, cap: Capped) -> (Capped, Capped) {
+    let one = Capped(1);
+    let parts = |factor: Capped, parts: &[(&Pattern, &Matcher)]| {
+        let after = |(count, factor): (Capped, Capped), &(p, m): &(&Pattern, &Matcher)| {
+            let (inner, times) = weight(p, m, cap);
+            (count + factor * inner, factor * times)
+        };
+        parts.iter().fold((one, factor), after)
+    };
     match (&p.form, m) {
-        (Form::Wildcard, Matcher::Something) | (Form::Variable(_), Matcher::Something) => leaf(1),
-        (Form::Wildcard, _) | (Form::Variable(_), _) => leaf(2),
-        (Form::Cons(a, b), Matcher::Multiset(inner)) => both(cap, weights(a, inner, cap), weights(b, m, cap)),
-        (Form::Cons(a, b), Matcher::List(inner)) => both(1, weights(a, inner, cap), weights(b, m, cap)),
-        (Form::Join(a, b), _) => both(cap + 1, weights(a, m, cap), weights(b, m, cap)),
-        (Form::Tuple(ps), Matcher::Tuple(ms)) => {
-            let parts = ps.iter().zip(ms).flat_map(|(p, m)| weights(p, m, cap));
-            leaf(1).into_iter().chain(parts).collect()
+        (Form::Wildcard, Matcher::Something) | (Form::Variable(_), Matcher::Something) => (one, one),
+        (Form::Wildcard, _) | (Form::Variable(_), _) => (one + one, one),
+        (Form::Cons(a, b), Matcher::Multiset(inner)) => parts(cap, &[(a, inner), (b, m)]),
+        (Form::Cons(a, b), Matcher::List(inner)) => parts(one, &[(a, inner), (b, m)]),
+        (Form::Join(a, b), _) => parts(cap + one, &[(a, m), (b, m)]),
+        (Form::Tuple(ps), Matcher::Tuple(ms)) => parts(one, &ps.iter().zip(ms).collect::<Vec<_>>()),
+        (Form::And(a, b), _) => parts(one, &[(a, m), (b, m)]),
+        (Form::Or(a, b), _) => {
+            let ((first, f), (second, g)) = (weight(a, m, cap), weight(b, m, cap));
+            (one + first + second, f + g)
         }
-        _ => leaf(1),
+        (Form::Not(a), _) => {
+            let (count, factor) = weight(a, m, cap);
+            (one + count + factor, one)
+        }
+        _ => (one, one),
     }
 }
 
@@ -438,16 +514,9 @@ pub fn review(matcher: &[i32], pattern: &[i32], cap: i32) -> Reviewed {
     if !(0..=64).contains(&cap) {
         return [9, 0, 0];
     }
-    let (mut sum, mut earlier) = (0, 1);
-    for (steps, factor) in weights(&p, &m, cap as u128) {
-        sum += steps * earlier;
-        earlier *= factor;
-        if sum + earlier > 1 << 100 {
-            return [10, 0, 0];
-        }
+    let (count, factor) = weight(&p, &m, Capped(cap as u128));
+    match count + factor {
+        Capped(whole) if whole <= u128::from(u32::MAX) => [0, 0, whole as u64],
+        _ => [10, 0, 0],
     }
-    if sum + earlier > u128::from(u32::MAX) {
-        return [10, 0, 0];
-    }
-    [0, 0, (sum + earlier) as u64]
 }

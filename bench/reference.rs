@@ -1,4 +1,4 @@
-//! Document 01, with the tuples of document 02, by plain recursion on the words, as a good Rust engineer would write it: no tree, no heap.
+//! Document 01, with tuples, sums, and, or, not of document 02, by plain recursion on the words, as a good Rust engineer would write it: no tree, no heap.
 //! It knows nothing of the library and nothing of the proofs.
 
 /// Match's five numbers: answer, place, rows, steps, words written.
@@ -24,6 +24,9 @@ const NIL: i32 = 4;
 const CONS: i32 = 5;
 const JOIN: i32 = 6;
 const TUPLE: i32 = 7;
+const AND: i32 = 8;
+const OR: i32 = 9;
+const NOT: i32 = 10;
 
 // ---- The tests 1 to 6.
 
@@ -88,7 +91,8 @@ fn read_part(words: &[i32], at: usize, ends: &mut Ends) -> Read {
             }
             end
         }
-        Some(&CONS) | Some(&JOIN) => {
+        Some(&NOT) => read_part(words, at + 1, ends)?,
+        Some(&CONS) | Some(&JOIN) | Some(&AND) | Some(&OR) => {
             let middle = read_part(words, at + 1, ends)?;
             read_part(words, middle, ends)?
         }
@@ -115,12 +119,13 @@ fn read_pattern(words: &[i32], ends: &mut Ends) -> Result<(), usize> {
     whole(words, read_part(words, 0, ends)?)
 }
 
-/// How many variables a whole pattern has, or the tag that breaks a rule.
-fn count_variables(words: &[i32]) -> Result<usize, usize> {
-    let (mut at, mut next) = (0, 0);
+/// How many variables a whole pattern has, or the tag that breaks a rule. Before `closed` an or or a not has not ended.
+fn count_variables(words: &[i32], ends: &Ends) -> Result<usize, usize> {
+    let (mut at, mut next, mut closed) = (0, 0, 0);
     while at < words.len() {
         match words[at] {
-            VARIABLE if words[at + 1] != next || next > 15 => return Err(at),
+            OR | NOT => closed = closed.max(ends[at] as usize),
+            VARIABLE if at < closed || words[at + 1] != next || next > 15 => return Err(at),
             VARIABLE => next += 1,
             VALUE if words[at + 1] < 0 || words[at + 1] >= next => return Err(at),
             _ => {}
@@ -132,6 +137,7 @@ fn count_variables(words: &[i32]) -> Result<usize, usize> {
 
 fn takes(matcher: i32, tag: i32) -> bool {
     match matcher {
+        _ if tag >= AND => true,
         SOMETHING => tag <= VARIABLE,
         INTEGER => tag <= VALUE,
         LIST => tag != CONSTANT && tag != TUPLE,
@@ -193,10 +199,11 @@ impl Fitting<'_> {
                 let middle = self.part(at + 1, m + 1)?;
                 return self.part(middle, m);
             }
-            JOIN => {
+            JOIN | AND | OR => {
                 let middle = self.part(at + 1, m)?;
                 return self.part(middle, m);
             }
+            NOT => return self.part(at + 1, m),
             TUPLE => {
                 if self.pattern[at + 1] != self.matcher[m + 1] {
                     return Err(at);
@@ -318,10 +325,11 @@ fn first_marks(n: u32) -> u64 {
     }
 }
 
-/// Why a run ends before its last state.
+/// Why a search ends before its last state: the run's, or with its first row the one inside a not.
 enum Stop {
     Budget,
     Full,
+    Found,
 }
 
 /// An atom, and the older atoms behind it.
@@ -343,6 +351,7 @@ struct Search<'a> {
     budget: u32,
     room: &'a mut [i32],
     bound: [Held; 16],
+    inside: bool,
     rows: u32,
     steps: u32,
     words: usize,
@@ -369,6 +378,7 @@ impl Search<'_> {
             self.step()?;
             let atom = match state {
                 Some(atom) => atom,
+                None if self.inside => return Err(Stop::Found),
                 None => return self.row(),
             };
             let (value, under) = (atom.value, self.matcher[atom.matcher]);
@@ -417,9 +427,45 @@ impl Search<'_> {
                     return Ok(());
                 }
                 JOIN => return self.join(atom),
-                _ => return self.tuple(atom),
+                TUPLE => return self.tuple(atom),
+                AND => return self.both(atom),
+                OR => return self.either(atom),
+                _ => {
+                    if self.finds(atom)? {
+                        return Ok(());
+                    }
+                }
             }
             state = atom.older;
+        }
+    }
+
+    /// One state follows, with both parts on the same value.
+    #[inline(never)]
+    fn both(&mut self, atom: &Atom) -> Result<(), Stop> {
+        let first = atom.pattern + 1;
+        let second = Atom { pattern: self.ends[first] as usize, ..*atom };
+        self.take_up(Some(&Atom { pattern: first, older: Some(&second), ..*atom }))
+    }
+
+    /// Two states follow, one for each side.
+    #[inline(never)]
+    fn either(&mut self, atom: &Atom) -> Result<(), Stop> {
+        let first = atom.pattern + 1;
+        self.take_up(Some(&Atom { pattern: first, ..*atom }))?;
+        self.take_up(Some(&Atom { pattern: self.ends[first] as usize, ..*atom }))
+    }
+
+    /// The search inside a not: whether it finds a row. Nothing in it binds.
+    #[inline(never)]
+    fn finds(&mut self, atom: &Atom) -> Result<bool, Stop> {
+        let outer = std::mem::replace(&mut self.inside, true);
+        let ended = self.take_up(Some(&Atom { pattern: atom.pattern + 1, older: None, ..*atom }));
+        self.inside = outer;
+        match ended {
+            Ok(()) => Ok(false),
+            Err(Stop::Found) => Ok(true),
+            Err(stop) => Err(stop),
         }
     }
 
@@ -628,7 +674,7 @@ struct Rule {
 fn read_rule(matcher: &[i32], pattern: &[i32], rule: &mut Rule) -> Result<usize, (u64, u64)> {
     read_matcher(matcher, &mut rule.matcher_ends).map_err(refused(1))?;
     read_pattern(pattern, &mut rule.ends).map_err(refused(2))?;
-    let variables = count_variables(pattern).map_err(refused(3))?;
+    let variables = count_variables(pattern, &rule.ends).map_err(refused(3))?;
     let mut fitting = Fitting { matcher, matcher_ends: &rule.matcher_ends, pattern, under: [0; 16] };
     fitting.part(0, 0).map_err(refused(4))?;
     Ok(variables)
@@ -659,6 +705,7 @@ pub fn match_words(matcher: &[i32], pattern: &[i32], target: &[i32], budget: u32
         budget,
         room,
         bound: [Held { at: 0, marks: 0 }; 16],
+        inside: false,
         rows: 0,
         steps: 0,
         words: 0,
@@ -667,12 +714,12 @@ pub fn match_words(matcher: &[i32], pattern: &[i32], target: &[i32], budget: u32
     let answer = match search.take_up(Some(&start)) {
         Ok(()) => 0,
         Err(Stop::Budget) => 7,
-        Err(Stop::Full) => 8,
+        Err(_) => 8,
     };
     [answer, 0, search.rows as u64, search.steps as u64, search.words as u64]
 }
 
-/// Section 6's sum and product, as far as a walk of the pattern has come.
+/// Section 6's sum and product, as far as a walk of the pattern has come. Each is exact or at its largest number; so 0 times what is too large is 0.
 struct Weighing<'a> {
     matcher: &'a [i32],
     matcher_ends: &'a MatcherEnds,
@@ -699,9 +746,24 @@ impl Weighing<'_> {
                 let middle = self.part(at + 1, m + 1);
                 self.part(middle, m)
             }
-            JOIN => {
+            JOIN | AND => {
                 let middle = self.part(at + 1, m);
                 self.part(middle, m)
+            }
+            OR => {
+                let earlier = self.product;
+                let middle = self.part(at + 1, m);
+                let first = std::mem::replace(&mut self.product, earlier);
+                let end = self.part(middle, m);
+                self.product = self.product.saturating_add(first);
+                end
+            }
+            NOT => {
+                let earlier = self.product;
+                let end = self.part(at + 1, m);
+                self.sum = self.sum.saturating_add(self.product);
+                self.product = earlier;
+                end
             }
             TUPLE => {
                 let (mut end, mut m) = (at + 2, m + 2);

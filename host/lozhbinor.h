@@ -12,6 +12,7 @@
  *   pattern, at most 256 words
  *     0 wildcard   1 v variable   2 c constant   3 v c value of v, plus c
  *     4 nil   5 p q cons   6 p q join   7 k p.. tuple
+ *     8 p q and   9 p q or   10 p not; no variable inside an or or a not
  *   target, at most 1,024 words, eight levels of 1 and 2
  *     0 x integer   1 n v.. collection, at most 64   2 k v.. tuple
  * A tuple's width k is 2, 3 or 4.
@@ -37,7 +38,7 @@ enum {
     LOZHBINOR_DONE = 0,     /* every row found is in the room; 0 rows: none exists */
     LOZHBINOR_MATCHER = 1,  /* over 64 words, or not one whole matcher in the limits */
     LOZHBINOR_PATTERN = 2,  /* over 256 words, or not one whole pattern */
-    LOZHBINOR_VARIABLE = 3, /* a variable is out of order */
+    LOZHBINOR_VARIABLE = 3, /* a variable is out of order, or inside an or or a not */
     LOZHBINOR_MISFIT = 4,   /* the pattern does not fit the matcher */
     LOZHBINOR_TARGET = 5,   /* over 1,024 words, or not one whole target in the limits */
     LOZHBINOR_UNFIT = 6,    /* the target does not fit the matcher */

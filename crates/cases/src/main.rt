@@ -22,14 +22,19 @@ fn main() {
     let g = trial::play(b"sums-valid.txt", f);
     let h = trial::play(b"sums-damaged.txt", g);
     let i = trial::play(b"sums-limits.txt", h);
-    let j = trial::play(b"rules.txt", i);
-    let k = published::play(b"published.txt", j);
-    let l = review::play(b"review.txt", k);
-    let m = review::play(b"tuples-review.txt", l);
-    let n = review::play(b"sums-review.txt", m);
-    let o = review::play(b"rules-review.txt", n);
-    io::print_decimal(STDOUT_FILENO, o.cases);
+    let j = trial::play(b"choices-valid.txt", i);
+    let k = trial::play(b"choices-valid-more.txt", j);
+    let l = trial::play(b"choices-damaged.txt", k);
+    let m = trial::play(b"choices-limits.txt", l);
+    let n = trial::play(b"rules.txt", m);
+    let o = published::play(b"published.txt", n);
+    let p = review::play(b"review.txt", o);
+    let q = review::play(b"tuples-review.txt", p);
+    let r = review::play(b"sums-review.txt", q);
+    let s = review::play(b"choices-review.txt", r);
+    let t = review::play(b"rules-review.txt", s);
+    io::print_decimal(STDOUT_FILENO, t.cases);
     io::write_all(STDOUT_FILENO, b" cases, ");
-    io::print_decimal(STDOUT_FILENO, o.differ);
+    io::print_decimal(STDOUT_FILENO, t.differ);
     io::write_all(STDOUT_FILENO, b" differ\n");
 }

@@ -28,7 +28,8 @@ fn first_line(s: &[u8], from: usize) -> usize {
     s.len()
 }
 
-// Whether rows are as the lines behind `=` want them. Only "at least one row" is published of some, of some not their order, of some the first.
+// Whether rows are as the lines behind `=` want them. Only "at least one row" is published of some, of some not their order, of some the first, of
+// some one among them.
 fn as_wanted(wanted: &[u8], rows: &[u8]) -> bool {
     if stands_at(wanted, 0, b"rows-nonempty\n") {
         return 0 < rows.len();
@@ -40,6 +41,10 @@ fn as_wanted(wanted: &[u8], rows: &[u8]) -> bool {
     if stands_at(wanted, 0, b"rows-prefix\n") {
         let from = next_line(wanted, 0);
         return stands_at(rows, 0, &wanted[from..]);
+    }
+    if stands_at(wanted, 0, b"rows-contain\n") {
+        let from = next_line(wanted, 0);
+        return seek(rows, 0, &wanted[from..]) < rows.len();
     }
     same(wanted, rows)
 }

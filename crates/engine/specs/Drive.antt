@@ -12,11 +12,11 @@ use Rattle.rules.specs.Forms.{Matcher}
 use Rattle.rules.specs.Equality.{Bindings}
 use Rattle.rules.specs.Search.{State, row, Run, run}
 use Rattle.engine.specs.Machine.{Machine, passing, writing, filling, stepOn, once, times, answerBy, told, opened, run-steps}
-use Rattle.program.specs.Points.{Instr, strip, drop, bind, test, split, apart, end, Point, reserve, follow}
-use Rattle.program.specs.Points.{Follows, strips, drops, binds, tests, splits, aparts, reserves, ends, after-end}
+use Rattle.program.specs.Points.{Instr, strip, keep, other, close, drop, bind, test, split, apart, choice, deny, cutAt, end, Point, resume}
+use Rattle.program.specs.Points.{Follows, strips, drops, binds, tests, splits, aparts, keeps, chooses, denies, cuts, ends}
 use Rattle.engine.specs.Held.{Data}
 use Rattle.engine.specs.Engine.{Conf, exec, settle}
-use Rattle.engine.specs.Rep.{Bound, bound-none, bound, At, at, done, Rep, over-all, live}
+use Rattle.engine.specs.Rep.{Bound, bound-none, bound, At, at, at-cut, done, Rep, over-all, live}
 use Rattle.engine.specs.Sim.{step-rep}
 
 pub record Engine (D : Data) : Type 0 where
@@ -49,11 +49,17 @@ module _ (D : Data) where
   unfoldable pub result : Engine D → Instr → (ℕ → D .Held) → Option (Conf D) → Engine D
   unfolding passed rowDone rowFrom
   result k strip b c = passed k c
-  result k (drop n) b c = passed k c
-  result k (bind i n) b c = passed k c
-  result k (test t n) b c = passed k c
+  result k (drop n to) b c = passed k c
+  result k (bind i n to) b c = passed k c
+  result k (test t n to) b c = passed k c
   result k (split d) b c = passed k c
   result k (apart n) b c = passed k c
+  result k keep b c = passed k c
+  result k (choice to) b c = passed k c
+  result k (deny n to) b c = passed k c
+  result k (cutAt j) b c = passed k c
+  result k other b c = passed k c
+  result k close b c = passed k c
   result k (end n) b c = rowDone k (rowFrom b 0 n) c
 
   module _ (code : ℕ → Instr) where
@@ -85,22 +91,7 @@ module _ (D : Data) where
   row-ok bound-none = refl
   row-ok {b} {i = i} (bound {m = m} {v = v} g r) = rw (D .wordsOf-ok m (b i) v g, row-ok r)
 
-  clash : {A : Type 0} → _≡_ {A = ℕ} 0 1 → A
-  clash z = absurd (omega arith)
-
-  -- What is to do after a place that is reserved.
-  reserved-next : {pc : ℕ} {i : Instr} {P Q R : Point} → Follows pc i P Q → P ≡ reserve R → Q ≡ R
-  reserved-next (strips h n) e = clash cc
-  reserved-next drops e = clash cc
-  reserved-next binds e = clash cc
-  reserved-next (tests t h) e = clash cc
-  reserved-next (splits d p q) e = clash cc
-  reserved-next (aparts p q ps m k ks n t) e = clash cc
-  reserved-next reserves e = cc
-  reserved-next ends e = clash cc
-  reserved-next after-end e = clash cc
-
-  module _ (code : ℕ → Instr) (points : ℕ → Point) (follows : (pc : ℕ) → Follows pc (code pc) (points pc) (points (suc pc))) where
+  module _ (code : ℕ → Instr) (points : ℕ → Point) (follows : (pc : ℕ) → Follows points pc (code pc) (points pc)) where
     -- The engine and the machine of the definitions.
     pub data Same : Engine D → Machine → Type 0 where
       running : {c : Option (Conf D)} {ss : List State} {left rows steps : ℕ} {written : List ℤ} → Rep D code points c ss
@@ -134,16 +125,20 @@ module _ (D : Data) where
     same-pass k K c ss (running x) r = running r
     same-pass k K c ss stopped r = running r
 
-    same-step : (c : Conf D) (i : Instr) {P Q : Point} {s : State} (ss : List State) (o : Option (Conf D)) (k : Engine D) (K : Machine) → Same k K
-        → Follows (c .pc) i P Q → At D (c .slots) (c .binds) (c .pc) (c .cur) P s → Rep D code points o (follow s ++ ss)
+    same-step : (c : Conf D) (i : Instr) {P : Point} {s : State} (ss : List State) (o : Option (Conf D)) (k : Engine D) (K : Machine) → Same k K
+        → Follows points (c .pc) i P → At D (c .slots) (c .binds) (c .pc) (c .cur) P s → Rep D code points o (resume s ss)
         → Same (result k i (c .binds) o) (stepOn K (s ∷ ss))
-    unfolding result stepOn passed passing follow rowDone
-    same-step c i ss o k K x (strips h n) (at a ws bs) r = same-pass k K o _ x r
-    same-step c i ss o k K x drops (at a ws bs) r = same-pass k K o _ x r
-    same-step c i ss o k K x binds (at a ws bs) r = same-pass k K o _ x r
-    same-step c i ss o k K x (tests t h) (at a ws bs) r = same-pass k K o _ x r
-    same-step c i ss o k K x (splits d p q) (at a ws bs) r = same-pass k K o _ x r
-    same-step c i ss o k K x (aparts p q ps m d ks n t) (at a ws bs) r = same-pass k K o _ x r
+    unfolding result stepOn passed passing resume rowDone
+    same-step c i ss o k K x (strips h n pt) (at a ws bs) r = same-pass k K o _ x r
+    same-step c i ss o k K x (drops h pt) (at a ws bs) r = same-pass k K o _ x r
+    same-step c i ss o k K x (binds h pt) (at a ws bs) r = same-pass k K o _ x r
+    same-step c i ss o k K x (tests t h l pt) (at a ws bs) r = same-pass k K o _ x r
+    same-step c i ss o k K x (splits d p q pt) (at a ws bs) r = same-pass k K o _ x r
+    same-step c i ss o k K x (aparts p q ps m d ks n t pt) (at a ws bs) r = same-pass k K o _ x r
+    same-step c i ss o k K x (keeps p q pt) (at a ws bs) r = same-pass k K o _ x r
+    same-step c i ss o k K x (chooses p q h pt pt₂) (at a ws bs) r = same-pass k K o _ x r
+    same-step c i ss o k K x (denies p h pt pt₂) (at a ws bs) r = same-pass k K o _ x r
+    same-step c i ss o k K x cuts (at-cut a bs) r = same-pass k K o _ x r
     same-step c i ss o k K (running y) ends (done {e = e} bs) r = rw (row-ok bs) (same-row (leb (length (row e)) (k .left)) k K (row e) o ss (running y) r)
     same-step c i ss o k K stopped ends (done {e = e} bs) r = rw (row-ok bs) (same-row (leb (length (row e)) (k .left)) k K (row e) o ss stopped r)
 
@@ -151,7 +146,7 @@ module _ (D : Data) where
     unfolding turn once advance stepOn
     same-turn (running over-all) = running over-all
     same-turn (running (live {c = c} {ss = ss} l a ch)) = same-step c (code (c .pc)) ss _ _ _ (running (live l a ch))
-        (follows (c .pc)) a (step-rep D code points c (code (c .pc)) refl (follows (c .pc)) refl (λ pc P e. reserved-next (follows pc) e) l a ch)
+        (follows (c .pc)) a (step-rep D code points c (code (c .pc)) ss refl (follows (c .pc)) l a ch)
     same-turn stopped = stopped
 
     same-turns : (n : ℕ) {k : Engine D} {K : Machine} → Same k K → Same (turns code n k) (times n K)

@@ -17,7 +17,7 @@ use Rattle.reading.specs.declared.table.Row.the-variants as row
 use Rattle.reading.specs.declared.Tested.{Tested}
 use Rattle.reading.specs.declared.Tested.the-variants.{Passed, Fault}
 use Rattle.fitting.specs.declared.fit.Here.{Here}
-use Rattle.fitting.specs.declared.fit.Here.the-variants.{Misfit, Leaf, Bind, Parts, Wide}
+use Rattle.fitting.specs.declared.fit.Here.the-variants.{Misfit, Leaf, Bind, One, Parts, Wide}
 
 -- n matchers, one after the other, the first at the index i of a matcher's words.
 unfoldable pub membersAt : List ℤ → (n i : ℕ) → List ℕ
@@ -49,7 +49,8 @@ firstOf t i = cond (eqb t 5) (i + 1) i
 -- What a tag asks that has so many parts.
 unfoldable pub byParts : (parts o first : ℕ) → Here
 byParts zero o first = Leaf o
-byParts (suc n) o first = Parts first
+byParts (suc zero) o first = One
+byParts (suc (suc n)) o first = Parts first
 
 -- What a tuple of n parts asks under the matcher i.
 unfoldable pub tupleAt : List ℤ → (i n : ℕ) → Here
@@ -73,12 +74,13 @@ unfolding hereOf tagAt
 hereAt m i p at under = hereOf m i under (tagAt p at) (getD p (at + 1) (negsuc 0)) (getD p (at + 2) (negsuc 0))
 
 -- By what a tag asks.
-unfoldable pub byHere : Here → Tested → (ℕ → Tested) → (ℕ → Tested) → (ℕ → Tested) → (ℕ → ℕ → Tested) → Tested
-byHere Misfit z leaf bind parts tuple = z
-byHere (Leaf o) z leaf bind parts tuple = leaf o
-byHere (Bind o) z leaf bind parts tuple = bind o
-byHere (Parts f) z leaf bind parts tuple = parts f
-byHere (Wide f n) z leaf bind parts tuple = tuple f n
+unfoldable pub byHere : Here → Tested → (ℕ → Tested) → (ℕ → Tested) → Tested → (ℕ → Tested) → (ℕ → ℕ → Tested) → Tested
+byHere Misfit z leaf bind one parts tuple = z
+byHere (Leaf o) z leaf bind one parts tuple = leaf o
+byHere (Bind o) z leaf bind one parts tuple = bind o
+byHere One z leaf bind one parts tuple = one
+byHere (Parts f) z leaf bind one parts tuple = parts f
+byHere (Wide f n) z leaf bind one parts tuple = tuple f n
 
 -- The words that start at place p, after o operands: the patterns still to come stand under the matchers st, first first, and the variables to the
 -- left under the matchers `under`.
@@ -92,6 +94,7 @@ fitP m (i ∷ st) under zero p (w ∷ ws) =
     (Fault p)
     (λ o. fitP m st under o (suc p) ws)
     (λ o. fitP m st (under ++ (i ∷ [])) o (suc p) ws)
+    (fitP m (i ∷ st) under 0 (suc p) ws)
     (λ f. fitP m (f ∷ i ∷ st) under 0 (suc p) ws)
     (λ f n. fitP m (membersAt m n f ++ st) under 1 (suc p) ws)
 

@@ -11,13 +11,14 @@ ghost use Prim.Native.Nat.{_+_, _≤_, _<_, _^_};
 ghost use lib.ListN.{length, take};
 ghost use Rattle.fitting.specs.Fitting.{firstOf, valueFitsTag, tupleAt, hereAt, fitOf, pushed};
 
-// What a tag of the pattern asks under a matcher: it does not fit; or its operands are skipped; or a variable is bound besides; or two parts follow,
-// the first under this matcher and the second under the tag's own; or so many parts follow, the first under this matcher, the others under those
-// after it.
+// What a tag of the pattern asks under a matcher: it does not fit; or its operands are skipped; or a variable is bound besides; or one part follows,
+// under the tag's own matcher; or two parts follow, the first under this matcher and the second under the tag's own; or so many parts follow, the
+// first under this matcher, the others under those after it.
 pub enum Here {
     Misfit,
     Leaf(u32),
     Bind(u32),
+    One,
     Parts(usize),
     Wide(usize, usize),
 }
@@ -85,6 +86,9 @@ fn here_at(m: &[i32], i: usize, p: &[i32], at: usize, under: &[usize], next: usi
             if parts == 0 {
                 return Here::Leaf(operands);
             }
+            if parts == 1 {
+                return Here::One;
+            }
             Here::Parts(first_part(t, i))
         }
         Row::Wide(taken) => {
@@ -143,6 +147,10 @@ pub fn walk(m: &[i32], p: &[i32]) -> Tested
                     under[next] = i;
                     next += 1;
                     skip = operands;
+                    at += 1;
+                }
+                Here::One => {
+                    n += 1;
                     at += 1;
                 }
                 Here::Parts(first) => {

@@ -1,5 +1,6 @@
 -- The ordered tests as the code asks them: each test that passed has read something, and the first that did not gives the answer. Assumes nothing.
 use mathlib.Core.Path.{_≡_, refl, sym, _∙_, ap}
+use mathlib.Core.Bool.{true}
 use mathlib.Core.List.{List, []}
 use Prim.Native.Nat.{ℕ, _+_}
 use native.Mathlib.Omega.{arith}
@@ -11,7 +12,7 @@ use Rattle.rules.specs.Variables.{variables}
 use Rattle.rules.specs.Fit.{fits, fitsValue}
 use Rattle.rules.specs.Services.{test, ruleOf, targetOf}
 use Rattle.reading.specs.Tests.{tested}
-use Rattle.fitting.specs.Variables.{counted, varsP}
+use Rattle.fitting.specs.Variables.{counted, varsOf}
 use Rattle.fitting.specs.Fitting.{fitOf}
 use Rattle.fitting.specs.Unfit.{fitFrom}
 use Rattle.reading.specs.declared.Tested.{Tested}
@@ -71,7 +72,7 @@ module _ (ms ps : List ℤ) (a : Tested) (ea : a ≡ tested (readMatcher ms)) wh
     unfolding ruleOf test judgement
     ret-pattern i f = rw (passed (readMatcher ms) (sym fa ∙ ea) .1, failed (readPattern ps) i (sym f ∙ eb))
 
-    module _ (fb : b ≡ Passed) (c : Counted) (ec : c ≡ varsP 0 0 0 ps) where
+    module _ (fb : b ≡ Passed) (c : Counted) (ec : c ≡ varsOf ps) where
       m : (k : Matcher) × (readMatcher ms ≡ ok k)
       m = passed (readMatcher ms) (sym fa ∙ ea)
 
@@ -80,11 +81,11 @@ module _ (ms ps : List ℤ) (a : Tested) (ea : a ≡ tested (readMatcher ms)) wh
 
       pub ret-variable : (i : ℕ) → c ≡ counts.Fault i → Refused 3 i ≡ judgement (ruleOf ms ps)
       unfolding ruleOf test judgement
-      ret-variable i f = rw (m .1, p .1, uncounted (variables (p .0) 0 0) i (sym f ∙ ec ∙ walked.of-pattern ps (p .0) (p .1)))
+      ret-variable i f = rw (m .1, p .1, uncounted (variables (p .0) true 0 0) i (sym f ∙ ec ∙ walked.of-pattern ps (p .0) (p .1)))
 
       module _ (n : ℕ) (fc : c ≡ counts.Number n) (d : Tested) (ed : d ≡ fitOf ms ps) where
-        v : variables (p .0) 0 0 ≡ ok n
-        v = number (variables (p .0) 0 0) n (sym fc ∙ ec ∙ walked.of-pattern ps (p .0) (p .1))
+        v : variables (p .0) true 0 0 ≡ ok n
+        v = number (variables (p .0) true 0 0) n (sym fc ∙ ec ∙ walked.of-pattern ps (p .0) (p .1))
 
         pub ret-misfit : (i : ℕ) → d ≡ Fault i → Refused 4 i ≡ judgement (ruleOf ms ps)
         unfolding ruleOf test judgement

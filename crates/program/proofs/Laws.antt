@@ -7,7 +7,7 @@ use mathlib.Core.Bool.{Bool, true, false, cond}
 use mathlib.Core.List.{List, [], _∷_}
 use native.Mathlib.Omega.{arith}
 use borrow.Author.Needs.{needs}
-use borrow.Author.Tests.{ne-eqb, lt-ltb, le-ltb}
+use borrow.Author.Tests.{ne-eqb, lt-ltb, le-ltb, eq-eqb}
 use lib.Dec.{eqb, ltb}
 use lib.ListN.{length, getD, drop, set, length-drop, drop-of-length-le, List·getD-eq-default}
 use lib.Seq.{getD-drop}
@@ -16,23 +16,26 @@ use mir.Syntax.{w8, w64}
 use mir.Val.{Fits}
 use Rattle.words.specs.Words.{tagZ, tagAt, entries}
 use Rattle.matchers.specs.Places.{widthOf, partsBy, spans, spansWide, matcherEnd}
-use Rattle.program.specs.Lines.{line, reservedLine, reservedLines, opsUnder, opOf, operandsOf, beyondTwo, reservedBy, argOf, conOf, leafLine, stripLines, firstUnder, secondUnder, binding, Columns, written, laid}
-use Rattle.program.specs.Bounds.{cond-le}
+use Rattle.program.specs.Lines.{line, reservedLine, reservedLines, opsUnder, opOf, operandsOf, beyondTwo, reservedBy, argOf, conOf, leafLine, stripLines, firstUnder, secondUnder, behindBy, elseLine, fiLine, cutLine, closeLine, elseLines, binding, Columns, written, laid}
+use Rattle.program.specs.Made.{cond-le}
 use Rattle.program.specs.Stack.{stack, popped}
 
 -- ---- Tables.
 
-pub op-none : (t k : ℕ) → (t ≡ 0 → ⊥) → (t ≡ 1 → ⊥) → (t ≡ 2 → ⊥) → (t ≡ 3 → ⊥) → (t ≡ 4 → ⊥) → (t ≡ 5 → ⊥) → (t ≡ 6 → ⊥) → (t ≡ 7 → ⊥) → 0 ≡ opOf t k
+pub op-none : (t k : ℕ) → (t ≡ 0 → ⊥) → (t ≡ 1 → ⊥) → (t ≡ 2 → ⊥) → (t ≡ 3 → ⊥) → (t ≡ 4 → ⊥) → (t ≡ 5 → ⊥) → (t ≡ 6 → ⊥) → (t ≡ 7 → ⊥) → (t ≡ 8 → ⊥) → (t ≡ 9 → ⊥) → (t ≡ 10 → ⊥) → 0 ≡ opOf t k
 unfolding opOf opsUnder
-op-none zero k a b c d e f g h = absurd (a refl)
-op-none (suc zero) k a b c d e f g h = absurd (b refl)
-op-none (suc (suc zero)) k a b c d e f g h = absurd (c refl)
-op-none (suc (suc (suc zero))) k a b c d e f g h = absurd (d refl)
-op-none (suc (suc (suc (suc zero)))) k a b c d e f g h = absurd (e refl)
-op-none (suc (suc (suc (suc (suc zero))))) k a b c d e f g h = absurd (f refl)
-op-none (suc (suc (suc (suc (suc (suc zero)))))) k a b c d e f g h = absurd (g refl)
-op-none (suc (suc (suc (suc (suc (suc (suc zero))))))) k a b c d e f g h = absurd (h refl)
-op-none (suc (suc (suc (suc (suc (suc (suc (suc t)))))))) k a b c d e f g h = refl
+op-none zero k a b c d e f g h i j l = absurd (a refl)
+op-none (suc zero) k a b c d e f g h i j l = absurd (b refl)
+op-none (suc (suc zero)) k a b c d e f g h i j l = absurd (c refl)
+op-none (suc (suc (suc zero))) k a b c d e f g h i j l = absurd (d refl)
+op-none (suc (suc (suc (suc zero)))) k a b c d e f g h i j l = absurd (e refl)
+op-none (suc (suc (suc (suc (suc zero))))) k a b c d e f g h i j l = absurd (f refl)
+op-none (suc (suc (suc (suc (suc (suc zero)))))) k a b c d e f g h i j l = absurd (g refl)
+op-none (suc (suc (suc (suc (suc (suc (suc zero))))))) k a b c d e f g h i j l = absurd (h refl)
+op-none (suc (suc (suc (suc (suc (suc (suc (suc zero)))))))) k a b c d e f g h i j l = absurd (i refl)
+op-none (suc (suc (suc (suc (suc (suc (suc (suc (suc zero))))))))) k a b c d e f g h i j l = absurd (j refl)
+op-none (suc (suc (suc (suc (suc (suc (suc (suc (suc (suc zero)))))))))) k a b c d e f g h i j l = absurd (l refl)
+op-none (suc (suc (suc (suc (suc (suc (suc (suc (suc (suc (suc t))))))))))) k a b c d e f g h i j l = refl
 
 -- ---- Operands, read at an index.
 
@@ -123,6 +126,10 @@ pub count-other : (n o : ℕ) → (o ≡ 3 → ⊥) → n ≡ n + binding o
 unfolding binding
 count-other n o h = rw (ne-eqb o 3 h) (omega arith)
 
+pub under-high : (o i : ℕ) → 13 < o → i ≡ firstUnder o i
+unfolding firstUnder
+under-high o i h = rw (lt-ltb 13 o h)
+
 pub under-join : (o i : ℕ) → o ≡ 10 → i ≡ firstUnder o i
 unfolding firstUnder
 under-join o i e = rw e
@@ -131,15 +138,15 @@ pub under-tuple : (o i : ℕ) → o ≡ 11 → i + 2 ≡ firstUnder o i
 unfolding firstUnder
 under-tuple o i e = rw e
 
-pub under-cons : (o i : ℕ) → (o ≡ 10 → ⊥) → (o ≡ 11 → ⊥) → i + 1 ≡ firstUnder o i
+pub under-cons : (o i : ℕ) → o ≤ 13 → (o ≡ 10 → ⊥) → (o ≡ 11 → ⊥) → i + 1 ≡ firstUnder o i
 unfolding firstUnder
-under-cons o i h l = rw (ne-eqb o 10 h, ne-eqb o 11 l)
+under-cons o i y h l = rw (le-ltb 13 o y, ne-eqb o 10 h, ne-eqb o 11 l)
 
-pub under-fits : (o i : ℕ) → (o ≡ 10 → ⊥) → ((o ≡ 10 → ⊥) → i + 2 < 256) → Fits w8 (i + 1)
-under-fits o i h l = let b = l h in record { fits = omega arith }
+pub under-fits : (o i : ℕ) → o ≤ 13 → (o ≡ 10 → ⊥) → ((o ≡ 10 → ⊥) → o ≤ 13 → i + 2 < 256) → Fits w8 (i + 1)
+under-fits o i y h l = let b = l h y in record { fits = omega arith }
 
-pub under-two : (o i : ℕ) → o ≡ 11 → ((o ≡ 10 → ⊥) → i + 2 < 256) → Fits w8 (i + 2)
-under-two o i e l = let b = l (λ z. omega arith) in record { fits = omega arith }
+pub under-two : (o i : ℕ) → o ≡ 11 → ((o ≡ 10 → ⊥) → o ≤ 13 → i + 2 < 256) → Fits w8 (i + 2)
+under-two o i e l = let b = l (λ z. omega arith) (omega arith) in record { fits = omega arith }
 
 pub second-tuple : (ms : List ℤ) (o i r : ℕ) → o ≡ 11 → r ≡ matcherEnd ms (i + 2) → r ≡ secondUnder ms o i
 unfolding secondUnder
@@ -149,7 +156,7 @@ pub second-other : (ms : List ℤ) (o i : ℕ) → (o ≡ 11 → ⊥) → i ≡ 
 unfolding secondUnder
 second-other ms o i h = rw (ne-eqb o 11 h)
 
-pub ruleset under-rules = (under-join, under-tuple, under-cons, under-fits, under-two, second-tuple, second-other, needs)
+pub ruleset under-rules = (under-high, under-join, under-tuple, under-cons, under-fits, under-two, second-tuple, second-other, needs)
 
 -- ---- The stack.
 
@@ -157,12 +164,58 @@ pub pop-last : (ms : List ℤ) (u s n : List ℕ) (d : ℕ) → getD n d 0 ≡ 0
 unfolding popped
 pop-last ms u s n d e = rw e
 
-pub pop-next : (ms : List ℤ) (u s n : List ℕ) (d i : ℕ) → (getD n d 0 ≡ 0 → ⊥) → i ≡ matcherEnd ms (getD u d 0)
+pub pop-else : (ms : List ℤ) (u s n : List ℕ) (d : ℕ) → getD n d 0 ≡ 3 → stack u s (set n d 4) d ≡ popped ms (stack u s n d)
+unfolding popped
+pop-else ms u s n d e = rw e
+
+pub pop-next : (ms : List ℤ) (u s n : List ℕ) (d i : ℕ) → (getD n d 0 ≡ 0 → ⊥) → (getD n d 0 ≡ 3 → ⊥) → i ≡ matcherEnd ms (getD u d 0)
     → stack (set u d i) (set s d (getD s d 0 + 1)) (set n d (getD n d 0 - 1)) d ≡ popped ms (stack u s n d)
 unfolding popped
-pop-next ms u s n d i h e = rw (ne-eqb (getD n d 0) 0 h, e)
+pop-next ms u s n d i h g e = rw (ne-eqb (getD n d 0) 0 h, ne-eqb (getD n d 0) 3 g, e)
 
-pub ruleset pop-rules = (pop-last, pop-next, needs)
+pub ruleset pop-rules = (pop-last, pop-else, pop-next, needs)
+
+pub by-same : {A : Type 0} (o k : ℕ) (x y : A) → o ≡ k → x ≡ cond (eqb o k) x y
+by-same o k x y e = rw (e, eq-eqb k k refl)
+
+pub by-other : {A : Type 0} (o k : ℕ) (x y : A) → (o ≡ k → ⊥) → y ≡ cond (eqb o k) x y
+by-other o k x y h = rw (ne-eqb o k h)
+
+pub by-fits : (pc : ℕ) → pc < 1000 → pc < 2 ^ 16
+by-fits pc h = omega arith
+
+pub ruleset by-rules = (by-same, by-other, by-fits, needs)
+
+-- ---- Ends.
+
+pub close-fi : (n c pc : ℕ) (t u : Columns) → n ≡ 4 → u ≡ written pc fiLine t → u ≡ written pc (closeLine n c) t
+unfolding closeLine
+close-fi n c pc t u e h = rw e h
+
+pub close-cut : (n c pc : ℕ) (t u : Columns) → (n ≡ 4 → ⊥) → u ≡ written pc (cutLine c) t → u ≡ written pc (closeLine n c) t
+unfolding closeLine
+close-cut n c pc t u e h = rw (ne-eqb n 4 e) h
+
+pub else-one : (n pc : ℕ) → n ≡ 3 → pc + 1 ≡ pc + length (elseLines n)
+unfolding elseLines
+else-one n pc e = rw e
+
+pub else-one-laid : (n pc : ℕ) (t u : Columns) → n ≡ 3 → u ≡ written pc elseLine t → u ≡ laid pc (elseLines n) t
+unfolding elseLines laid
+else-one-laid n pc t u e h = rw e h
+
+pub else-no : (n pc : ℕ) → (n ≡ 3 → ⊥) → pc ≡ pc + length (elseLines n)
+unfolding elseLines
+else-no n pc e = rw (ne-eqb n 3 e) (omega arith)
+
+pub else-no-laid : (n pc : ℕ) (t : Columns) → (n ≡ 3 → ⊥) → t ≡ laid pc (elseLines n) t
+unfolding elseLines laid
+else-no-laid n pc t e = rw (ne-eqb n 3 e)
+
+pub end-next : (pc : ℕ) → pc < entries → Fits w64 (pc + 1)
+end-next pc h = record { fits = omega arith }
+
+pub ruleset ends-rules = (close-fi, close-cut, else-one, else-one-laid, else-no, else-no-laid, end-next, needs)
 
 -- ---- Lines that are reserved.
 
@@ -197,10 +250,10 @@ module _ (e pc : ℕ) (t₀ t : Columns) (q left : ℕ) (r : Reserving e pc t₀
 
 pub ruleset reserve-rules = (reserving-start, reserving-next, reserving-end, reserving-laid, reserving-low, reserving-fits, needs)
 
-pub divide-laid : (t u w : Columns) (pc e o i : ℕ) → u ≡ written pc (line (o + e) 0 0 i (pos 0)) t → w ≡ laid (pc + 1) (reservedLines e) u
-    → w ≡ laid pc (line (o + e) 0 0 i (pos 0) ∷ reservedLines e) t
+pub divide-laid : (t u w : Columns) (pc e f o i : ℕ) → u ≡ written pc (line (o + e) f 0 i (pos 0)) t → w ≡ laid (pc + 1) (reservedLines e) u
+    → w ≡ laid pc (line (o + e) f 0 i (pos 0) ∷ reservedLines e) t
 unfolding laid
-divide-laid t u w pc e o i h k = k ∙ rw (h, add-one pc)
+divide-laid t u w pc e f o i h k = k ∙ rw (h, add-one pc)
 
 pub divide-place : (pc e r : ℕ) → r ≡ pc + 1 + e → r ≡ suc pc + e
 divide-place pc e r h = omega arith

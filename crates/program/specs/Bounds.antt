@@ -5,125 +5,60 @@ use native.Mathlib.Omega.{arith}
 use mathlib.Core.Path.{_≡_, refl, ap}
 use mathlib.Core.Bool.{Bool, true, false, cond}
 use mathlib.Core.List.{List, [], _∷_, _++_}
-use borrow.Author.Tests.{eqb-true, ltb-false}
+use borrow.Author.Tests.{lt-ltb, le-ltb, ne-eqb}
 use lib.Dec.{eqb, ltb}
 use lib.ListN.{length, length-append, getD}
 use lib.IntN.{ℤ, pos}
-use Rattle.words.specs.Words.{tagZ, tagAt}
-use Rattle.program.specs.Lines.{Line, line, endLine, reservedLine, reservedLines, opsUnder, opOf, operandsOf, beyondTwo, reservedBy, argOf, stripLines, leafLine, firstUnder, secondUnder}
-use Rattle.program.specs.Lines.{Waiting, waits, slotOf, others, resumed, divided, linesFrom, lines-split, lines-leaf, linesOf}
-
--- ---- How the lines come about, word by word.
-
--- n places are reserved after a line, and s of the words ws are its operands: only a tuple of more than two parts has such places, and its width is a
--- word.
-pub data Reserving (o : ℕ) : (n s : ℕ) → List ℤ → Type 0 where
-  reserving-none : {s : ℕ} {ws : List ℤ} → o ≤ 11 → Reserving o 0 s ws
-  reserving : {n : ℕ} {x : ℤ} {ws : List ℤ} → n ≤ 2 → o ≡ 11 → Reserving o n 1 (x ∷ ws)
-
--- The lines from the place pc on, of what is left of the words after s of them, before the parts that wait.
-data Made (ms : List ℤ) : (s : ℕ) → List Waiting → (pc : ℕ) → List ℤ → List Line → Type 0 where
-  made-end : {s : ℕ} {ts : List Waiting} {pc : ℕ} → Made ms s ts pc [] (endLine ∷ [])
-  made-skip : {s : ℕ} {ts : List Waiting} {pc : ℕ} {w : ℤ} {ws : List ℤ} {ls : List Line} → Made ms s ts pc ws ls → Made ms (suc s) ts pc (w ∷ ws) ls
-  made-divided : {ts : List Waiting} {pc : ℕ} {w : ℤ} {ws : List ℤ} {ls : List Line} (o i u : ℕ) {n s : ℕ} → Reserving o n s ws
-      → Made ms s (waits u pc n ∷ ts) (suc (pc + n)) ws ls → Made ms 0 ts pc (w ∷ ws) (line (o + n) 0 0 i (pos 0) ∷ (reservedLines n ++ ls))
-  made-last : {pc : ℕ} {w : ℤ} {ws : List ℤ} (o i : ℕ) → o ≤ 7 → Made ms 0 [] pc (w ∷ ws) (leafLine o i 0 ws ∷ endLine ∷ [])
-  made-last-two : {pc : ℕ} {w : ℤ} {ws : List ℤ} (o i : ℕ) → o ≤ 7 → Made ms 0 [] pc (w ∷ ws) (line 1 0 0 i (pos 0) ∷ leafLine o i 0 ws ∷ endLine ∷ [])
-  made-leaf : {j c n : ℕ} {ts : List Waiting} {pc : ℕ} {w : ℤ} {ws : List ℤ} {ls : List Line} (s o i : ℕ) → o ≤ 7
-      → Made ms s (others ms j c n ts) (suc pc) ws ls → Made ms 0 (waits j c n ∷ ts) pc (w ∷ ws) (leafLine o i c ws ∷ ls)
-  made-leaf-two : {j c n : ℕ} {ts : List Waiting} {pc : ℕ} {w : ℤ} {ws : List ℤ} {ls : List Line} (s o i : ℕ) → o ≤ 7
-      → Made ms s (others ms j c n ts) (suc (suc pc)) ws ls → Made ms 0 (waits j c n ∷ ts) pc (w ∷ ws) (line 1 0 0 i (pos 0) ∷ leafLine o i c ws ∷ ls)
-
-pub cond-le : {m : ℕ} (b : Bool) (x y : ℕ) → x ≤ m → y ≤ m → cond b x y ≤ m
-cond-le true x y p q = p
-cond-le false x y p q = q
-
--- No tag has more than 11 for its instruction.
-pub op-most : (t k : ℕ) → opOf t k ≤ 11
-unfolding opOf opsUnder
-op-most zero k = omega arith
-op-most (suc zero) k = omega arith
-op-most (suc (suc zero)) k = omega arith
-op-most (suc (suc (suc zero))) k = cond-le (eqb k 1) 5 6 (omega arith) (omega arith)
-op-most (suc (suc (suc (suc zero)))) k = omega arith
-op-most (suc (suc (suc (suc (suc zero))))) k = cond-le (eqb k 2) 8 _ (omega arith) (cond-le (eqb k 3) 9 0 (omega arith) (omega arith))
-op-most (suc (suc (suc (suc (suc (suc zero)))))) k = omega arith
-op-most (suc (suc (suc (suc (suc (suc (suc zero))))))) k = cond-le (eqb k 4) 11 0 (omega arith) (omega arith)
-op-most (suc (suc (suc (suc (suc (suc (suc (suc t)))))))) k = omega arith
-
-reserving-is : (o : ℕ) (ws : List ℤ) → o ≤ 11 → Reserving o (reservedBy o ws) (operandsOf o) ws
-unfolding reservedBy operandsOf beyondTwo tagAt
-reserving-is o ws l = go (eqb o 11) (eqb-true o 11) ws
-  where
-    go : (b : Bool) → (b ≡ true → o ≡ 11) → (ws : List ℤ) → Reserving o (cond b (beyondTwo (tagAt ws 0)) 0) (operandsOf o) ws
-    go false h ws = reserving-none l
-    go true h [] = reserving-none l
-    go true h (x ∷ ws) = let e = h refl in let z : operandsOf o ≡ 1 = rw e in rw z (reserving (cond-le (eqb (tagAt (x ∷ ws) 0) 3) 1 _ (omega arith) (cond-le (eqb (tagAt (x ∷ ws) 0) 4) 2 0 (omega arith) (omega arith))) e)
-
-module _ (ms : List ℤ) (w : ℤ) (ws : List ℤ) (on : (s i : ℕ) (ts : List Waiting) (pc : ℕ) → Made ms s ts pc ws (linesFrom ms s i ts pc ws)) where
-  leaf-made : (n o i : ℕ) (ts : List Waiting) (pc : ℕ) → o ≤ 7
-      → Made ms 0 ts pc (w ∷ ws) (leafLine o i (slotOf ts) ws ∷ resumed ms ts (λ j us. linesFrom ms n j us (suc pc) ws))
-  unfolding slotOf resumed
-  leaf-made n o i [] pc h = made-last o i h
-  leaf-made n o i (waits j c k ∷ ts) pc h = made-leaf n o i h (on n j (others ms j c k ts) (suc pc))
-
-  two-made : (n o i : ℕ) (ts : List Waiting) (pc : ℕ) → o ≤ 7
-      → Made ms 0 ts pc (w ∷ ws) (line 1 0 0 i (pos 0) ∷ leafLine o i (slotOf ts) ws ∷ resumed ms ts (λ j us. linesFrom ms n j us (suc (suc pc)) ws))
-  unfolding slotOf resumed
-  two-made n o i [] pc h = made-last-two o i h
-  two-made n o i (waits j c k ∷ ts) pc h = made-leaf-two n o i h (on n j (others ms j c k ts) (suc (suc pc)))
-
-  strip-made : (k o i : ℕ) (ts : List Waiting) (pc : ℕ) → o ≤ 7 → Made ms 0 ts pc (w ∷ ws)
-      (stripLines k o i ++ (leafLine o i (slotOf ts) ws ∷ resumed ms ts (λ j us. linesFrom ms (operandsOf o) j us (suc (pc + length (stripLines k o i))) ws)))
-  unfolding stripLines
-  strip-made k o i ts pc h = go (eqb k 0) (ltb o 4)
-    where
-      go : (a b : Bool) → Made ms 0 ts pc (w ∷ ws)
-          (cond a [] (cond b (line 1 0 0 i (pos 0) ∷ []) []) ++ (leafLine o i (slotOf ts) ws
-          ∷ resumed ms ts (λ j us. linesFrom ms (operandsOf o) j us (suc (pc + length (cond a [] (cond b (line 1 0 0 i (pos 0) ∷ []) [])))) ws)))
-      go true b = let e : pc + 0 ≡ pc = omega arith in rw e (leaf-made (operandsOf o) o i ts pc h)
-      go false true = let e : pc + 1 ≡ suc pc = omega arith in rw e (two-made (operandsOf o) o i ts pc h)
-      go false false = let e : pc + 0 ≡ pc = omega arith in rw e (leaf-made (operandsOf o) o i ts pc h)
-
-  tag-made : (k o i : ℕ) → k ≡ tagAt ms i → o ≡ opOf (tagZ w) k → (ts : List Waiting) (pc : ℕ) → Made ms 0 ts pc (w ∷ ws) (linesFrom ms 0 i ts pc (w ∷ ws))
-  unfolding divided
-  tag-made k o i g x ts pc = go (ltb 7 o) refl
-    where
-      go : (b : Bool) → ltb 7 o ≡ b → Made ms 0 ts pc (w ∷ ws) (linesFrom ms 0 i ts pc (w ∷ ws))
-      go true l = rw (lines-split ms i w k o g x l ts pc ws) (made-divided o i (secondUnder ms o i) (reserving-is o ws (rw x (op-most (tagZ w) k)))
-          (on (operandsOf o) (firstUnder o i) (waits (secondUnder ms o i) pc (reservedBy o ws) ∷ ts) (suc (pc + reservedBy o ws))))
-      go false l = rw (lines-leaf ms i w k o g x l ts pc ws) (strip-made k o i ts pc (ltb-false 7 o l))
-
-made : (ms : List ℤ) (ws : List ℤ) (s i : ℕ) (ts : List Waiting) (pc : ℕ) → Made ms s ts pc ws (linesFrom ms s i ts pc ws)
-unfolding linesFrom
-made ms [] s i ts pc = made-end
-made ms (w ∷ ws) zero i ts pc = tag-made ms w ws (made ms ws) (tagAt ms i) (opOf (tagZ w) (tagAt ms i)) i refl refl ts pc
-made ms (w ∷ ws) (suc s) i ts pc = made-skip (made ms ws s i ts pc)
+use Rattle.words.specs.Words.{tagAt}
+use Rattle.program.specs.Lines.{Line, line, endLine, elseLine, fiLine, cutLine, reservedLine, reservedLines, operandsOf, argOf, leafLine}
+use Rattle.program.specs.Lines.{Waiting, waits, slotOf, fromBy, slotBy, behindBy, others, closeLine, linesOf}
+use Rattle.program.specs.Made.{cond-le, Reserving, reserving-none, reserving, Made, made-end, made-skip, made-divided, made-leaf, made-leaf-two, after-end, after-close, after-else, after-part, made}
 
 -- ---- How many.
 
--- How many parts wait.
-unfoldable pub waitingIn : List Waiting → ℕ
-waitingIn [] = 0
-waitingIn (waits i c n ∷ ts) = suc (n + waitingIn ts)
+-- Twice the number of lines that are sure to come for what waits, with half a line more for the second side of an or.
+unfoldable pub heavy : (n : ℕ) → ℕ
+heavy n = cond (ltb 3 n) 2 (cond (eqb n 3) 3 0)
 
-pub one-fewer : (ms : List ℤ) (i c n : ℕ) (ts : List Waiting) → waitingIn (others ms i c n ts) ≡ n + waitingIn ts
-unfolding waitingIn others
-one-fewer ms i c zero ts = omega arith
-one-fewer ms i c (suc n) ts = omega arith
+unfoldable pub weight : List Waiting → ℕ
+unfolding heavy
+weight [] = 0
+weight (waits i c n ∷ ts) = heavy n + weight ts
+
+pub heavy-most : (n : ℕ) → heavy n ≤ 3
+unfolding heavy
+heavy-most n = cond-le (ltb 3 n) 2 _ (omega arith) (cond-le (eqb n 3) 3 0 (omega arith) (omega arith))
+
+pub heavy-end : (n : ℕ) → 3 < n → heavy n ≡ 2
+unfolding heavy
+heavy-end n h = rw (lt-ltb 3 n h)
+
+pub heavy-part : (n : ℕ) → n ≤ 2 → heavy n ≡ 0
+unfolding heavy
+heavy-part n h = rw (le-ltb 3 n (omega arith), ne-eqb n 3 (λ e. omega arith))
+
+pub weight-one : (i c n : ℕ) (ts : List Waiting) → weight (waits i c n ∷ ts) ≡ heavy n + weight ts
+unfolding weight
+weight-one i c n ts = refl
+
+-- A part that waits no longer leaves nothing that weighs.
+pub weight-others : (ms : List ℤ) (i c n : ℕ) (ts : List Waiting) → n ≤ 2 → weight (others ms i c n ts) ≡ weight ts
+unfolding weight others
+weight-others ms i c zero ts h = refl
+weight-others ms i c (suc n) ts h = rw (ne-eqb n 2 (λ e. omega arith), heavy-part n (omega arith)) (omega arith)
 
 pub reserved-length : (n : ℕ) → length (reservedLines n) ≡ n
 unfolding reservedLines
 reserved-length zero = refl
 reserved-length (suc n) = ap suc (reserved-length n)
 
-room-made : {o n s : ℕ} {ws : List ℤ} → Reserving o n s ws → 6 * n + 9 * (length ws - s) ≤ 9 * length ws + 3
+room-made : {o n s : ℕ} {ws : List ℤ} → Reserving o n s ws → 2 * n + 5 * (length ws - s) ≤ 5 * length ws
 room-made (reserving-none l) = omega arith
 room-made (reserving l e) = omega arith
 
-made-few : {ms : List ℤ} {s : ℕ} {ts : List Waiting} {pc : ℕ} {ws : List ℤ} {ls : List Line} → Made ms s ts pc ws ls
-    → 5 * length ls ≤ 9 * (length ws - s) + waitingIn ts + 6
-unfolding waitingIn
+made-few : {ms : List ℤ} {a : Bool} {s : ℕ} {ts : List Waiting} {pc : ℕ} {ws : List ℤ} {ls : List Line} → Made ms a s ts pc ws ls
+    → 2 * length ls ≤ 5 * (length ws - s) + weight ts + cond a 3 2
+unfolding weight heavy
 made-few made-end = omega arith
 made-few (made-skip h) = let r = made-few h in omega arith
 made-few (made-divided {ls = ls} o i u {n = n} q h) =
@@ -131,15 +66,18 @@ made-few (made-divided {ls = ls} o i u {n = n} q h) =
     let a = room-made q in
     let b = reserved-length n in
     let c = length-append (reservedLines n) ls in
+    let d = heavy-most (behindBy o n) in
     omega arith
-made-few (made-last o i l) = omega arith
-made-few (made-last-two o i l) = omega arith
-made-few {ms} (made-leaf {j = j} {c = c} {n = n} {ts = ts} s o i l h) = let r = made-few h in let e = one-fewer ms j c n ts in omega arith
-made-few {ms} (made-leaf-two {j = j} {c = c} {n = n} {ts = ts} s o i l h) = let r = made-few h in let e = one-fewer ms j c n ts in omega arith
+made-few (made-leaf s o i l h) = let r = made-few h in omega arith
+made-few (made-leaf-two s o i l h) = let r = made-few h in omega arith
+made-few after-end = omega arith
+made-few (after-close {n = n} l h) = let r = made-few h in let e = heavy-end n l in omega arith
+made-few (after-else h) = let r = made-few h in omega arith
+made-few {ms} (after-part {i = i} {c = c} {n = n} {ts = ts} l h) = let r = made-few h in let e = weight-others ms i c n ts l in let f = heavy-part n l in omega arith
 
--- 256 words have at most 462 lines, the end among them.
-pub lines-few : (ms ps : List ℤ) → length ps ≤ 256 → length (linesOf ms ps) ≤ 462
-unfolding linesOf waitingIn
+-- 256 words have at most 641 lines, the end among them.
+pub lines-few : (ms ps : List ℤ) → length ps ≤ 256 → length (linesOf ms ps) ≤ 641
+unfolding linesOf weight
 lines-few ms ps h = let r = made-few (made ms ps 0 0 [] 0) in omega arith
 
 -- ---- Every line: its slot is that of an earlier line or 0, and it names one of 16 variables.
@@ -148,19 +86,50 @@ pub record Small (pc : ℕ) (l : Line) : Type 0 where
   pub from : l .from ≤ pc
   pub arg : l .arg < 16
 
+-- So many slots after its own are those of parts behind it.
+unfoldable pub few : (n : ℕ) → ℕ
+few n = cond (ltb n 3) n 0
+
+pub few-part : (n : ℕ) → n ≤ 2 → few n ≡ n
+unfolding few
+few-part n h = rw (lt-ltb n 3 (omega arith))
+
+pub few-other : (n : ℕ) → 3 ≤ n → few n ≡ 0
+unfolding few
+few-other n h = rw (le-ltb n 3 h)
+
 -- What waits has its slots before pc.
 data Before : ℕ → List Waiting → Type 0 where
   before-none : {pc : ℕ} → Before pc []
-  before : {pc i c n : ℕ} {ts : List Waiting} → c + n < pc → Before pc ts → Before pc (waits i c n ∷ ts)
+  before : {pc i c n : ℕ} {ts : List Waiting} → c + few n < pc → Before pc ts → Before pc (waits i c n ∷ ts)
 
 grows : {pc q : ℕ} {ts : List Waiting} → pc ≤ q → Before pc ts → Before q ts
 grows l before-none = before-none
-grows {q = q} l (before {c = c} {n = n} h b) = let g : c + n < q = omega arith in before g (grows l b)
+grows {q = q} l (before {c = c} {n = n} h b) = let g : c + few n < q = omega arith in before g (grows l b)
 
-before-others : (ms : List ℤ) (j c n : ℕ) {pc : ℕ} {ts : List Waiting} → c + n < pc → Before pc ts → Before pc (others ms j c n ts)
+before-others : (ms : List ℤ) (j c n : ℕ) {pc : ℕ} {ts : List Waiting} → n ≤ 2 → c + few n < pc → Before pc ts → Before pc (others ms j c n ts)
 unfolding others
-before-others ms j c zero h b = b
-before-others ms j c (suc n) {pc} h b = let g : suc c + n < pc = omega arith in before g b
+before-others ms j c zero l h b = b
+before-others ms j c (suc n) {pc} l h b =
+    let e = few-part (suc n) l in
+    let f = few-part n (omega arith) in
+    let g : suc c + few n < pc = omega arith in
+    rw (ne-eqb n 2 (λ y. omega arith)) (before g b)
+
+slot-before : {pc : ℕ} {ts : List Waiting} → Before pc ts → slotOf ts ≤ pc
+unfolding slotOf
+slot-before before-none = omega arith
+slot-before (before h b) = omega arith
+
+-- The slot and the number of what a tag with parts leaves waiting, at the place pc with n places reserved.
+pub by-few : (o pc n : ℕ) (ts : List Waiting) → slotOf ts ≤ pc → n ≤ 2 → slotBy o pc ts + few (behindBy o n) ≤ pc + n
+unfolding slotBy behindBy few
+by-few o pc n ts h l = go (eqb o 15) (eqb o 16)
+  where
+    go : (a b : Bool) → cond a (slotOf ts) pc + few (cond a 3 (cond b 5 n)) ≤ pc + n
+    go true b = omega arith
+    go false true = omega arith
+    go false false = let e = few-part n l in omega arith
 
 arg-small : (n : ℕ) (ws : List ℤ) → argOf n ws < 16
 unfolding argOf
@@ -191,27 +160,46 @@ reserved-small (suc n) ls pc h zero = zero-small reservedLine refl refl
 reserved-small (suc n) ls pc h (suc j) =
     up {a = suc pc + j} (omega arith) (reserved-small n ls (suc pc) (λ i. let e : pc + suc n + i ≡ suc pc + n + i = omega arith in rw e at (h i)) j)
 
-made-small : {ms : List ℤ} {s : ℕ} {ts : List Waiting} {pc : ℕ} {ws : List ℤ} {ls : List Line} → Before pc ts → Made ms s ts pc ws ls
+close-small : {pc : ℕ} (n c : ℕ) → c ≤ pc → Small pc (closeLine n c)
+unfolding closeLine
+close-small {pc} n c h = go (eqb n 4)
+  where
+    go : (b : Bool) → Small pc (cond b fiLine (cutLine c))
+    go true = zero-small fiLine refl refl
+    go false = record { from = h; arg = omega arith }
+
+divided-small : {pc : ℕ} (o n i : ℕ) (ts : List Waiting) → slotOf ts ≤ pc → Small pc (line (o + n) (fromBy o ts) 0 i (pos 0))
+unfolding fromBy
+divided-small o n i ts h = record { from = cond-le (eqb o 16) (slotOf ts) 0 h (omega arith); arg = omega arith }
+
+room-two : {o n s : ℕ} {ws : List ℤ} → Reserving o n s ws → n ≤ 2
+room-two (reserving-none l) = omega arith
+room-two (reserving l e) = l
+
+made-small : {ms : List ℤ} {a : Bool} {s : ℕ} {ts : List Waiting} {pc : ℕ} {ws : List ℤ} {ls : List Line} → Before pc ts → Made ms a s ts pc ws ls
     → (j : ℕ) → Small (pc + j) (getD ls j endLine)
 made-small {pc = pc} b made-end j = end-small (pc + j) j
 made-small b (made-skip h) j = made-small b h j
-made-small b (made-divided o i u {n = n} q h) zero = zero-small (line (o + n) 0 0 i (pos 0)) refl refl
-made-small {pc = pc} b (made-divided {ls = ls} o i u {n = n} q h) (suc j) =
-    let l : pc + n < suc (pc + n) = omega arith in
+made-small {ts = ts} b (made-divided o i u {n = n} q h) zero = let e = slot-before b in divided-small o n i ts (omega arith)
+made-small {ts = ts} {pc = pc} b (made-divided {ls = ls} o i u {n = n} q h) (suc j) =
+    let f = by-few o pc n ts (slot-before b) (room-two q) in
+    let l : slotBy o pc ts + few (behindBy o n) < suc (pc + n) = omega arith in
     let e : suc (pc + n) ≡ suc pc + n = omega arith in
     up {a = suc pc + j} (omega arith) (reserved-small n ls (suc pc) (λ k. rw e at (made-small (before l (grows (omega arith) b)) h k)) j)
-made-small b (made-last {ws = ws} o i l) zero = leaf-small o i 0 ws (omega arith)
-made-small {pc = pc} b (made-last o i l) (suc j) = end-small (pc + suc j) j
-made-small b (made-last-two o i l) zero = zero-small (line 1 0 0 i (pos 0)) refl refl
-made-small b (made-last-two {ws = ws} o i l) (suc zero) = leaf-small o i 0 ws (omega arith)
-made-small {pc = pc} b (made-last-two o i l) (suc (suc j)) = end-small (pc + suc (suc j)) j
-made-small (before {c = c} g b) (made-leaf {ws = ws} s o i l h) zero = leaf-small o i c ws (omega arith)
-made-small {ms} {pc = pc} (before g b) (made-leaf {j = k} {c = c} {n = n} s o i l h) (suc j) =
-    up {a = suc pc + j} (omega arith) (made-small (before-others ms k c n (omega arith) (grows (omega arith) b)) h j)
-made-small (before g b) (made-leaf-two s o i l h) zero = zero-small (line 1 0 0 i (pos 0)) refl refl
-made-small (before {c = c} g b) (made-leaf-two {ws = ws} s o i l h) (suc zero) = leaf-small o i c ws (omega arith)
-made-small {ms} {pc = pc} (before g b) (made-leaf-two {j = k} {c = c} {n = n} s o i l h) (suc (suc j)) =
-    up {a = suc (suc pc) + j} (omega arith) (made-small (before-others ms k c n (omega arith) (grows (omega arith) b)) h j)
+made-small {ts = ts} b (made-leaf {ws = ws} s o i l h) zero = let e = slot-before b in leaf-small o i (slotOf ts) ws (omega arith)
+made-small {pc = pc} b (made-leaf s o i l h) (suc j) = up {a = suc pc + j} (omega arith) (made-small (grows (omega arith) b) h j)
+made-small b (made-leaf-two s o i l h) zero = zero-small (line 1 0 0 i (pos 0)) refl refl
+made-small {ts = ts} b (made-leaf-two {ws = ws} s o i l h) (suc zero) = let e = slot-before b in leaf-small o i (slotOf ts) ws (omega arith)
+made-small {pc = pc} b (made-leaf-two s o i l h) (suc (suc j)) = up {a = suc (suc pc) + j} (omega arith) (made-small (grows (omega arith) b) h j)
+made-small {pc = pc} b after-end j = end-small (pc + j) j
+made-small (before g b) (after-close {c = c} {n = n} l h) zero = close-small n c (omega arith)
+made-small {pc = pc} (before g b) (after-close l h) (suc j) = up {a = suc pc + j} (omega arith) (made-small (grows (omega arith) b) h j)
+made-small b (after-else h) zero = zero-small elseLine refl refl
+made-small {pc = pc} (before g b) (after-else {c = c} h) (suc j) =
+    let e = few-other 4 (omega arith) in
+    let f : c + few 4 < suc pc = omega arith in
+    up {a = suc pc + j} (omega arith) (made-small (before f (grows (omega arith) b)) h j)
+made-small {ms} (before g b) (after-part {i = i} {c = c} {n = n} l h) j = made-small (before-others ms i c n l g b) h j
 
 pub line-small : (ms ps : List ℤ) (pc : ℕ) → Small pc (getD (linesOf ms ps) pc endLine)
 unfolding linesOf
@@ -220,22 +208,25 @@ line-small ms ps pc = up {a = 0 + pc} (omega arith) (made-small before-none (mad
 -- ---- After the line of a tuple of 2 + n parts, which has 11 + n, come n lines that are reserved.
 
 unfoldable pub Reserved : List Line → Type 0
-Reserved ls = (j k : ℕ) → 0 < k → 11 + k ≤ (getD ls j endLine) .op → (getD ls (j + k) endLine) .op ≡ 1
+Reserved ls = (j k : ℕ) → 0 < k → 11 + k ≤ (getD ls j endLine) .op → (getD ls j endLine) .op ≤ 13 → (getD ls (j + k) endLine) .op ≡ 1
 
-behind : (l : Line) (ls : List Line) → l .op ≤ 11 → Reserved ls → Reserved (l ∷ ls)
+behind : (l : Line) (ls : List Line) → (12 ≤ l .op → 14 ≤ l .op) → Reserved ls → Reserved (l ∷ ls)
 unfolding Reserved
-behind l ls h r zero k z e = absurd (omega arith)
-behind l ls h r (suc j) k z e = let q : suc j + k ≡ suc (j + k) = omega arith in rw q (r j k z e)
+behind l ls h r zero k z e d = let g = h (omega arith) in absurd (omega arith)
+behind l ls h r (suc j) k z e d = let q : suc j + k ≡ suc (j + k) = omega arith in rw q (r j k z e d)
+
+low : (l : Line) (ls : List Line) → l .op ≤ 11 → Reserved ls → Reserved (l ∷ ls)
+low l ls h r = behind l ls (λ e. absurd (omega arith)) r
 
 end-reserved : Reserved (endLine ∷ [])
 unfolding Reserved
-end-reserved zero k z e = absurd (omega arith)
-end-reserved (suc j) k z e = absurd (omega arith)
+end-reserved zero k z e l = absurd (omega arith)
+end-reserved (suc j) k z e l = absurd (omega arith)
 
 all-reserved : (n : ℕ) (ls : List Line) → Reserved ls → Reserved (reservedLines n ++ ls)
 unfolding reservedLines
 all-reserved zero ls r = r
-all-reserved (suc n) ls r = behind reservedLine (reservedLines n ++ ls) (omega arith) (all-reserved n ls r)
+all-reserved (suc n) ls r = low reservedLine (reservedLines n ++ ls) (omega arith) (all-reserved n ls r)
 
 reserved-at : (n : ℕ) (ls : List Line) (k : ℕ) → k < n → (getD (reservedLines n ++ ls) k endLine) .op ≡ 1
 unfolding reservedLines
@@ -243,28 +234,38 @@ reserved-at zero ls k h = absurd (omega arith)
 reserved-at (suc n) ls zero h = refl
 reserved-at (suc n) ls (suc k) h = reserved-at n ls k (omega arith)
 
-divided-reserved : (o n s i : ℕ) (ws : List ℤ) (ls : List Line) → Reserving o n s ws → Reserved ls → Reserved (line (o + n) 0 0 i (pos 0) ∷ (reservedLines n ++ ls))
+divided-reserved : (o n s f i : ℕ) (ws : List ℤ) (ls : List Line) → Reserving o n s ws → Reserved ls → Reserved (line (o + n) f 0 i (pos 0) ∷ (reservedLines n ++ ls))
 unfolding Reserved reservedLines
-divided-reserved o n s i ws ls (reserving-none l) r j k z e = behind (line (o + 0) 0 0 i (pos 0)) ls (omega arith) r j k z e
-divided-reserved o n s i ws ls (reserving l q) r zero zero z e = absurd (omega arith)
-divided-reserved o n s i ws ls (reserving l q) r zero (suc k) z e = let y : 0 + suc k ≡ suc k = omega arith in rw y (reserved-at n ls k (omega arith))
-divided-reserved o n s i ws ls (reserving l q) r (suc j) k z e =
-    let y : suc j + k ≡ suc (j + k) = omega arith in rw y (all-reserved n ls r j k z e)
+divided-reserved o n s f i ws ls (reserving-none l) r j k z e d =
+    behind (line (o + 0) f 0 i (pos 0)) ls (let a : o + 0 ≡ o = omega arith in rw a l) r j k z e d
+divided-reserved o n s f i ws ls (reserving l q) r zero zero z e d = absurd (omega arith)
+divided-reserved o n s f i ws ls (reserving l q) r zero (suc k) z e d = let y : 0 + suc k ≡ suc k = omega arith in rw y (reserved-at n ls k (omega arith))
+divided-reserved o n s f i ws ls (reserving l q) r (suc j) k z e d =
+    let y : suc j + k ≡ suc (j + k) = omega arith in rw y (all-reserved n ls r j k z e d)
 
 leaf-op : (o i f : ℕ) (ws : List ℤ) → o ≤ 7 → (leafLine o i f ws) .op ≤ 11
 unfolding leafLine
 leaf-op o i f ws h = omega arith
 
-made-reserved : {ms : List ℤ} {s : ℕ} {ts : List Waiting} {pc : ℕ} {ws : List ℤ} {ls : List Line} → Made ms s ts pc ws ls → Reserved ls
+close-op : (n c : ℕ) → 14 ≤ (closeLine n c) .op
+unfolding closeLine
+close-op n c = go (eqb n 4)
+  where
+    go : (b : Bool) → 14 ≤ (cond b fiLine (cutLine c)) .op
+    go true = omega arith
+    go false = omega arith
+
+made-reserved : {ms : List ℤ} {a : Bool} {s : ℕ} {ts : List Waiting} {pc : ℕ} {ws : List ℤ} {ls : List Line} → Made ms a s ts pc ws ls → Reserved ls
 made-reserved made-end = end-reserved
 made-reserved (made-skip h) = made-reserved h
-made-reserved (made-divided {ws = ws} {ls = ls} o i u {n = n} {s = s} q h) = divided-reserved o n s i ws ls q (made-reserved h)
-made-reserved (made-last {ws = ws} o i l) = behind (leafLine o i 0 ws) (endLine ∷ []) (leaf-op o i 0 ws l) end-reserved
-made-reserved (made-last-two {ws = ws} o i l) =
-    behind (line 1 0 0 i (pos 0)) _ (omega arith) (behind (leafLine o i 0 ws) (endLine ∷ []) (leaf-op o i 0 ws l) end-reserved)
-made-reserved (made-leaf {c = c} {ws = ws} {ls = ls} s o i l h) = behind (leafLine o i c ws) ls (leaf-op o i c ws l) (made-reserved h)
-made-reserved (made-leaf-two {c = c} {ws = ws} {ls = ls} s o i l h) =
-    behind (line 1 0 0 i (pos 0)) _ (omega arith) (behind (leafLine o i c ws) ls (leaf-op o i c ws l) (made-reserved h))
+made-reserved {ts = ts} (made-divided {ws = ws} {ls = ls} o i u {n = n} {s = s} q h) = divided-reserved o n s (fromBy o ts) i ws ls q (made-reserved h)
+made-reserved {ts = ts} (made-leaf {ws = ws} {ls = ls} s o i l h) = low (leafLine o i (slotOf ts) ws) ls (leaf-op o i (slotOf ts) ws l) (made-reserved h)
+made-reserved {ts = ts} (made-leaf-two {ws = ws} {ls = ls} s o i l h) =
+    low (line 1 0 0 i (pos 0)) _ (omega arith) (low (leafLine o i (slotOf ts) ws) ls (leaf-op o i (slotOf ts) ws l) (made-reserved h))
+made-reserved after-end = end-reserved
+made-reserved (after-close {c = c} {n = n} {ls = ls} l h) = behind (closeLine n c) ls (λ e. close-op n c) (made-reserved h)
+made-reserved (after-else {ls = ls} h) = behind elseLine ls (λ e. omega arith) (made-reserved h)
+made-reserved (after-part l h) = made-reserved h
 
 pub line-reserved : (ms ps : List ℤ) → Reserved (linesOf ms ps)
 unfolding linesOf

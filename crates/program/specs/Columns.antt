@@ -1,7 +1,7 @@
--- The program in its five arrays: a line reads back as it was laid, and of a rule that is accepted each means the instruction at its place.
+-- The program in its six arrays: a line reads back as it was laid, and with it the place where the next state stands, and of a rule that is accepted each means the instruction at its place.
 use Prim.Native.Nat.{ℕ, zero, suc, _+_, _<_, _≤_}
 use native.Mathlib.Omega.{arith}
-use mathlib.Core.Path.{_≡_, refl, sym, _∙_}
+use mathlib.Core.Path.{_≡_, refl, sym, ap, _∙_}
 use mathlib.Core.Bool.{Bool, true, false}
 use mathlib.Core.List.{List, [], _∷_}
 use borrow.Author.Tests.{ltb-true, ltb-false}
@@ -16,6 +16,9 @@ use Rattle.program.specs.Program.{program}
 use Rattle.program.specs.Length.{instrs}
 use Rattle.program.specs.Lines.{Line, line, endLine, linesOf, variablesIn, Columns, columns, written, laid}
 use Rattle.program.specs.Meaning.{Means}
+use Rattle.program.specs.Link.{opsOf, tosOf, tosBy, opsIn, bindingsIn, placed}
+use Rattle.program.specs.Linked.{link-leads}
+use Rattle.program.specs.Places.{tos-length, tos-low, placed-zeros}
 use Rattle.program.specs.Accepted.{lines-length, line-means, few-variables, program-fits}
 use Rattle.program.specs.Bounds.{Small, line-small, Reserved, line-reserved}
 
@@ -126,33 +129,65 @@ laid-blank ls t b h pc = go (ltb pc (length ls)) refl
 
 -- ---- The arrays hold the rule's program, and `vars` is the number of its variables.
 
-pub record Holds (ms : List ℤ) (r : Rule) (vars : ℕ) (t : Columns) : Type 0 where
-  pub means : (pc : ℕ) → pc ≤ instrs (r .pattern) (r .matcher) → Means ms vars (lineIn t pc) (program (r .matcher) (r .pattern) pc)
+pub record Holds (ms : List ℤ) (r : Rule) (vars : ℕ) (t : Columns) (to : List ℕ) : Type 0 where
+  pub means : (pc : ℕ) → pc ≤ instrs (r .pattern) (r .matcher) → Means ms vars (lineIn t pc) (getD to pc 0) (program (r .matcher) (r .pattern) pc)
   pub after : (pc : ℕ) → instrs (r .pattern) (r .matcher) < pc → lineIn t pc ≡ endLine
   pub small : (pc : ℕ) → Small pc (lineIn t pc)
-  pub reserved : (pc k : ℕ) → 0 < k → 11 + k ≤ (lineIn t pc) .op → (lineIn t (pc + k)) .op ≡ 1
-  pub last : instrs (r .pattern) (r .matcher) ≤ 461
+  pub low : (pc : ℕ) → getD to pc 0 ≤ 640
+  pub reserved : (pc k : ℕ) → 0 < k → 11 + k ≤ (lineIn t pc) .op → (lineIn t pc) .op ≤ 13 → (lineIn t (pc + k)) .op ≡ 1
+  pub last : instrs (r .pattern) (r .matcher) ≤ 639
   pub few : vars ≤ 16
 
 -- What the compiler leaves in the arrays, if the rule is accepted.
 pub compiled : (ms ps : List ℤ) (r : Rule) → ruleOf ms ps ≡ accepted r → (t : Columns) → Blank t
-    → Holds ms r (variablesIn (linesOf ms ps)) (laid 0 (linesOf ms ps) t)
+    → Holds ms r (variablesIn (linesOf ms ps)) (laid 0 (linesOf ms ps) t) (placed 0 (tosOf (linesOf ms ps)) (replicate entries 0))
 unfolding Reserved
 compiled ms ps r a t b =
     let w = rule-accepted ms ps r .0 a in
     let n = lines-length ms ps r w in
     let l = program-fits ms ps r w in
     let is = laid-blank (linesOf ms ps) t b (omega arith) in
+    let m = tos-length (linesOf ms ps) in
+    let at = placed-zeros entries (tosOf (linesOf ms ps)) (omega arith) in
     record {
-      means = λ pc h. rw (is pc) (line-means ms ps r w pc h);
+      means = λ pc h. rw (is pc, at pc) (line-means ms ps r w pc h (getD (tosOf (linesOf ms ps)) pc 0) (link-leads ms ps r w pc h));
       after = λ pc h. is pc ∙ List·getD-eq-default (linesOf ms ps) endLine (omega arith);
       small = λ pc. rw (is pc) (line-small ms ps pc);
-      reserved = λ pc k z h. rw (is (pc + k)) (line-reserved ms ps pc k z (rw (is pc) at h));
+      low = λ pc. let h = tos-low (linesOf ms ps) pc in rw (at pc) (omega arith);
+      reserved = λ pc k z h d. rw (is (pc + k)) (line-reserved ms ps pc k z (rw (is pc) at h) (rw (is pc) at d));
       last = l;
       few = few-variables ms ps r w;
     }
 
+-- The instructions read back from their array.
+ops-in : (op : List ℕ) (pc : ℕ) (ls : List Line) → ((j : ℕ) → j < length ls → getD op (pc + j) 0 ≡ (getD ls j endLine) .op) → opsIn op pc (length ls) ≡ opsOf ls
+unfolding opsIn opsOf
+ops-in op pc [] h = refl
+ops-in op pc (l ∷ ls) h =
+    let e : pc + 0 ≡ pc = omega arith in
+    let a : getD op pc 0 ≡ l .op = rw e at (h 0 (omega arith)) in
+    rw (a, ops-in op (suc pc) ls (λ j g. let f : pc + suc j ≡ suc pc + j = omega arith in rw f at (h (suc j) (omega arith))))
+
+bindings-are : (ls : List Line) → bindingsIn (opsOf ls) ≡ variablesIn ls
+unfolding bindingsIn opsOf variablesIn
+bindings-are [] = refl
+bindings-are (l ∷ ls) = let h = bindings-are ls in omega arith
+
+ops-laid : (ls : List Line) (t : Columns) → Sized t → length ls ≤ entries → opsIn ((laid 0 ls t) .op) 0 (length ls) ≡ opsOf ls
+unfolding lineIn
+ops-laid ls t s h = ops-in ((laid 0 ls t) .op) 0 ls (λ j l. ap (λ x. x .op) (laid-line 0 ls t j s (omega arith) l))
+
 -- The same, as a caller has it that lent arrays of zeros.
-pub compiled-zeros : (ms ps : List ℤ) (r : Rule) → ruleOf ms ps ≡ accepted r → (vars : ℕ) (t : Columns) → vars ≡ variablesIn (linesOf ms ps)
-    → t ≡ laid 0 (linesOf ms ps) (columns (replicate entries 0) (replicate entries 0) (replicate entries 0) (replicate entries 0) (replicate entries (pos 0))) → Holds ms r vars t
-compiled-zeros ms ps r a vars t e g = rw (e, g) (compiled ms ps r a _ blank)
+pub compiled-zeros : (ms ps : List ℤ) (r : Rule) → ruleOf ms ps ≡ accepted r → (vars : ℕ) (t : Columns) (to : List ℕ)
+    → vars ≡ bindingsIn (opsIn (t .op) 0 (length (linesOf ms ps)))
+    → t ≡ laid 0 (linesOf ms ps) (columns (replicate entries 0) (replicate entries 0) (replicate entries 0) (replicate entries 0) (replicate entries (pos 0)))
+    → to ≡ placed 0 (tosBy (opsIn (t .op) 0 (length (linesOf ms ps)))) (replicate entries 0) → Holds ms r vars t to
+unfolding tosOf
+compiled-zeros ms ps r a vars t to e g h =
+    let w = rule-accepted ms ps r .0 a in
+    let n = lines-length ms ps r w in
+    let l = program-fits ms ps r w in
+    let o : opsIn (t .op) 0 (length (linesOf ms ps)) ≡ opsOf (linesOf ms ps) = rw g (ops-laid (linesOf ms ps) _ (blank .sized) (omega arith)) in
+    let v : vars ≡ variablesIn (linesOf ms ps) = e ∙ ap bindingsIn o ∙ bindings-are (linesOf ms ps) in
+    let u : to ≡ placed 0 (tosOf (linesOf ms ps)) (replicate entries 0) = h ∙ ap (λ x. placed 0 (tosBy x) (replicate entries 0)) o in
+    rw (v, g, u) (compiled ms ps r a _ blank)

@@ -1,5 +1,5 @@
 -- What the numbers of a line mean: an instruction.
-use Prim.Native.Nat.{ℕ, _+_}
+use Prim.Native.Nat.{ℕ, _+_, _≤_}
 use native.Mathlib.Omega.{arith}
 use mathlib.Core.Path.{_≡_, sym, ap, _∙_}
 use mathlib.Core.Bool.{false}
@@ -13,7 +13,7 @@ use Rattle.promises.specs.Written.{matcherWords, matcherWordsAll, Widthsᵐ, Wi
 use Rattle.words.specs.Words.{tagZ, tagAt}
 use Rattle.matchers.specs.Places.{matcherEnd}
 use Rattle.matchers.proofs.Matchers.{end-drop}
-use Rattle.program.specs.Points.{listCons, multisetCons, joins, asConstant, asValue, asNil, Instr, strip, drop as drops, bind, test, split, apart, end}
+use Rattle.program.specs.Points.{listCons, multisetCons, joins, asConstant, asValue, asNil, Instr, strip, keep, other, close, drop as drops, bind, test, split, apart, choice, deny, cutAt, end}
 use Rattle.program.specs.Lines.{Line}
 
 -- The words of the matcher m stand at the index i.
@@ -84,17 +84,39 @@ matchers-others {ms} {i} {k} {ks} a = record {
 pub whole-matcher : (m : Matcher) → Widthsᵐ m → MatcherAt (matcherWords m) 0 m
 whole-matcher m w = record { rest = []; words = sym (append-nil (matcherWords m)); widths = w }
 
--- The instruction of a line, `vars` being the number of the rule's variables.
-pub data Means (ms : List ℤ) (vars : ℕ) (l : Line) : Instr → Type 0 where
-  means-end : l .op ≡ 0 → Means ms vars l (end vars)
-  means-strip : l .op ≡ 1 → Means ms vars l strip
-  means-drop : l .op ≡ 2 → Means ms vars l (drops (l .from))
-  means-bind : l .op ≡ 3 → Means ms vars l (bind (l .arg) (l .from))
-  means-constant : l .op ≡ 4 → Means ms vars l (test (asConstant (l .con)) (l .from))
-  means-integer : l .op ≡ 5 → Means ms vars l (test (asValue integer (l .arg) (l .con)) (l .from))
-  means-value : (m : Matcher) → l .op ≡ 6 → isInteger m ≡ false → MatcherAt ms (l .mat) m → Means ms vars l (test (asValue m (l .arg) (l .con)) (l .from))
-  means-nil : (m : Matcher) → l .op ≡ 7 → Means ms vars l (test (asNil m) (l .from))
-  means-list : (m : Matcher) → l .op ≡ 8 → Means ms vars l (split (listCons m))
-  means-multiset : (m : Matcher) → l .op ≡ 9 → Means ms vars l (split (multisetCons m))
-  means-join : (m : Matcher) → l .op ≡ 10 → Means ms vars l (split (joins m))
-  means-tuple : (n : ℕ) → l .op ≡ 11 + n → Means ms vars l (apart n)
+-- The instruction of a line, `to` being the place where the next state stands, and `vars` the number of the rule's variables.
+pub data Means (ms : List ℤ) (vars : ℕ) (l : Line) (to : ℕ) : Instr → Type 0 where
+  means-end : l .op ≡ 0 → Means ms vars l to (end vars)
+  means-strip : l .op ≡ 1 → Means ms vars l to strip
+  means-drop : l .op ≡ 2 → Means ms vars l to (drops (l .from) to)
+  means-bind : l .op ≡ 3 → Means ms vars l to (bind (l .arg) (l .from) to)
+  means-constant : l .op ≡ 4 → Means ms vars l to (test (asConstant (l .con)) (l .from) to)
+  means-integer : l .op ≡ 5 → Means ms vars l to (test (asValue integer (l .arg) (l .con)) (l .from) to)
+  means-value : (m : Matcher) → l .op ≡ 6 → isInteger m ≡ false → MatcherAt ms (l .mat) m → Means ms vars l to (test (asValue m (l .arg) (l .con)) (l .from) to)
+  means-nil : (m : Matcher) → l .op ≡ 7 → Means ms vars l to (test (asNil m) (l .from) to)
+  means-list : (m : Matcher) → l .op ≡ 8 → Means ms vars l to (split (listCons m))
+  means-multiset : (m : Matcher) → l .op ≡ 9 → Means ms vars l to (split (multisetCons m))
+  means-join : (m : Matcher) → l .op ≡ 10 → Means ms vars l to (split (joins m))
+  means-tuple : (n : ℕ) → l .op ≡ 11 + n → n ≤ 2 → Means ms vars l to (apart n)
+  means-keep : l .op ≡ 14 → Means ms vars l to keep
+  means-choice : l .op ≡ 15 → Means ms vars l to (choice to)
+  means-deny : l .op ≡ 16 → Means ms vars l to (deny (l .from) to)
+  means-cut : l .op ≡ 17 → Means ms vars l to (cutAt (l .from))
+  means-other : l .op ≡ 18 → Means ms vars l to other
+  means-close : l .op ≡ 19 → Means ms vars l to close
+
+-- The place that an instruction names.
+unfoldable pub Leads : (to : ℕ) → Instr → Type 0
+Leads to strip = Unit {0}
+Leads to keep = Unit {0}
+Leads to other = Unit {0}
+Leads to close = Unit {0}
+Leads to (drops f t) = t ≡ to
+Leads to (bind n f t) = t ≡ to
+Leads to (test s f t) = t ≡ to
+Leads to (split k) = Unit {0}
+Leads to (apart n) = Unit {0}
+Leads to (choice t) = t ≡ to
+Leads to (deny f t) = t ≡ to
+Leads to (cutAt j) = Unit {0}
+Leads to (end n) = Unit {0}

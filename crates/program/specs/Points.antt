@@ -1,5 +1,5 @@
 -- Document 01, section 4, as a program: its instructions, what is to do at each of its places, and what an instruction makes of it.
-use Prim.Native.Nat.{ℕ, zero, suc, _≤_}
+use Prim.Native.Nat.{ℕ, zero, suc, _+_, _<_, _≤_}
 use mathlib.Core.Path.{_≡_, refl, ap}
 use mathlib.Core.Bool.{Bool, true, false}
 use mathlib.Core.Option.{some}
@@ -7,16 +7,17 @@ use mathlib.Core.List.{List, [], _∷_, _++_, map}
 use lib.ListN.{length, getElem?}
 use lib.IntN.{ℤ, pos}
 use Rattle.rules.specs.Forms.{Matcher, something, integer, list, multiset, tupleOf, Matchers, noMatchers, _▸ᵐ_, countᵐ, Value}
-use Rattle.rules.specs.Forms.{Pattern, wildcard, nil, variable, constant, value, cons, join, tuple, Patterns, noPatterns, _▸ᵖ_, countᵖ}
+use Rattle.rules.specs.Forms.{Pattern, wildcard, nil, variable, constant, value, cons, join, tuple, both, either, never, Patterns, noPatterns, _▸ᵖ_, countᵖ}
 use Rattle.rules.specs.Fit.{element, takes, solid, sameShape, isSomething}
 use Rattle.rules.specs.Equality.{Bindings, isConstant, isValue, isEmpty}
-use Rattle.rules.specs.Search.{Halves, consHalves, joinHalves, Atom, atom, State, state, dropIf, after}
+use Rattle.rules.specs.Search.{Halves, consHalves, joinHalves, Atom, atom, cut, State, state, dropIf, after, cutBack}
 
--- What follows a state.
-unfoldable pub follow : State → List State
-unfolding after
-follow (state [] e) = []
-follow (state (atom p m v ∷ older) e) = after p m v older e
+-- What waits when a state has been taken up and `ss` waited behind it.
+unfoldable pub resume : State → List State → List State
+unfolding after cutBack
+resume (state g [] e) ss = ss
+resume (state g (cut ∷ older) e) ss = cutBack ss
+resume (state g (atom p m v ∷ older) e) ss = after p m v older e ++ ss
 
 -- ---- The ways in which an atom is divided into two, each with the matcher that it stands under.
 pub data Kind : Type 0 where
@@ -45,7 +46,7 @@ halves (joins m) v = joinHalves v
 
 unfoldable pub branch : Kind → Pattern → Pattern → List Atom → Bindings → Halves → State
 unfolding over firstBy
-branch k p q older e h = state (atom p (firstBy k) (h .first) ∷ atom q (over k) (h .second) ∷ older) e
+branch k p q older e h = state false (atom p (firstBy k) (h .first) ∷ atom q (over k) (h .second) ∷ older) e
 
 pub after-whole : (k : Kind) (p q : Pattern) (v : Value) (older : List Atom) (e : Bindings)
     → after (whole k p q) (over k) v older e ≡ map (branch k p q older e) (halves k v)
@@ -96,48 +97,115 @@ pub data Loose : Pattern → Type 0 where
   loose-variable : {x : ℤ} → Loose (variable x)
 
 pub after-loose : {p : Pattern} → Loose p → (m : Matcher) (v : Value) (older : List Atom) (e : Bindings) → isSomething m ≡ false
-    → after p m v older e ≡ state (atom p something v ∷ older) e ∷ []
+    → after p m v older e ≡ state false (atom p something v ∷ older) e ∷ []
 unfolding after
-after-loose loose-wildcard m v older e h = ap (λ b. elim b as (λ _. List State) [ true ↦ state older e ∷ [] | false ↦ state (atom wildcard something v ∷ older) e ∷ [] ]) h
+after-loose loose-wildcard m v older e h = ap (λ b. elim b as (λ _. List State) [ true ↦ state false older e ∷ [] | false ↦ state false (atom wildcard something v ∷ older) e ∷ [] ]) h
 after-loose (loose-variable {x}) m v older e h =
-    ap (λ b. elim b as (λ _. List State) [ true ↦ state older (e ++ (v ∷ [])) ∷ [] | false ↦ state (atom (variable x) something v ∷ older) e ∷ [] ]) h
+    ap (λ b. elim b as (λ _. List State) [ true ↦ state false older (e ++ (v ∷ [])) ∷ [] | false ↦ state false (atom (variable x) something v ∷ older) e ∷ [] ]) h
 
--- ---- Instructions. One instruction is one state taken up. `from`, last in those that drop an atom, is the slot of the value for the next atom. A tuple
--- has as many places reserved after it as it has parts beyond two.
+-- ---- Instructions. One instruction is one state taken up. Those that drop an atom end with the slot of the value for the next atom (`from`) and that
+-- atom's place (`to`). A tuple has as many places reserved after it as it has parts beyond two. `other`
+-- stands between the two sides of an or and `close` after the second: no state stands there.
 pub data Instr : Type 0 where
-  strip : Instr
-  drop : ℕ → Instr
-  bind : ℕ → ℕ → Instr
-  test : Test → ℕ → Instr
+  strip keep other close : Instr
+  drop : (from to : ℕ) → Instr
+  bind : (number from to : ℕ) → Instr
+  test : Test → (from to : ℕ) → Instr
   split : Kind → Instr
   apart : (reserved : ℕ) → Instr
+  choice : (to : ℕ) → Instr
+  deny : (from to : ℕ) → Instr
+  cutAt : (j : ℕ) → Instr
   end : ℕ → Instr
 
 -- ---- What is to do at a place of the program: the matchers of the variables bound so far, the first atom's pattern with the matcher that it is under now
--- and the one that its tag stands under, and the later atoms, each with the slot where its value waits. Nothing is to do at the last place, and no state
--- stands beyond it, nor at a place that is reserved: there only the slot is used, and P is to do at the next place.
+-- and the one that its tag stands under, and what waits.
+
+-- What waits: a later atom, with the slot where its value waits; the second side of an or, q under m, when the first is at its end; the end of an or, when
+-- its second side is; the end of the search inside the not at the place j.
 pub data Item : Type 0 where
   item : Pattern → Matcher → ℕ → Item
+  orElse : (q : Pattern) → Matcher → Item
+  endOr : Item
+  stop : (j : ℕ) → Item
 
+-- No state stands between the two sides of an or (`elsePlace`), after the second (`endPlace`), nor at a place that is reserved: there only the slot is
+-- used, and P is to do at the next place. At `cutting` the search inside the not at j has found its row. Nothing is to do at the last place, and no state
+-- stands beyond it.
 pub data Point : Type 0 where
   point : List Matcher → Pattern → Matcher → Matcher → List Item → Point
+  elsePlace : List Matcher → (q : Pattern) → Matcher → List Item → Point
+  endPlace : List Matcher → List Item → Point
+  cutting : List Matcher → (j : ℕ) → List Item → Point
   finish : List Matcher → Point
   reserve : (P : Point) → Point
   beyond : Point
 
+-- What is to do when an atom has been dropped and `ts` wait. A side of an or that is at its end goes on after the or.
 unfoldable pub enter : List Matcher → List Item → Point
 enter ms [] = finish ms
 enter ms (item p m c ∷ ts) = point ms p m m ts
+enter ms (orElse q m ∷ ts) = enter ms ts
+enter ms (endOr ∷ ts) = enter ms ts
+enter ms (stop j ∷ ts) = cutting ms j ts
 
 unfoldable pub from : List Item → ℕ
 from [] = 0
 from (item p m c ∷ ts) = c
+from (orElse q m ∷ ts) = from ts
+from (endOr ∷ ts) = from ts
+from (stop j ∷ ts) = j
 
 unfoldable pub known : Point → List Matcher
 known (point ms p m k ts) = ms
+known (elsePlace ms q m ts) = ms
+known (endPlace ms ts) = ms
+known (cutting ms j ts) = ms
 known (finish ms) = ms
 known (reserve P) = known P
 known beyond = []
+
+-- The not inside which a place is: 0 none, j + 1 the one at j.
+unfoldable pub within : List Item → ℕ
+within [] = 0
+within (item p m c ∷ ts) = within ts
+within (orElse q m ∷ ts) = within ts
+within (endOr ∷ ts) = within ts
+within (stop j ∷ ts) = suc j
+
+unfoldable pub inside : Point → ℕ
+unfolding within
+inside (point ms p m k ts) = within ts
+inside (elsePlace ms q m ts) = within ts
+inside (endPlace ms ts) = within ts
+inside (cutting ms j ts) = suc j
+inside (finish ms) = 0
+inside (reserve P) = inside P
+inside beyond = 0
+
+-- What is to do at the next place of the program: the markers have places of their own.
+unfoldable pub beside : List Matcher → List Item → Point
+beside ms [] = finish ms
+beside ms (item p m c ∷ ts) = point ms p m m ts
+beside ms (orElse q m ∷ ts) = elsePlace ms q m ts
+beside ms (endOr ∷ ts) = endPlace ms ts
+beside ms (stop j ∷ ts) = cutting ms j ts
+
+pub known-enter : (ms : List Matcher) (ts : List Item) → known (enter ms ts) ≡ ms
+unfolding known enter
+known-enter ms [] = refl
+known-enter ms (item p m c ∷ ts) = refl
+known-enter ms (orElse q m ∷ ts) = known-enter ms ts
+known-enter ms (endOr ∷ ts) = known-enter ms ts
+known-enter ms (stop j ∷ ts) = refl
+
+pub inside-enter : (ms : List Matcher) (ts : List Item) → inside (enter ms ts) ≡ within ts
+unfolding inside enter within
+inside-enter ms [] = refl
+inside-enter ms (item p m c ∷ ts) = refl
+inside-enter ms (orElse q m ∷ ts) = inside-enter ms ts
+inside-enter ms (endOr ∷ ts) = inside-enter ms ts
+inside-enter ms (stop j ∷ ts) = refl
 
 -- P after so many places that are reserved.
 unfoldable pub reserved : ℕ → Point → Point
@@ -160,24 +228,36 @@ items (p ▸ᵖ ps) ks c ts = item p (firstOf ks) c ∷ items ps (othersOf ks) (
 
 -- "One state follows with k atoms in order": the first part is to do, and the others wait in the slots of the tuple's place and of those reserved after it.
 unfoldable pub parted : List Matcher → Patterns → Matchers → (pc : ℕ) → List Item → Point
-unfolding enter firstOf othersOf items
-parted ms noPatterns ks pc ts = enter ms ts
+unfolding beside firstOf othersOf items
+parted ms noPatterns ks pc ts = beside ms ts
 parted ms (p ▸ᵖ ps) ks pc ts = point ms p (firstOf ks) (firstOf ks) (items ps (othersOf ks) pc ts)
 
--- What the instruction at pc makes of what is to do there.
-pub data Follows (pc : ℕ) : Instr → Point → Point → Type 0 where
+-- What the instruction at pc asks of the places at which the states that follow stand, `points` being what is to do at each.
+pub data Follows (points : ℕ → Point) (pc : ℕ) : Instr → Point → Type 0 where
   strips : {ms : List Matcher} {p : Pattern} {m : Matcher} {ts : List Item} → Loose p → isSomething m ≡ false
-      → Follows pc strip (point ms p m m ts) (point ms p something m ts)
-  drops : {ms : List Matcher} {m : Matcher} {ts : List Item} → Follows pc (drop (from ts)) (point ms wildcard something m ts) (enter ms ts)
-  binds : {ms : List Matcher} {x : ℤ} {m : Matcher} {ts : List Item}
-      → Follows pc (bind (length ms) (from ts)) (point ms (variable x) something m ts) (enter (ms ++ (m ∷ [])) ts)
-  tests : {ms : List Matcher} {ts : List Item} (t : Test) → Sound t ms
-      → Follows pc (test t (from ts)) (point ms (tested t) (testBy t) (testBy t) ts) (enter ms ts)
+      → points (suc pc) ≡ point ms p something m ts → Follows points pc strip (point ms p m m ts)
+  drops : {ms : List Matcher} {m : Matcher} {ts : List Item} {to : ℕ} → pc < to → points to ≡ enter ms ts
+      → Follows points pc (drop (from ts) to) (point ms wildcard something m ts)
+  binds : {ms : List Matcher} {x : ℤ} {m : Matcher} {ts : List Item} {to : ℕ} → pc < to → points to ≡ enter (ms ++ (m ∷ [])) ts
+      → Follows points pc (bind (length ms) (from ts) to) (point ms (variable x) something m ts)
+  tests : {ms : List Matcher} {ts : List Item} {to : ℕ} (t : Test) → Sound t ms → pc < to → points to ≡ enter ms ts
+      → Follows points pc (test t (from ts) to) (point ms (tested t) (testBy t) (testBy t) ts)
   splits : {ms : List Matcher} {ts : List Item} (k : Kind) (p q : Pattern)
-      → Follows pc (split k) (point ms (whole k p q) (over k) (over k) ts) (point ms p (firstBy k) (firstBy k) (item q (over k) pc ∷ ts))
+      → points (suc pc) ≡ point ms p (firstBy k) (firstBy k) (item q (over k) pc ∷ ts)
+      → Follows points pc (split k) (point ms (whole k p q) (over k) (over k) ts)
   aparts : {ms : List Matcher} {ts : List Item} (p q : Pattern) (ps : Patterns) (m k : Matcher) (ks : Matchers) → countᵖ ps ≡ countᵐ ks → countᵖ ps ≤ 2
-      → Follows pc (apart (countᵖ ps)) (point ms (tuple (p ▸ᵖ q ▸ᵖ ps)) (tupleOf (m ▸ᵐ k ▸ᵐ ks)) (tupleOf (m ▸ᵐ k ▸ᵐ ks)) ts)
-      (reserved (countᵖ ps) (point ms p m m (item q k pc ∷ items ps ks (suc pc) ts)))
-  reserves : {P : Point} → Follows pc strip (reserve P) P
-  ends : {ms : List Matcher} → Follows pc (end (length ms)) (finish ms) beyond
-  after-end : Follows pc (end 0) beyond beyond
+      → points (suc (pc + countᵖ ps)) ≡ point ms p m m (item q k pc ∷ items ps ks (suc pc) ts)
+      → Follows points pc (apart (countᵖ ps)) (point ms (tuple (p ▸ᵖ q ▸ᵖ ps)) (tupleOf (m ▸ᵐ k ▸ᵐ ks)) (tupleOf (m ▸ᵐ k ▸ᵐ ks)) ts)
+  keeps : {ms : List Matcher} {m : Matcher} {ts : List Item} (p q : Pattern)
+      → points (suc pc) ≡ point ms p m m (item q m pc ∷ ts) → Follows points pc keep (point ms (both p q) m m ts)
+  chooses : {ms : List Matcher} {m : Matcher} {ts : List Item} {to : ℕ} (p q : Pattern) → pc < to
+      → points (suc pc) ≡ point ms p m m (orElse q m ∷ ts) → points to ≡ point ms q m m (endOr ∷ ts)
+      → Follows points pc (choice to) (point ms (either p q) m m ts)
+  denies : {ms : List Matcher} {m : Matcher} {ts : List Item} {to : ℕ} (p : Pattern) → pc < to
+      → points (suc pc) ≡ point ms p m m (stop pc ∷ ts) → points to ≡ enter ms ts → Follows points pc (deny (from ts) to) (point ms (never p) m m ts)
+  cuts : {ms : List Matcher} {j : ℕ} {ts : List Item} → Follows points pc (cutAt j) (cutting ms j ts)
+  elses : {ms : List Matcher} {q : Pattern} {m : Matcher} {ts : List Item} → Follows points pc other (elsePlace ms q m ts)
+  closes : {ms : List Matcher} {ts : List Item} → Follows points pc close (endPlace ms ts)
+  reserves : {P : Point} → Follows points pc strip (reserve P)
+  ends : {ms : List Matcher} → Follows points pc (end (length ms)) (finish ms)
+  after-end : Follows points pc (end 0) beyond

@@ -9,7 +9,7 @@ ghost use Prim.Native.Nat.{suc, _+_, _<_, _≤_};
 ghost use lib.ListN.{length, drop};
 ghost use lib.IntN.{pos};
 ghost use Rattle.words.specs.Words.{entries};
-ghost use Rattle.program.specs.Lines.{line, reservedLines, stripLines, leafLine, binding, columns, written, laid};
+ghost use Rattle.program.specs.Lines.{line, reservedLines, stripLines, leafLine, columns, written, laid};
 
 // One line.
 pub fn put(
@@ -106,14 +106,6 @@ pub fn leaf(
     q + 1
 }
 
-// How many variables there are with this one.
-pub fn counted(n: usize, o: u8) -> usize
-    requires { ⌜ n < 1000 ⌝ }
-    ensures { λ r. ⌜ r ≡ n + binding o ⌝ }
-{
-    if o == 3 { n + 1 } else { n }
-}
-
 // The lines that are reserved: the place after them.
 pub fn reserve(
     e: u8,
@@ -141,6 +133,7 @@ pub fn reserve(
 pub fn divide(
     o: u8,
     e: u8,
+    f: u16,
     i: u8,
     pc: usize,
     op: &mut [u8; ENTRIES],
@@ -150,8 +143,8 @@ pub fn divide(
     con: &mut [i32; ENTRIES],
 ) -> usize
     requires { ⌜ suc pc + e < entries ⌝ ∗ ⌜ o + e < 256 ⌝ }
-    ensures { λ r. ⌜ r ≡ suc pc + e ⌝ ∗ ⌜ columns (now (op .exit)) (now (from .exit)) (now (arg .exit)) (now (mat .exit)) (now (con .exit)) ≡ laid pc (line (o + e) 0 0 i (pos 0) ∷ reservedLines e) (columns (now (op .entry)) (now (from .entry)) (now (arg .entry)) (now (mat .entry)) (now (con .entry))) ⌝ }
+    ensures { λ r. ⌜ r ≡ suc pc + e ⌝ ∗ ⌜ columns (now (op .exit)) (now (from .exit)) (now (arg .exit)) (now (mat .exit)) (now (con .exit)) ≡ laid pc (line (o + e) f 0 i (pos 0) ∷ reservedLines e) (columns (now (op .entry)) (now (from .entry)) (now (arg .entry)) (now (mat .entry)) (now (con .entry))) ⌝ }
 {
-    put(pc, o + e, 0, 0, i, 0, op, from, arg, mat, con);
+    put(pc, o + e, f, 0, i, 0, op, from, arg, mat, con);
     reserve(e, pc + 1, op, from, arg, mat, con)
 }

@@ -1,10 +1,12 @@
 // The matchers of parts, and the parts that wait: three arrays up to a depth, one for each number of a part.
 use matchers::matcher_end;
 ghost use mathlib.Core.Path.{_≡_};
+ghost use mathlib.Core.Bool.{cond};
 ghost use Prim.Native.Nat.{_+_, _<_, _≤_};
 ghost use lib.ListN.{getD};
+ghost use lib.Dec.{eqb};
 ghost use Rattle.matchers.specs.Places.{matcherEnd};
-ghost use Rattle.program.specs.Lines.{firstUnder, secondUnder};
+ghost use Rattle.program.specs.Lines.{behindBy, firstUnder, secondUnder};
 ghost use Rattle.program.specs.Stack.{stack, popped};
 
 // A matcher's index.
@@ -25,9 +27,12 @@ pub fn end_of(m: &[i32], i: u8) -> u8
 
 // The matcher of a first part.
 pub fn first_under(o: u8, i: u8) -> u8
-    requires { ⌜ ((o ≡ 10 → ⊥) → i + 2 < 256) ⌝ }
+    requires { ⌜ ((o ≡ 10 → ⊥) → o ≤ 13 → i + 2 < 256) ⌝ }
     ensures { λ r. ⌜ r ≡ firstUnder o i ⌝ }
 {
+    if 13 < o {
+        return i;
+    }
     if o == 10 {
         return i;
     }
@@ -39,13 +44,38 @@ pub fn first_under(o: u8, i: u8) -> u8
 
 // The matcher of a second part.
 pub fn second_under(m: &[i32], o: u8, i: u8) -> u8
-    requires { do ⌜ (← ⟦m.len()⟧) ≤ 64 ⌝ ∗ ⌜ ((o ≡ 10 → ⊥) → i + 2 < 256) ⌝ }
+    requires { do ⌜ (← ⟦m.len()⟧) ≤ 64 ⌝ ∗ ⌜ ((o ≡ 10 → ⊥) → o ≤ 13 → i + 2 < 256) ⌝ }
     ensures { λ r. ⌜ r ≡ secondUnder (now (m .entry)) o i ⌝ }
 {
     if o == 11 {
         return end_of(m, i + 2);
     }
     i
+}
+
+// The slot of the value for the atom after a not, f being that of what waits.
+pub fn from_by(o: u8, f: u16) -> u16
+    ensures { λ r. ⌜ r ≡ cond (eqb o 16) f 0 ⌝ }
+{
+    if o == 16 { f } else { 0 }
+}
+
+// The slot and the number of what waits after a tag with parts, e places being reserved.
+pub fn slot_by(o: u8, pc: usize, f: u16) -> u16
+    requires { ⌜ pc < 1000 ⌝ }
+    ensures { λ r. ⌜ r ≡ cond (eqb o 15) f pc ⌝ }
+{
+    if o == 15 { f } else { pc as u16 }
+}
+
+pub fn behind_by(o: u8, e: u8) -> u8
+    ensures { λ r. ⌜ r ≡ behindBy o e ⌝ }
+{
+    match o {
+        15 => 3,
+        16 => 5,
+        _ => e,
+    }
 }
 
 // The part that waits at a depth waits no longer: the depth of what waits then.
@@ -62,6 +92,10 @@ pub fn pop(
     let n = behind[depth];
     if n == 0 {
         return depth - 1;
+    }
+    if n == 3 {
+        behind[depth] = 4;
+        return depth;
     }
     let i = under[depth];
     let c = slots[depth];

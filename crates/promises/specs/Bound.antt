@@ -1,26 +1,26 @@
 -- Review's count bounds the steps, and the product of the factors bounds the rows, where the value fits and no collection has more elements than the cap.
 use Prim.Native.Nat.{ℕ, suc, _+_, _*_, _≤_}
 use native.Mathlib.Omega.{arith}
-use native.Mathlib.Nat.{le-trans, mul-le-mul-right, mul-one, mul-assoc}
+use native.Mathlib.Nat.{le-refl, le-trans, mul-le-mul-right}
 use mathlib.Core.Path.{_≡_, refl, sym, ap, _∙_}
 use mathlib.Core.Bool.{Bool, true, false, cond}
-use mathlib.Core.List.{List, [], _∷_, _++_, flatMap, append-nil, append-assoc}
-use lib.ListN.{length, length-map}
+use mathlib.Core.List.{List, [], _∷_, _++_, map, flatMap}
+use lib.ListN.{length, length-append, length-map}
 use Rattle.rules.specs.Forms.{Matcher, something, integer, list, multiset, tupleOf, Matchers, noMatchers, _▸ᵐ_}
-use Rattle.rules.specs.Forms.{Pattern, wildcard, nil, variable, constant, value, cons, join, tuple, Patterns, noPatterns, _▸ᵖ_}
+use Rattle.rules.specs.Forms.{Pattern, wildcard, nil, variable, constant, value, cons, join, tuple, both, either, never, Patterns, noPatterns, _▸ᵖ_}
 use Rattle.rules.specs.Forms.{Value, int, collection, tupled, Values, empty, _▸_, count}
 use Rattle.rules.specs.Fit.{element, members, isSomething}
 use Rattle.rules.specs.Equality.{Bindings, isConstant, isValue, isEmpty, picks, behind}
 use Rattle.rules.specs.Search.{cuts, longer, Halves, consHalves, joinHalves, start}
 use Rattle.rules.specs.Ways.{Way}
-use Rattle.rules.specs.Review.{Weight, weight, leafSteps, consFactor, weights, weightsAll, total, formula}
+use Rattle.rules.specs.Review.{leafSteps, consFactor, factor, factorAll, summed, summedAll, formula}
 use Rattle.promises.specs.Written.{largest, largestOf}
 use Rattle.promises.specs.Parts.{Parts, cons-parts, join-parts, part-largest}
 use Rattle.promises.specs.Suited.{Suits, SuitsEach, cons-suits, join-suits, tuple-suits}
-use Rattle.promises.specs.Lists.{Mem, length-flatMap-le}
-use Rattle.promises.specs.Solve.{Solution, up, numbered, isMultiset, mark, chain, combine, just, whenSo, solve, solveEach}
-use Rattle.promises.specs.Choices.{in-numbered}
-use Rattle.promises.specs.Trace.{Taken, passed, found, onlyIf, visit, visitEach, trace}
+use Rattle.rules.specs.Lists.{Mem, length-flatMap-le}
+use Rattle.rules.specs.Following.{Solution, up, numbered, isMultiset, mark, chain, onSide, combine, just, whenSo, none, solve, solveEach}
+use Rattle.rules.specs.Choices.{in-numbered}
+use Rattle.promises.specs.Trace.{Taken, found, Met, taken, ended, pass, onlyIf, inside, visit, visitEach, met, close, trace}
 
 -- ---- A cons or a join has no more choices than its factor says.
 
@@ -87,30 +87,39 @@ unfoldable mutual
   horner most (cons p q) m k = 1 + consFactor most m * horner most p (element m) (horner most q m k)
   horner most (join p q) m k = 1 + suc most * horner most p m (horner most q m k)
   horner most (tuple ps) m k = 1 + hornerEach most ps (members m) k
+  horner most (both p q) m k = 1 + horner most p m (horner most q m k)
+  horner most (either p q) m k = 1 + (horner most p m k + horner most q m k)
+  horner most (never p) m k = 1 + (horner most p m 1 + k)
 
   pub hornerEach : ℕ → Patterns → Matchers → ℕ → ℕ
   hornerEach most noPatterns ms k = k
   hornerEach most (p ▸ᵖ ps) noMatchers k = k
   hornerEach most (p ▸ᵖ ps) (m ▸ᵐ ms) k = horner most p m (hornerEach most ps ms k)
 
-leaf-cost : (b : Bool) (ts : List Taken) (n : ℕ) → length ts ≤ n
-    → suc (length {A = Taken} (elim b as (λ _. List Taken) [ true ↦ ts | false ↦ passed ∷ ts ])) ≤ cond b 1 2 + n
+leaf-cost : (b : Bool) (ts : List Met) (n : ℕ) → length ts ≤ n
+    → suc (length {A = Met} (elim b as (λ _. List Met) [ true ↦ ts | false ↦ pass ∷ ts ])) ≤ cond b 1 2 + n
 leaf-cost true ts n h = omega arith
 leaf-cost false ts n h = omega arith
 
-test-cost : (b : Bool) (ts : List Taken) (n : ℕ) → length ts ≤ n → suc (length (onlyIf b ts)) ≤ 1 + n
+test-cost : (b : Bool) (ts : List Met) (n : ℕ) → length ts ≤ n → suc (length (onlyIf b ts)) ≤ 1 + n
 unfolding onlyIf
 test-cost true ts n h = omega arith
 test-cost false ts n h = omega arith
 
-both-cost : (f : Halves → List Taken) (hs : List Halves) (a n : ℕ) → length hs ≤ a → ((h : Halves) → Mem h hs → length (f h) ≤ n)
+both-cost : (f : Halves → List Met) (hs : List Halves) (a n : ℕ) → length hs ≤ a → ((h : Halves) → Mem h hs → length (f h) ≤ n)
     → suc (length (flatMap f hs)) ≤ 1 + a * n
 both-cost f hs a n i j = omega (arith, length-flatMap-le f n hs j, mul-le-mul-right n i)
+
+inside-cost : (ms ns : List Met) (a n : ℕ) → length ms ≤ a → length ns ≤ n → length (inside ms ns) ≤ a + n
+unfolding inside
+inside-cost [] ns a n h k = omega arith
+inside-cost (taken t ∷ ms) ns a n h k = omega (arith, inside-cost ms ns (length ms) n (le-refl (length ms)) k)
+inside-cost (ended ∷ ms) ns a n h k = omega arith
 
 mutual
   unfolding visit horner largest Suits
 
-  pub visit-cost : (most : ℕ) (p : Pattern) (m : Matcher) (v : Value) (e : Bindings) (k : Bindings → List Taken) (n : ℕ)
+  pub visit-cost : (most : ℕ) (p : Pattern) (m : Matcher) (v : Value) (e : Bindings) (k : Bindings → List Met) (n : ℕ)
       → Fine most m v → ((d : Bindings) → length (k d) ≤ n) → length (visit p m v e k) ≤ horner most p m n
   visit-cost most wildcard m v e k n s h = leaf-cost (isSomething m) (k e) n (h e)
   visit-cost most nil m v e k n s h = test-cost (isEmpty v) (k e) n (h e)
@@ -127,8 +136,16 @@ mutual
   visit-cost most (tuple ps) m (collection vs) e k n s h = omega arith
   visit-cost most (tuple ps) m (tupled vs) e k n s h =
       omega (arith, visit-each-cost most ps (members m) vs e k n (tuple-suits m vs (s .0), s .1) h)
+  visit-cost most (both p q) m v e k n s h = omega (arith, visit-cost most p m v e (λ d. visit q m v d k) (horner most q m n) s (λ d. visit-cost most q m v d k n s h))
+  visit-cost most (either p q) m v e k n s h =
+      omega (arith, length-append (visit p m v e k) (visit q m v e k), visit-cost most p m v e k n s h, visit-cost most q m v e k n s h)
+  visit-cost most (never p) m v e k n s h = omega (
+    arith,
+    inside-cost (visit p m v e (λ d. ended ∷ [])) (k e) (horner most p m 1) n
+        (visit-cost most p m v e (λ d. ended ∷ []) 1 s (λ d. omega arith)) (h e),
+  )
 
-  visit-each-cost : (most : ℕ) (ps : Patterns) (ms : Matchers) (vs : Values) (e : Bindings) (k : Bindings → List Taken) (n : ℕ)
+  visit-each-cost : (most : ℕ) (ps : Patterns) (ms : Matchers) (vs : Values) (e : Bindings) (k : Bindings → List Met) (n : ℕ)
       → FineEach most ms vs → ((d : Bindings) → length (k d) ≤ n) → length (visitEach ps ms vs e k) ≤ hornerEach most ps ms n
   visit-each-cost most noPatterns ms vs e k n s h = h e
   visit-each-cost most (p ▸ᵖ ps) noMatchers vs e k n s h = h e
@@ -138,57 +155,52 @@ mutual
 
 -- ---- Review's formula is that cost.
 
-nested : List Weight → ℕ
-nested [] = 1
-nested (t ∷ ts) = t .steps + t .factor * nested ts
-
-total-nested : (a : ℕ) (ts : List Weight) → total a ts ≡ a * nested ts
-unfolding total nested
-total-nested a [] = sym (mul-one a)
-total-nested a (t ∷ ts) = omega (arith, total-nested (a * t .factor) ts)
-
 mutual
-  unfolding horner weights nested weight
+  unfolding horner summed factor
 
-  horner-nested : (most : ℕ) (p : Pattern) (m : Matcher) (ts : List Weight) → horner most p m (nested ts) ≡ nested (weights most p m ++ ts)
-  horner-nested most wildcard m ts = omega arith
-  horner-nested most nil m ts = omega arith
-  horner-nested most (variable x) m ts = omega arith
-  horner-nested most (constant c) m ts = omega arith
-  horner-nested most (value x c) m ts = omega arith
-  horner-nested most (cons p q) m ts =
-      rw (append-assoc (weights most p (element m)) (weights most q m) ts, horner-nested most q m ts, horner-nested most p (element m) (weights most q m ++ ts))
-  horner-nested most (join p q) m ts =
-      rw (append-assoc (weights most p m) (weights most q m) ts, horner-nested most q m ts, horner-nested most p m (weights most q m ++ ts))
-  horner-nested most (tuple ps) m ts = omega (arith, horner-nested-each most ps (members m) ts)
+  horner-summed : (most : ℕ) (p : Pattern) (m : Matcher) (a k : ℕ) → a * horner most p m k ≡ summed most p m a + a * factor most p m * k
+  horner-summed most wildcard m a k = omega arith
+  horner-summed most nil m a k = omega arith
+  horner-summed most (variable x) m a k = omega arith
+  horner-summed most (constant c) m a k = omega arith
+  horner-summed most (value x c) m a k = omega arith
+  horner-summed most (cons p q) m a k = omega (
+    arith,
+    horner-summed most p (element m) (a * consFactor most m) (horner most q m k),
+    horner-summed most q m (a * consFactor most m * factor most p (element m)) k,
+  )
+  horner-summed most (join p q) m a k =
+      omega (arith, horner-summed most p m (a * suc most) (horner most q m k), horner-summed most q m (a * suc most * factor most p m) k)
+  horner-summed most (tuple ps) m a k = omega (arith, horner-summed-each most ps (members m) a k)
+  horner-summed most (both p q) m a k =
+      omega (arith, horner-summed most p m a (horner most q m k), horner-summed most q m (a * factor most p m) k)
+  horner-summed most (either p q) m a k = omega (arith, horner-summed most p m a k, horner-summed most q m a k)
+  horner-summed most (never p) m a k = omega (arith, horner-summed most p m a 1)
 
-  horner-nested-each : (most : ℕ) (ps : Patterns) (ms : Matchers) (ts : List Weight)
-      → hornerEach most ps ms (nested ts) ≡ nested (weightsAll most ps ms ++ ts)
-  horner-nested-each most noPatterns ms ts = refl
-  horner-nested-each most (p ▸ᵖ ps) noMatchers ts = refl
-  horner-nested-each most (p ▸ᵖ ps) (m ▸ᵐ ms) ts = ap (horner most p m) (horner-nested-each most ps ms ts)
-      ∙ horner-nested most p m (weightsAll most ps ms ++ ts) ∙ ap nested (sym (append-assoc (weights most p m) (weightsAll most ps ms) ts))
+  horner-summed-each : (most : ℕ) (ps : Patterns) (ms : Matchers) (a k : ℕ)
+      → a * hornerEach most ps ms k ≡ summedAll most ps ms a + a * factorAll most ps ms * k
+  horner-summed-each most noPatterns ms a k = omega arith
+  horner-summed-each most (p ▸ᵖ ps) noMatchers a k = omega arith
+  horner-summed-each most (p ▸ᵖ ps) (m ▸ᵐ ms) a k =
+      omega (arith, horner-summed most p m a (hornerEach most ps ms k), horner-summed-each most ps ms (a * factor most p m) k)
 
 pub horner-formula : (most : ℕ) (p : Pattern) (m : Matcher) → horner most p m 1 ≡ formula most p m
-unfolding formula nested
-horner-formula most p m = horner-nested most p m [] ∙ ap nested (append-nil (weights most p m)) ∙ sym (total-nested 1 (weights most p m) ∙ omega arith)
+unfolding formula
+horner-formula most p m = omega (arith, horner-summed most p m 1 1)
+
+close-cost : (ms : List Met) → length (close ms) ≤ length ms
+unfolding close
+close-cost [] = omega arith
+close-cost (taken t ∷ ms) = omega (arith, close-cost ms)
+close-cost (ended ∷ ms) = omega arith
 
 -- THE BOUND: the whole search has at most as many states as review says.
 pub steps-bound : (most : ℕ) (m : Matcher) (p : Pattern) (v : Value) → Fine most m v → length (trace (start m p v ∷ [])) ≤ formula most p m
-unfolding trace start
-steps-bound most m p v s = rw (← horner-formula most p m, append-nil (visit p m v [] (λ d. found d ∷ [])))
-    (visit-cost most p m v [] (λ d. found d ∷ []) 1 s (λ d. omega arith))
+unfolding trace met start
+steps-bound most m p v s = rw (← horner-formula most p m) (le-trans (close-cost (visit p m v [] (λ d. taken (found d) ∷ [])))
+    (visit-cost most p m v [] (λ d. taken (found d) ∷ []) 1 s (λ d. omega arith)))
 
 -- ---- The rows: the product of all factors bounds them.
-
-unfoldable pub product : List Weight → ℕ
-product [] = 1
-product (t ∷ ts) = t .factor * product ts
-
-product-append : (xs ys : List Weight) → product (xs ++ ys) ≡ product xs * product ys
-unfolding product
-product-append [] ys = omega arith
-product-append (x ∷ xs) ys = rw (product-append xs ys) (sym (mul-assoc (x .factor) (product xs) (product ys)))
 
 length-numbered : (hs : List Halves) → length (numbered hs) ≡ length hs
 unfolding numbered
@@ -215,31 +227,41 @@ when-count true e = omega arith
 when-count false e = omega arith
 
 mutual
-  unfolding solve weights weight product just largest Suits
+  unfolding solve factor just largest Suits
 
-  pub rows-bound : (most : ℕ) (p : Pattern) (m : Matcher) (v : Value) (e : Bindings) → Fine most m v → length (solve p m v e) ≤ product (weights most p m)
+  pub rows-bound : (most : ℕ) (p : Pattern) (m : Matcher) (v : Value) (e : Bindings) → Fine most m v → length (solve p m v e) ≤ factor most p m
   rows-bound most wildcard m v e s = omega arith
   rows-bound most nil m v e s = when-count (isEmpty v) e
   rows-bound most (variable x) m v e s = omega arith
   rows-bound most (constant c) m v e s = when-count (isConstant c v) e
   rows-bound most (value x c) m v e s = when-count (isValue m e x c v) e
-  rows-bound most (cons p q) m v e s = rw (product-append (weights most p (element m)) (weights most q m))
-      (combine-count (isMultiset m) (λ a. solve p (element m) a e) (λ a d. solve q m a d) (consHalves m v) _ _ _ (cons-count most m v (s .1))
+  rows-bound most (cons p q) m v e s =
+      combine-count (isMultiset m) (λ a. solve p (element m) a e) (λ a d. solve q m a d) (consHalves m v) _ _ _ (cons-count most m v (s .1))
       (λ h i. rows-bound most p (element m) (h .first) e (cons-fine most m v s h i .0))
-      (λ h i d. rows-bound most q m (h .second) d (cons-fine most m v s h i .1)))
-  rows-bound most (join p q) m v e s = rw (product-append (weights most p m) (weights most q m))
-      (combine-count true (λ a. solve p m a e) (λ a d. solve q m a d) (joinHalves v) _ _ _ (join-count most v (s .1))
+      (λ h i d. rows-bound most q m (h .second) d (cons-fine most m v s h i .1))
+  rows-bound most (join p q) m v e s =
+      combine-count true (λ a. solve p m a e) (λ a d. solve q m a d) (joinHalves v) _ _ _ (join-count most v (s .1))
       (λ h i. rows-bound most p m (h .first) e (join-fine most m v s h i .0))
-      (λ h i d. rows-bound most q m (h .second) d (join-fine most m v s h i .1)))
+      (λ h i d. rows-bound most q m (h .second) d (join-fine most m v s h i .1))
   rows-bound most (tuple ps) m (int x) e s = omega arith
   rows-bound most (tuple ps) m (collection vs) e s = omega arith
   rows-bound most (tuple ps) m (tupled vs) e s = omega (arith, rows-bound-each most ps (members m) vs e (tuple-suits m vs (s .0), s .1))
+  rows-bound most (both p q) m v e s = chain-count [] (solve p m v e) (λ d. solve q m v d) _ _ (rows-bound most p m v e s) (λ d. rows-bound most q m v d s)
+  rows-bound most (either p q) m v e s = omega (
+    arith,
+    length-append (map (onSide 0) (solve p m v e)) (map (onSide 1) (solve q m v e)),
+    length-map (solve p m v e) (onSide 0),
+    length-map (solve q m v e) (onSide 1),
+    rows-bound most p m v e s,
+    rows-bound most q m v e s,
+  )
+  rows-bound most (never p) m v e s = when-count (none (solve p m v e)) e
 
   rows-bound-each : (most : ℕ) (ps : Patterns) (ms : Matchers) (vs : Values) (e : Bindings) → FineEach most ms vs
-      → length (solveEach ps ms vs e) ≤ product (weightsAll most ps ms)
+      → length (solveEach ps ms vs e) ≤ factorAll most ps ms
   rows-bound-each most noPatterns ms vs e s = omega arith
   rows-bound-each most (p ▸ᵖ ps) noMatchers vs e s = omega arith
   rows-bound-each most (p ▸ᵖ ps) (m ▸ᵐ ms) empty e s = absurd (s .0)
-  rows-bound-each most (p ▸ᵖ ps) (m ▸ᵐ ms) (v ▸ vs) e s = rw (product-append (weights most p m) (weightsAll most ps ms))
-      (chain-count [] (solve p m v e) (λ d. solveEach ps ms vs d) _ _ (rows-bound most p m v e (s .0 .0, omega (arith, s .1)))
-      (λ d. rows-bound-each most ps ms vs d (s .0 .1, omega (arith, s .1))))
+  rows-bound-each most (p ▸ᵖ ps) (m ▸ᵐ ms) (v ▸ vs) e s =
+      chain-count [] (solve p m v e) (λ d. solveEach ps ms vs d) _ _ (rows-bound most p m v e (s .0 .0, omega (arith, s .1)))
+      (λ d. rows-bound-each most ps ms vs d (s .0 .1, omega (arith, s .1)))

@@ -13,7 +13,7 @@ use lib.IntN.{ℤ}
 use Rattle.rules.specs.Equality.{Bindings}
 use Rattle.rules.specs.Search.{row, Run, stopped, step, rowStep}
 use Rattle.promises.specs.Tests.{leb-true, leb-false}
-use Rattle.promises.specs.Lists.{flatMap-append}
+use Rattle.rules.specs.Lists.{flatMap-append}
 use Rattle.promises.specs.Trace.{Taken, passed, found, walk}
 use Rattle.promises.specs.Solve.{founds, founds-append}
 

@@ -9,7 +9,7 @@ use lib.ListN.{length, length-append}
 use lib.IntN.{ℤ}
 use Rattle.rules.specs.Forms.{Pattern, noPatterns, _▸ᵖ_}
 use Rattle.rules.specs.Reading.{Verdict, ok, fault, _then_, Got, Reader, give, _>>=_, known, entry, times, width}
-use Rattle.rules.specs.Reading.{PatternTag, alone, operand, operands, parts, wide, patternTags, patternParts, pattern}
+use Rattle.rules.specs.Reading.{PatternTag, alone, operand, operands, inner, parts, wide, patternTags, patternParts, pattern}
 use Rattle.promises.specs.Readers.{Sound, bind-ok, known-ok}
 use Rattle.promises.specs.ReadPattern.{pattern-sound}
 
@@ -70,6 +70,7 @@ unfolding patternParts
 parts-agree n r s f h (alone p) = same-agree n (give p)
 parts-agree n r s f h (operand k) = same-agree n (patternParts r (operand k))
 parts-agree n r s f h (operands k) = same-agree n (patternParts r (operands k))
+parts-agree n r s f h (inner k) = bind-agree n r s _ _ f h (λ p. same-agree n (give (k p)))
 parts-agree n r s f h (parts k) = bind-agree n r s _ _ f h (λ p. bind-agree n r s _ _ f h (λ q. same-agree n (give (k p q))))
 parts-agree n r s f h (wide k) = bind-agree n (known width) (known width) _ _ (known-shorter width) (same-agree n (known width))
     (λ i. bind-agree n (times noPatterns _▸ᵖ_ r i) (times noPatterns _▸ᵖ_ s i) _ _

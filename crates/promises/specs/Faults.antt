@@ -3,6 +3,7 @@ use Prim.Native.Nat.{ℕ, _≤_}
 use native.Mathlib.Omega.{arith}
 use mathlib.Core.Path.{_≡_, refl, sym, ap, _∙_, subst, subst₂}
 use mathlib.Core.Logic.{_↔_}
+use mathlib.Core.Bool.{true}
 use mathlib.Core.List.{List, [], _∷_}
 use lib.ListN.{length}
 use lib.IntN.{ℤ}
@@ -21,15 +22,15 @@ use Rattle.promises.specs.Trace.{Taken, trace, run-walks}
 pub data RuleFault (ms ps : List ℤ) : (answer place : ℕ) → Type 0 where
   notMatcher : {i : ℕ} → readMatcher ms ≡ fault i → RuleFault ms ps 1 i
   notPattern : {m : Matcher} {i : ℕ} → readMatcher ms ≡ ok m → readPattern ps ≡ fault i → RuleFault ms ps 2 i
-  misnumbered : {m : Matcher} {p : Pattern} {i : ℕ} → readMatcher ms ≡ ok m → readPattern ps ≡ ok p → variables p 0 0 ≡ fault i → RuleFault ms ps 3 i
-  misfit : {m : Matcher} {p : Pattern} {n i : ℕ} → readMatcher ms ≡ ok m → readPattern ps ≡ ok p → variables p 0 0 ≡ ok n → fits p m 0 [] ≡ fault i
+  misnumbered : {m : Matcher} {p : Pattern} {i : ℕ} → readMatcher ms ≡ ok m → readPattern ps ≡ ok p → variables p true 0 0 ≡ fault i → RuleFault ms ps 3 i
+  misfit : {m : Matcher} {p : Pattern} {n i : ℕ} → readMatcher ms ≡ ok m → readPattern ps ≡ ok p → variables p true 0 0 ≡ ok n → fits p m 0 [] ≡ fault i
       → RuleFault ms ps 4 i
 
 -- None of them.
 pub record WellFormed (ms ps : List ℤ) (r : Rule) : Type 0 where
   pub matcher : readMatcher ms ≡ ok (r .matcher)
   pub pattern : readPattern ps ≡ ok (r .pattern)
-  pub numbered : (n : ℕ) × (variables (r .pattern) 0 0 ≡ ok n)
+  pub numbered : (n : ℕ) × (variables (r .pattern) true 0 0 ≡ ok n)
   pub fitting : (ks : List Matcher) × (fits (r .pattern) (r .matcher) 0 [] ≡ ok ks)
 
 -- Answers 5 and 6 to a target under m.
@@ -58,7 +59,7 @@ unfolding RuleIs ruleOf
 rule-is ms ps =
     test-cases (RuleIs ms ps) 1 (readMatcher ms) _ (λ i e. notMatcher e) λ m a.
     test-cases (RuleIs ms ps) 2 (readPattern ps) _ (λ i e. notPattern a e) λ p b.
-    test-cases (RuleIs ms ps) 3 (variables p 0 0) _ (λ i e. misnumbered a b e) λ n c.
+    test-cases (RuleIs ms ps) 3 (variables p true 0 0) _ (λ i e. misnumbered a b e) λ n c.
     test-cases (RuleIs ms ps) 4 (fits p m 0 []) _ (λ i e. misfit a b c e) λ ks d.
     record { matcher = a; pattern = b; numbered = (n, c); fitting = (ks, d) }
 

@@ -1,10 +1,8 @@
 -- What the definitions promise: the theorems of the three demands. Read Main; the others hold the proofs.
 pub mod Tests
-pub mod Lists
 pub mod Trace
 pub mod Solve
-pub mod Choices
-pub mod GoodWays
+pub mod Nots
 pub mod Order
 pub mod Listing
 pub mod Paired

@@ -1,16 +1,16 @@
 -- A listing of the good ways is determined: two lists that are each the good ways in dictionary order are equal. So what section 5 says fixes the
 -- rows and their order, without the search.
 use native.Mathlib.Omega.{arith}
-use mathlib.Core.Path.{_≡_, refl, sym, ap₂, _∙_, subst}
-use mathlib.Core.Logic.{inl, inr, ⊎-elim}
-use mathlib.Core.List.{List, [], _∷_, List·Memᴰ·head, List·Memᴰ·tail, List·Memᴰ·not-nil, List·Memᴰ·cases-cons}
+use mathlib.Core.Path.{_≡_, refl, sym, ap, ap₂, _∙_, subst}
+use mathlib.Core.Logic.{_⊎_, inl, inr, ⊎-elim}
+use mathlib.Core.List.{List, [], _∷_, _++_, List·Memᴰ·head, List·Memᴰ·tail, List·Memᴰ·not-nil, List·Memᴰ·cases-cons}
 use Rattle.rules.specs.Forms.{Matcher, Pattern, Value}
 use Rattle.rules.specs.Equality.{Bindings}
 use Rattle.rules.specs.Ways.{Way, _≺_, Good}
-use Rattle.promises.specs.Lists.{Mem, Pairwise}
-use Rattle.promises.specs.Solve.{Solution, solve}
-use Rattle.promises.specs.GoodWays.{sound, complete}
-use Rattle.promises.specs.Order.{solve-increasing}
+use Rattle.rules.specs.Lists.{Mem, Pairwise}
+use Rattle.rules.specs.Following.{Solution, solve}
+use Rattle.rules.specs.Twin.{sound, complete}
+use Rattle.promises.specs.Order.{_≪_, Earlier, solve-in-order, solve-increasing}
 
 -- Two ways do not each come before the other.
 pub ≺-asym : (u w : Way) → u ≺ w → w ≺ u → ⊥
@@ -53,3 +53,36 @@ solve-listing m p v = record { increasing = solve-increasing p m v []; sound = s
 pub listing-unique : (m : Matcher) (p : Pattern) (v : Value) (ss ts : List Solution) → Listing m p v ss → Listing m p v ts → ss ≡ ts
 listing-unique m p v ss ts a b = in-order-unique (λ s t. s .way ≺ t .way) (λ s t. ≺-asym (s .way) (t .way)) ss ts (a .increasing) (b .increasing)
     (λ z i. b .complete (z .way) (z .bound) (a .sound z i)) (λ z i. a .complete (z .way) (z .bound) (b .sound z i))
+
+-- ---- No good way is the beginning of another.
+
+≪-longer : (u x : Way) → u ≪ (u ++ x) → ⊥
+≪-longer [] x h = h
+≪-longer (a ∷ u) x (inl h) = omega arith
+≪-longer (a ∷ u) x (inr h) = ≪-longer u x (h .1)
+
+longer-≪ : (u x : Way) → (u ++ x) ≪ u → ⊥
+longer-≪ [] [] h = h
+longer-≪ [] (b ∷ x) h = h
+longer-≪ (a ∷ u) x (inl h) = omega arith
+longer-≪ (a ∷ u) x (inr h) = longer-≪ u x (h .1)
+
+no-longer : (u x : Way) → u ≡ u ++ x → x ≡ []
+no-longer [] x e = sym e
+no-longer (a ∷ u) x e = no-longer u x (cc e)
+
+-- Two members of a list in order are the same, or one comes before the other.
+two-members : {A : Type 0} (R : A → A → Type 0) (xs : List A) → Pairwise R xs → (a b : A) → Mem a xs → Mem b xs → (a ≡ b) ⊎ (R a b ⊎ R b a)
+two-members R [] p a b i j = absurd (List·Memᴰ·not-nil i)
+two-members R (x ∷ xs) p a b i j = ⊎-elim
+    (λ e. ⊎-elim (λ f. inl (e ∙ sym f)) (λ n. inr (inl (subst (λ y. R y b) (sym e) (p .0 b n)))) (List·Memᴰ·cases-cons j))
+    (λ m. ⊎-elim (λ f. inr (inr (subst (λ y. R y a) (sym f) (p .0 a m)))) (λ n. two-members R xs (p .1) a b m n) (List·Memᴰ·cases-cons j))
+    (List·Memᴰ·cases-cons i)
+
+pub way-ends : (m : Matcher) (p : Pattern) (v : Value) (u x : Way) (d e : Bindings) → Good m p v u d → Good m p v (u ++ x) e → (x ≡ []) × (d ≡ e)
+unfolding Good
+way-ends m p v u x d e g h = ⊎-elim
+    (λ q. (no-longer u x (ap (λ (s : Solution). s .way) q), ap (λ (s : Solution). s .bound) q))
+    (λ q. ⊎-elim (λ l. absurd (≪-longer u x l)) (λ l. absurd (longer-≪ u x l)) q)
+    (two-members Earlier (solve p m v []) (solve-in-order p m v []) (record { way = u; bound = d }) (record { way = u ++ x; bound = e })
+    (complete p m v [] u d g) (complete p m v [] (u ++ x) e h))

@@ -1,10 +1,10 @@
--- What document 01 demands, with tuples and sums of document 02, as theorems about its definitions. Each is stated here and proved elsewhere; what it assumes
--- stands before its arrows, and nothing else is assumed. The words that the statements use are defined in Trace (order, seen), Solve (founds), Listing
--- (Listing), Budget (rowsOf, report, Full, Outcome), Matching (states, ways, rowsOfWays), Bound (product), Written (the words, the numbers and the widths
+-- What document 01 demands, with tuples, sums, and, or, not of document 02, as theorems about its definitions. Each is stated here and proved elsewhere; what it assumes
+-- stands before its arrows, and nothing else is assumed. The words that the statements use are defined in Trace (trace, order, seen), Solve (founds), Nots (inner), Listing
+-- (Listing), Budget (rowsOf, report, Full, Outcome), Matching (states, ways, rowsOfWays), Written (the words, the numbers and the widths
 -- of the forms), Faults, Reviewing (Review, TooBig, countOf) and Pairing (greedy).
 use Prim.Native.Nat.{ℕ, suc, _*_, _≤_, _<_}
 use mathlib.Core.Path.{_≡_, sym, _∙_}
-use mathlib.Core.Bool.{true, false}
+use mathlib.Core.Bool.{Bool, true, false}
 use mathlib.Core.Logic.{_↔_}
 use mathlib.Core.Option.{some}
 use mathlib.Core.List.{List, [], _∷_, _++_, map}
@@ -12,20 +12,21 @@ use lib.ListN.{length, take, drop}
 use lib.Dec.{T}
 use lib.IntN.{ℤ, pos, _+ℤ_}
 use Rattle.rules.specs.Numbers.{same, inRange}
-use Rattle.rules.specs.Forms.{Matcher, integer, Pattern, Value, Values, int, collection, tupled, empty, _▸_, multiset, words}
+use Rattle.rules.specs.Forms.{Matcher, integer, Pattern, never, Value, Values, int, collection, tupled, empty, _▸_, multiset, words}
 use Rattle.rules.specs.Reading.{ok, entry, readMatcher, readPattern, readTarget}
 use Rattle.rules.specs.Variables.{variables}
 use Rattle.rules.specs.Equality.{Bindings, equal, isValue}
-use Rattle.rules.specs.Search.{run, start}
-use Rattle.rules.specs.Ways.{Way, Good}
-use Rattle.rules.specs.Review.{weights}
+use Rattle.rules.specs.Search.{Atom, atom, State, state, run, start}
+use Rattle.rules.specs.Ways.{Way, Follows, Good}
+use Rattle.rules.specs.Review.{factor}
 use Rattle.rules.specs.Services.{accepted, Rule, ruleOf, targetOf, Matched, turnedAway, carriedOut, match, Reviewed, review}
 use Rattle.promises.specs.Written.{matcherWords, patternWords, levels, largest, deepest, variableTags, Widthsᵐ, Widthsᵖ, Widths, pair-largest}
-use Rattle.promises.specs.Trace.{order, seen, trace-order}
-use Rattle.promises.specs.Solve.{Solution, founds, founds-start}
-use Rattle.promises.specs.Listing.{Listing, solve-listing, listing-unique}
+use Rattle.promises.specs.Trace.{passed, trace, order, seen, trace-order}
+use Rattle.rules.specs.Following.{Solution}
+use Rattle.promises.specs.Solve.{founds, founds-start}
+use Rattle.promises.specs.Nots.{inner, inner-writes-nothing, not-holds, not-fails}
+use Rattle.promises.specs.Listing.{Listing, solve-listing, listing-unique, way-ends}
 use Rattle.promises.specs.Budget.{report, Full, Outcome}
-use Rattle.promises.specs.Bound.{product}
 use Rattle.promises.specs.Sums.{sum-inside, sum-outside}
 use Rattle.promises.specs.Pairing.{greedy, equal-equiv, multisets-greedy}
 use Rattle.promises.specs.ReadMatcher.{matcher-read, matcher-once}
@@ -57,6 +58,11 @@ module _ (r : Rule) (v : Value) where
   pub ways-only : (ss : List Solution) → Listing (r .matcher) (r .pattern) v ss → ss ≡ ways r v
   ways-only ss l = listing-unique (r .matcher) (r .pattern) v ss (ways r v) l ways-listed
 
+  -- No good way is the beginning of another, and a way has one row.
+  pub no-way-begins-another : (u x : Way) (d e : Bindings) → Good (r .matcher) (r .pattern) v u d → Good (r .matcher) (r .pattern) v (u ++ x) e
+      → (x ≡ []) × (d ≡ e)
+  no-way-begins-another = way-ends (r .matcher) (r .pattern) v
+
   -- The first n of `states` are the first n that are taken up by section 4's order.
   pub states-in-order : (n : ℕ) → take n (states r v) ≡ map seen (order n (start (r .matcher) (r .pattern) v ∷ []))
   unfolding states
@@ -66,6 +72,21 @@ module _ (r : Rule) (v : Value) where
   pub rows-of-ways : founds (states r v) ≡ map (λ s. s .bound) (ways r v)
   unfolding states ways
   rows-of-ways = founds-start (r .matcher) (r .pattern) v
+
+-- ---- A not: its state, then the states of the search inside it up to its first row, which write nothing; then the state that follows it exactly if p
+-- has no way from the bindings held. `inner` is the state with which the search inside begins.
+
+module _ (p : Pattern) (m : Matcher) (v : Value) (e : Bindings) where
+  pub not-writes-nothing : founds (trace (inner p m v e ∷ [])) ≡ []
+  not-writes-nothing = inner-writes-nothing p m v e
+
+  pub not-without-way : (mark : Bool) (older : List Atom) (waiting : List State) → ((w : Way) (d : Bindings) → Follows p m v e w d → ⊥)
+      → trace (state mark (atom (never p) m v ∷ older) e ∷ waiting) ≡ passed ∷ (trace (inner p m v e ∷ []) ++ trace (state false older e ∷ waiting))
+  not-without-way = not-holds p m v e
+
+  pub not-with-way : (mark : Bool) (older : List Atom) (waiting : List State) (w : Way) (d : Bindings) → Follows p m v e w d
+      → trace (state mark (atom (never p) m v ∷ older) e ∷ waiting) ≡ passed ∷ (trace (inner p m v e ∷ []) ++ trace waiting)
+  not-with-way = not-fails p m v e
 
 -- For an input that is not refused, read as the rule r and the value v; `it` is what match gives.
 module _ (ms ps ts : List ℤ) (budget : ℕ) (room : List ℤ) (r : Rule) (v : Value)
@@ -135,7 +156,7 @@ count-is-formula ms ps most r e a = count-is ms ps most r (rule-accepted ms ps r
 
 -- The variables are those that the test of section 2 counts, at most 16.
 pub variables-counted : (ms ps : List ℤ) (r : Rule) → ruleOf ms ps ≡ accepted r
-    → (variables (r .pattern) 0 0 ≡ ok (variableTags (r .pattern))) × (variableTags (r .pattern) ≤ 16)
+    → (variables (r .pattern) true 0 0 ≡ ok (variableTags (r .pattern))) × (variableTags (r .pattern) ≤ 16)
 variables-counted ms ps r e = tags-counted ms ps r (rule-accepted ms ps r .0 e)
 
 -- A tuple's width is no collection's size: a pair of integers keeps to every cap.
@@ -149,12 +170,12 @@ module _ (ms ps ts : List ℤ) (budget : ℕ) (room : List ℤ) (r : Rule) (v : 
   pub steps-at-most : (match ms ps ts budget room) .steps ≤ countOf most r
   steps-at-most = steps-bounded ms ps ts budget room r v (sane ms ps ts budget room r v rule target) most small
 
-  pub rows-at-most : (match ms ps ts budget room) .rows ≤ product (weights most (r .pattern) (r .matcher))
+  pub rows-at-most : (match ms ps ts budget room) .rows ≤ factor most (r .pattern) (r .matcher)
   rows-at-most = rows-bounded ms ps ts budget room r v (sane ms ps ts budget room r v rule target) most small
 
   -- ---- Room enough: with the count as budget, and (product of factors) × (variables) × (target words) words of room, match answers 0.
 
-  pub enough : countOf most r ≤ budget → product (weights most (r .pattern) (r .matcher)) * variableTags (r .pattern) * length ts ≤ length room
+  pub enough : countOf most r ≤ budget → factor most (r .pattern) (r .matcher) * variableTags (r .pattern) * length ts ≤ length room
       → (match ms ps ts budget room) .answer ≡ 0
   enough = room-enough ms ps ts budget room r v (sane ms ps ts budget room r v rule target) most small
 

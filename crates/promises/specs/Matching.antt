@@ -4,6 +4,7 @@ use native.Mathlib.Omega.{arith}
 use native.Mathlib.Nat.{le-trans, mul-assoc}
 use mathlib.Core.Path.{_≡_, refl, sym, ap, _∙_, subst}
 use mathlib.Core.Logic.{_↔_}
+use mathlib.Core.Bool.{true}
 use mathlib.Core.List.{List, [], _∷_, _++_, map, flatMap, List·Memᴰ·not-nil, List·Memᴰ·head}
 use lib.ListN.{length, length-map, take, drop}
 use lib.IntN.{ℤ}
@@ -13,17 +14,18 @@ use Rattle.rules.specs.Variables.{variables}
 use Rattle.rules.specs.Equality.{Bindings}
 use Rattle.rules.specs.Search.{row, Run, run, start}
 use Rattle.rules.specs.Ways.{Way, Good}
-use Rattle.rules.specs.Review.{weights}
+use Rattle.rules.specs.Review.{factor}
 use Rattle.rules.specs.Services.{Rule, Matched, carriedOut, match}
 use Rattle.promises.specs.Written.{variableTags, largest, length-words}
-use Rattle.promises.specs.Lists.{Mem, flatMap-map}
+use Rattle.rules.specs.Lists.{Mem, flatMap-map}
 use Rattle.promises.specs.Trace.{Taken, trace, walk, run-walks}
-use Rattle.promises.specs.Solve.{Solution, solve, founds, founds-start}
+use Rattle.rules.specs.Following.{Solution, solve}
+use Rattle.promises.specs.Solve.{founds, founds-start}
 use Rattle.promises.specs.Listing.{solve-listing}
 use Rattle.promises.specs.Budget.{report, Full, Outcome, done, spent, full}
 use Rattle.promises.specs.Budget.{walk-outcome, walk-full, full-rows, answers-0, answers-7, answers-8, steps-most, first-rows}
 use Rattle.promises.specs.Suited.{Suits, fits-suits}
-use Rattle.promises.specs.Bound.{product, steps-bound, rows-bound}
+use Rattle.promises.specs.Bound.{steps-bound, rows-bound}
 use Rattle.promises.specs.Numbering.{variables-found}
 use Rattle.promises.specs.Room.{follows-binds, rows-words}
 use Rattle.promises.specs.ReadTarget.{target-read}
@@ -148,7 +150,8 @@ module _ (ms ps ts : List ℤ) (budget : ℕ) (room : List ℤ) (r : Rule) (v : 
   -- One value for each variable.
   pub way-binds : (w : Way) (e : Bindings) → Good (r .matcher) (r .pattern) v w e → length e ≡ variableTags (r .pattern)
   unfolding Good
-  way-binds w e g = follows-binds (r .pattern) (r .matcher) v [] w e 0 [] (sane .rule .fitting .0) (sane .rule .fitting .1) suits g ∙ omega arith
+  way-binds w e g = follows-binds (r .pattern) (r .matcher) v [] w e 0 [] (sane .rule .fitting .0) true 0 (sane .rule .numbered .0)
+      (sane .rule .fitting .1) (sane .rule .numbered .1) suits g ∙ omega arith
 
   -- ---- Review's numbers.
 
@@ -159,27 +162,27 @@ module _ (ms ps ts : List ℤ) (budget : ℕ) (room : List ℤ) (r : Rule) (v : 
         let q = ap (λ (x : Matched). x .steps) result in
         omega (arith, steps-most budget (length room) (states r v) ran outcome, steps-bound most (r .matcher) (r .pattern) v (suits, small))
 
-    pub rows-bounded : it .rows ≤ product (weights most (r .pattern) (r .matcher))
+    pub rows-bounded : it .rows ≤ factor most (r .pattern) (r .matcher)
     unfolding ways
     rows-bounded = le-trans (first-ways .0) (rows-bound most (r .pattern) (r .matcher) v [] (suits, small))
 
     pub room-enough : countOf most r ≤ budget
-        → product (weights most (r .pattern) (r .matcher)) * variableTags (r .pattern) * length ts ≤ length room → it .answer ≡ 0
+        → factor most (r .pattern) (r .matcher) * variableTags (r .pattern) * length ts ≤ length room → it .answer ≡ 0
     unfolding states countOf
     room-enough b h = answer-0 .1 (
       le-trans (steps-bound most (r .matcher) (r .pattern) v (suits, small)) b,
       λ f. let k = full-rows budget (length room) (states r v) f .1 in
           let w = rows-words most (r .matcher) (r .pattern) v (suits, small) in
           let l : length ts ≡ size v = ap length (target-read ts v .0 (sane .target .target) .0) ∙ length-words v in
-          let e = ap (λ n. product (weights most (r .pattern) (r .matcher)) * variableTags (r .pattern) * n) l
-          ∙ mul-assoc (product (weights most (r .pattern) (r .matcher))) (variableTags (r .pattern)) (size v) in
+          let e = ap (λ n. factor most (r .pattern) (r .matcher) * variableTags (r .pattern) * n) l
+          ∙ mul-assoc (factor most (r .pattern) (r .matcher)) (variableTags (r .pattern)) (size v) in
           omega arith,
     )
 
 -- The variables that the test counts.
 pub tags-counted : (ms ps : List ℤ) (r : Rule) → WellFormed ms ps r
-    → (variables (r .pattern) 0 0 ≡ ok (variableTags (r .pattern))) × (variableTags (r .pattern) ≤ 16)
+    → (variables (r .pattern) true 0 0 ≡ ok (variableTags (r .pattern))) × (variableTags (r .pattern) ≤ 16)
 tags-counted ms ps r w =
-    let f = variables-found (r .pattern) 0 0 (w .numbered .0) (w .numbered .1) in
+    let f = variables-found (r .pattern) true 0 0 (w .numbered .0) (w .numbered .1) in
     let k : w .numbered .0 ≡ variableTags (r .pattern) = omega (arith, f .0) in
     (w .numbered .1 ∙ ap ok k, subst (λ n. n ≤ 16) k (f .1 (omega arith)))

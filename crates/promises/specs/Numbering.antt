@@ -2,12 +2,12 @@
 use Prim.Native.Nat.{ℕ, suc, _+_, _≤_}
 use native.Mathlib.Omega.{arith}
 use native.Mathlib.Nat.{suc-ne-zero}
-use mathlib.Core.Path.{_≡_, sym}
-use mathlib.Core.Bool.{Bool, true, false}
+use mathlib.Core.Path.{_≡_, refl, sym}
+use mathlib.Core.Bool.{Bool, true, false, _&&_}
 use lib.Dec.{T, ltb→lt}
 use lib.IntN.{pos}
 use Rattle.rules.specs.Numbers.{same}
-use Rattle.rules.specs.Forms.{Pattern, wildcard, nil, variable, constant, value, cons, join, tuple, Patterns, noPatterns, _▸ᵖ_, span}
+use Rattle.rules.specs.Forms.{Pattern, wildcard, nil, variable, constant, value, cons, join, tuple, both, either, never, Patterns, noPatterns, _▸ᵖ_, span}
 use Rattle.rules.specs.Reading.{Verdict, ok, _then_}
 use Rattle.rules.specs.Variables.{demand, isNext, isLeft, variables, variablesAll}
 use Rattle.promises.specs.Tests.{and-split}
@@ -32,22 +32,57 @@ found-then x f n s t k h g e =
 mutual
   unfolding variables variableTags isNext
 
-  pub variables-found : (p : Pattern) (at n k : ℕ) → variables p at n ≡ ok k → Found n (variableTags p) k
-  variables-found wildcard at n k e = let q : n ≡ k = cc in omega arith
-  variables-found nil at n k e = let q : n ≡ k = cc in omega arith
-  variables-found (variable v) at n k e =
-      let d = demand-ok (isNext v n) at (suc n) k e in
-      let l = ltb→lt n 16 (and-split (same v (pos n)) _ (d .0) .1) in
+  pub variables-found : (p : Pattern) (may : Bool) (at n k : ℕ) → variables p may at n ≡ ok k → Found n (variableTags p) k
+  variables-found wildcard may at n k e = let q : n ≡ k = cc in omega arith
+  variables-found nil may at n k e = let q : n ≡ k = cc in omega arith
+  variables-found (variable v) may at n k e =
+      let d = demand-ok (may && isNext v n) at (suc n) k e in
+      let l = ltb→lt n 16 (and-split (same v (pos n)) _ (and-split may (isNext v n) (d .0) .1) .1) in
       omega arith
-  variables-found (constant c) at n k e = let q : n ≡ k = cc in omega arith
-  variables-found (value v c) at n k e = let q = demand-ok (isLeft v n) at n k e .1 in omega arith
-  variables-found (cons p q) at n k e = found-then (variables p (at + 1) n) (λ i. variables q (at + 1 + span p) i) n (variableTags p) (variableTags q) k
-      (λ i x. variables-found p (at + 1) n i x) (λ i x. variables-found q (at + 1 + span p) i k x) e
-  variables-found (join p q) at n k e = found-then (variables p (at + 1) n) (λ i. variables q (at + 1 + span p) i) n (variableTags p) (variableTags q) k
-      (λ i x. variables-found p (at + 1) n i x) (λ i x. variables-found q (at + 1 + span p) i k x) e
-  variables-found (tuple ps) at n k e = variables-found-all ps (at + 2) n k e
+  variables-found (constant c) may at n k e = let q : n ≡ k = cc in omega arith
+  variables-found (value v c) may at n k e = let q = demand-ok (isLeft v n) at n k e .1 in omega arith
+  variables-found (cons p q) may at n k e = found-then (variables p may (at + 1) n) (λ i. variables q may (at + 1 + span p) i) n (variableTags p) (variableTags q) k
+      (λ i x. variables-found p may (at + 1) n i x) (λ i x. variables-found q may (at + 1 + span p) i k x) e
+  variables-found (join p q) may at n k e = found-then (variables p may (at + 1) n) (λ i. variables q may (at + 1 + span p) i) n (variableTags p) (variableTags q) k
+      (λ i x. variables-found p may (at + 1) n i x) (λ i x. variables-found q may (at + 1 + span p) i k x) e
+  variables-found (both p q) may at n k e = found-then (variables p may (at + 1) n) (λ i. variables q may (at + 1 + span p) i) n (variableTags p) (variableTags q) k
+      (λ i x. variables-found p may (at + 1) n i x) (λ i x. variables-found q may (at + 1 + span p) i k x) e
+  variables-found (either p q) may at n k e = found-then (variables p false (at + 1) n) (λ i. variables q false (at + 1 + span p) i) n (variableTags p) (variableTags q) k
+      (λ i x. variables-found p false (at + 1) n i x) (λ i x. variables-found q false (at + 1 + span p) i k x) e
+  variables-found (never p) may at n k e = variables-found p false (at + 1) n k e
+  variables-found (tuple ps) may at n k e = variables-found-all ps may (at + 2) n k e
 
-  variables-found-all : (ps : Patterns) (at n k : ℕ) → variablesAll ps at n ≡ ok k → Found n (variableTagsAll ps) k
-  variables-found-all noPatterns at n k e = let q : n ≡ k = cc in omega arith
-  variables-found-all (p ▸ᵖ ps) at n k e = found-then (variables p at n) (λ i. variablesAll ps (at + span p) i) n (variableTags p) (variableTagsAll ps) k
-      (λ i x. variables-found p at n i x) (λ i x. variables-found-all ps (at + span p) i k x) e
+  variables-found-all : (ps : Patterns) (may : Bool) (at n k : ℕ) → variablesAll ps may at n ≡ ok k → Found n (variableTagsAll ps) k
+  variables-found-all noPatterns may at n k e = let q : n ≡ k = cc in omega arith
+  variables-found-all (p ▸ᵖ ps) may at n k e = found-then (variables p may at n) (λ i. variablesAll ps may (at + span p) i) n (variableTags p) (variableTagsAll ps) k
+      (λ i x. variables-found p may at n i x) (λ i x. variables-found-all ps may (at + span p) i k x) e
+
+-- ---- Inside an or or a not no variable stands.
+
+none-then : (x : Verdict ℕ) (f : ℕ → Verdict ℕ) (s t k : ℕ) → ((i : ℕ) → x ≡ ok i → s ≡ 0) → ((i : ℕ) → f i ≡ ok k → t ≡ 0) → (x then f) ≡ ok k → s + t ≡ 0
+none-then x f s t k h g e = let r = then-ok x f k e in omega (arith, h (r .0) (r .1), g (r .0) (r .2))
+
+mutual
+  unfolding variables variableTags
+
+  pub none-inside : (p : Pattern) (at n k : ℕ) → variables p false at n ≡ ok k → variableTags p ≡ 0
+  none-inside wildcard at n k e = refl
+  none-inside nil at n k e = refl
+  none-inside (variable v) at n k e = absurd (demand-ok false at (suc n) k e .0)
+  none-inside (constant c) at n k e = refl
+  none-inside (value v c) at n k e = refl
+  none-inside (cons p q) at n k e = none-then (variables p false (at + 1) n) (λ i. variables q false (at + 1 + span p) i) (variableTags p) (variableTags q) k
+      (λ i x. none-inside p (at + 1) n i x) (λ i x. none-inside q (at + 1 + span p) i k x) e
+  none-inside (join p q) at n k e = none-then (variables p false (at + 1) n) (λ i. variables q false (at + 1 + span p) i) (variableTags p) (variableTags q) k
+      (λ i x. none-inside p (at + 1) n i x) (λ i x. none-inside q (at + 1 + span p) i k x) e
+  none-inside (both p q) at n k e = none-then (variables p false (at + 1) n) (λ i. variables q false (at + 1 + span p) i) (variableTags p) (variableTags q) k
+      (λ i x. none-inside p (at + 1) n i x) (λ i x. none-inside q (at + 1 + span p) i k x) e
+  none-inside (either p q) at n k e = none-then (variables p false (at + 1) n) (λ i. variables q false (at + 1 + span p) i) (variableTags p) (variableTags q) k
+      (λ i x. none-inside p (at + 1) n i x) (λ i x. none-inside q (at + 1 + span p) i k x) e
+  none-inside (never p) at n k e = none-inside p (at + 1) n k e
+  none-inside (tuple ps) at n k e = none-inside-all ps (at + 2) n k e
+
+  none-inside-all : (ps : Patterns) (at n k : ℕ) → variablesAll ps false at n ≡ ok k → variableTagsAll ps ≡ 0
+  none-inside-all noPatterns at n k e = refl
+  none-inside-all (p ▸ᵖ ps) at n k e = none-then (variables p false at n) (λ i. variablesAll ps false (at + span p) i) (variableTags p) (variableTagsAll ps) k
+      (λ i x. none-inside p at n i x) (λ i x. none-inside-all ps (at + span p) i k x) e

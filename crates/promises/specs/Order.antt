@@ -1,23 +1,24 @@
 -- The solutions stand in dictionary order of their ways.
-use Prim.Native.Nat.{_<_, zero-le, suc-le-suc}
+use Prim.Native.Nat.{ℕ, _<_, zero-le, suc-le-suc}
 use mathlib.Core.Path.{_≡_, refl, ap, subst, subst₂}
 use mathlib.Core.Logic.{_⊎_, inl, inr}
 use mathlib.Core.Bool.{Bool, true, false}
-use mathlib.Core.List.{List, [], _∷_, _++_, List·Memᴰ·not-nil, Memᴰ·of-map}
+use mathlib.Core.List.{List, [], _∷_, _++_, map, List·Memᴰ·not-nil, Memᴰ·of-map}
 use Rattle.rules.specs.Forms.{Matcher, something, integer, list, multiset, tupleOf, Matchers, noMatchers, _▸ᵐ_}
-use Rattle.rules.specs.Forms.{Pattern, wildcard, nil, variable, constant, value, cons, join, tuple, Patterns, noPatterns, _▸ᵖ_}
+use Rattle.rules.specs.Forms.{Pattern, wildcard, nil, variable, constant, value, cons, join, tuple, both, either, never, Patterns, noPatterns, _▸ᵖ_}
 use Rattle.rules.specs.Forms.{Value, int, collection, tupled, Values, empty, _▸_}
 use Rattle.rules.specs.Fit.{element, members}
 use Rattle.rules.specs.Equality.{Bindings, isConstant, isValue, isEmpty}
 use Rattle.rules.specs.Search.{Halves, consHalves, joinHalves}
 use Rattle.rules.specs.Ways.{Way, _≺_}
-use Rattle.promises.specs.Lists.{Mem, Pairwise, pairwise-weaken, pairwise-map, pairwise-flatMap}
-use Rattle.promises.specs.Solve.{Solution, Numbered, up, numbered, isMultiset, mark, extend, chain, combine, just, whenSo, solve, solveEach, of-chain}
+use Rattle.rules.specs.Lists.{Mem, Pairwise, pairwise-append, pairwise-weaken, pairwise-map, pairwise-flatMap}
+use Rattle.rules.specs.Following.{Solution, Numbered, up, numbered, isMultiset, mark, extend, chain, onSide, combine, just, whenSo, none, solve, solveEach}
+use Rattle.rules.specs.Twin.{of-chain}
 
 -- Two ways of one pattern differ at some choice, so neither is the other's beginning.
 
 infix 50 _≪_
-abbrev _≪_ : Way → Way → Type 0
+abbrev pub _≪_ : Way → Way → Type 0
 [] ≪ w = ⊥
 (a ∷ u) ≪ [] = ⊥
 (a ∷ u) ≪ (b ∷ w) = (a < b) ⊎ ((a ≡ b) × (u ≪ w))
@@ -39,7 +40,7 @@ append-≪ : (u x y : Way) → x ≪ y → (u ++ x) ≪ (u ++ y)
 append-≪ [] x y h = h
 append-≪ (a ∷ u) x y h = inr (refl, append-≪ u x y h)
 
-abbrev Earlier : Solution → Solution → Type 0
+abbrev pub Earlier : Solution → Solution → Type 0
 Earlier s t = s .way ≪ t .way
 
 numbered-up : (hs : List Halves) → Pairwise (λ c d. c .no < d .no) (numbered hs)
@@ -103,6 +104,17 @@ module _ (f : Value → List Solution) (g : Value → Bindings → List Solution
       (λ c d h x y m n. absurd h)
   in-order false (h ∷ k ∷ hs) fine = absurd fine
 
+-- The sides of an or: the first before the second.
+side-in-order : (k : ℕ) (ss : List Solution) → Pairwise Earlier ss → Pairwise Earlier (map (onSide k) ss)
+unfolding onSide
+side-in-order k ss h = pairwise-map Earlier Earlier (onSide k) ss (λ s t l. inr (refl, l)) h
+
+sides-in-order : (ss ts : List Solution) → Pairwise Earlier ss → Pairwise Earlier ts → Pairwise Earlier (map (onSide 0) ss ++ map (onSide 1) ts)
+unfolding onSide
+sides-in-order ss ts h k = pairwise-append Earlier (map (onSide 0) ss) (map (onSide 1) ts) (side-in-order 0 ss h) (side-in-order 1 ts k)
+    (λ x y m n. let i = Memᴰ·of-map (onSide 0) ss m in let j = Memᴰ·of-map (onSide 1) ts n in
+    subst₂ Earlier (i .2) (j .2) (inl (suc-le-suc zero-le)))
+
 single : (e : Bindings) → Pairwise Earlier (just e)
 unfolding just
 single e = ((λ y m. absurd (List·Memᴰ·not-nil m)), tt)
@@ -115,7 +127,7 @@ single-or-none false e = tt
 mutual
   unfolding solve
 
-  solve-in-order : (p : Pattern) (m : Matcher) (v : Value) (e : Bindings) → Pairwise Earlier (solve p m v e)
+  pub solve-in-order : (p : Pattern) (m : Matcher) (v : Value) (e : Bindings) → Pairwise Earlier (solve p m v e)
   solve-in-order wildcard m v e = single e
   solve-in-order nil m v e = single-or-none (isEmpty v) e
   solve-in-order (variable x) m v e = single (e ++ (v ∷ []))
@@ -128,6 +140,10 @@ mutual
   solve-in-order (tuple ps) m (int x) e = tt
   solve-in-order (tuple ps) m (collection vs) e = tt
   solve-in-order (tuple ps) m (tupled vs) e = each-in-order ps (members m) vs e
+  solve-in-order (both p q) m v e =
+      chain-in-order [] (solve p m v e) (λ d. solve q m v d) (solve-in-order p m v e) (λ d. solve-in-order q m v d)
+  solve-in-order (either p q) m v e = sides-in-order (solve p m v e) (solve q m v e) (solve-in-order p m v e) (solve-in-order q m v e)
+  solve-in-order (never p) m v e = single-or-none (none (solve p m v e)) e
 
   each-in-order : (ps : Patterns) (ms : Matchers) (vs : Values) (e : Bindings) → Pairwise Earlier (solveEach ps ms vs e)
   each-in-order noPatterns ms vs e = single e

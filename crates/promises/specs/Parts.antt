@@ -8,7 +8,7 @@ use Rattle.rules.specs.Forms.{Matcher, something, integer, list, multiset, tupl
 use Rattle.rules.specs.Equality.{Pick, picks, behind}
 use Rattle.rules.specs.Search.{Cut, cuts, longer, Halves, consHalves, joinHalves}
 use Rattle.promises.specs.Written.{largest, largestOf}
-use Rattle.promises.specs.Lists.{Mem}
+use Rattle.rules.specs.Lists.{Mem}
 
 -- Some of the elements, in their order.
 pub data Among : Values → Values → Type 0 where

@@ -8,9 +8,9 @@ use mathlib.Core.Option.{some}
 use mathlib.Core.List.{List, [], _∷_, _++_, append-assoc}
 use lib.ListN.{length, length-append}
 use lib.IntN.{ℤ, pos, negsuc}
-use Rattle.rules.specs.Forms.{Pattern, wildcard, variable, constant, value, nil, cons, join, tuple, Patterns, noPatterns, _▸ᵖ_, countᵖ}
+use Rattle.rules.specs.Forms.{Pattern, wildcard, variable, constant, value, nil, cons, join, tuple, both, either, never, Patterns, noPatterns, _▸ᵖ_, countᵖ}
 use Rattle.rules.specs.Reading.{ok, _then_, Got, Reader, give, _>>=_, word, entry, width, whole}
-use Rattle.rules.specs.Reading.{PatternTag, alone, operand, operands, parts, wide, patternTags, patternParts, pattern, readPattern}
+use Rattle.rules.specs.Reading.{PatternTag, alone, operand, operands, inner, parts, wide, patternTags, patternParts, pattern, readPattern}
 use Rattle.promises.specs.Written.{patternWords, patternWordsAll, IsWidth, Widthsᵖ, WidthsAllᵖ}
 use Rattle.promises.specs.Readers.{got, Took, Sound, Complete, of-some, not-some, bind-ok, word-ok, gives, moved, none-read, tagged-sound}
 use Rattle.promises.specs.Readers.{whole-sound, whole-complete, limited-ok}
@@ -39,6 +39,7 @@ PatternMeans : ℤ → PatternTag → Type 0
 PatternMeans w (alone p) = (patternWords p ≡ w ∷ []) × Widthsᵖ p
 PatternMeans w (operand f) = (x : ℤ) → (patternWords (f x) ≡ w ∷ x ∷ []) × Widthsᵖ (f x)
 PatternMeans w (operands f) = (x y : ℤ) → (patternWords (f x y) ≡ w ∷ x ∷ y ∷ []) × Widthsᵖ (f x y)
+PatternMeans w (inner f) = (p : Pattern) → (patternWords (f p) ≡ w ∷ patternWords p) × (Widthsᵖ p → Widthsᵖ (f p))
 PatternMeans w (parts f) = (p q : Pattern) → (patternWords (f p q) ≡ w ∷ (patternWords p ++ patternWords q)) × (Widthsᵖ p → Widthsᵖ q → Widthsᵖ (f p q))
 PatternMeans w (wide f) = (ps : Patterns)
     → (patternWords (f ps) ≡ w ∷ pos (countᵖ ps) ∷ patternWordsAll ps) × (WidthsAllᵖ ps → IsWidth (countᵖ ps) → Widthsᵖ (f ps))
@@ -54,7 +55,10 @@ pattern-means (pos (suc (suc (suc (suc zero))))) t e = of-some (PatternMeans (po
 pattern-means (pos (suc (suc (suc (suc (suc zero)))))) t e = of-some (PatternMeans (pos 5)) e (λ p q. (refl, λ a b. (a, b)))
 pattern-means (pos (suc (suc (suc (suc (suc (suc zero))))))) t e = of-some (PatternMeans (pos 6)) e (λ p q. (refl, λ a b. (a, b)))
 pattern-means (pos (suc (suc (suc (suc (suc (suc (suc zero)))))))) t e = of-some (PatternMeans (pos 7)) e (λ ps. (refl, λ a b. (b, a)))
-pattern-means (pos (suc (suc (suc (suc (suc (suc (suc (suc n))))))))) t e = not-some e
+pattern-means (pos (suc (suc (suc (suc (suc (suc (suc (suc zero))))))))) t e = of-some (PatternMeans (pos 8)) e (λ p q. (refl, λ a b. (a, b)))
+pattern-means (pos (suc (suc (suc (suc (suc (suc (suc (suc (suc zero)))))))))) t e = of-some (PatternMeans (pos 9)) e (λ p q. (refl, λ a b. (a, b)))
+pattern-means (pos (suc (suc (suc (suc (suc (suc (suc (suc (suc (suc zero))))))))))) t e = of-some (PatternMeans (pos 10)) e (λ p. (refl, λ a. a))
+pattern-means (pos (suc (suc (suc (suc (suc (suc (suc (suc (suc (suc (suc n)))))))))))) t e = not-some e
 
 pattern-parts : (part : Reader Pattern) → Sound part patternWords Widthsᵖ → (w : ℤ) (t : PatternTag) → PatternMeans w t
     → (at : ℕ) (ws : List ℤ) (g : Got Pattern) → patternParts part t at ws ≡ ok g → Took patternWords Widthsᵖ (w ∷ ws) g
@@ -72,6 +76,12 @@ pattern-parts part s w (operands f) h at ws g e =
     gives patternWords Widthsᵖ (f (b .0 .it) (c .0 .it)) (c .0 .next) (c .0 .rest) g (c .2)
     (ap {B = List ℤ} (λ l. w ∷ l) (word-ok at ws (b .0) (b .1) ∙ ap {B = List ℤ} (λ l. b .0 .it ∷ l) (word-ok (b .0 .next) (b .0 .rest) (c .0) (c .1)))
     ∙ ap (λ l. l ++ c .0 .rest) (sym (i .0))) (i .1)
+pattern-parts part s w (inner f) h at ws g e =
+    let b = bind-ok part (λ p. give (f p)) at ws g e in
+    let i = h (b .0 .it) in
+    let x = s at ws (b .0) (b .1) in
+    gives patternWords Widthsᵖ (f (b .0 .it)) (b .0 .next) (b .0 .rest) g (b .2)
+    (ap {B = List ℤ} (λ l. w ∷ l) (x .0) ∙ ap (λ l. l ++ b .0 .rest) (sym (i .0))) (i .1 (x .1))
 pattern-parts part s w (parts f) h at ws g e =
     let b = bind-ok part (λ p. part >>= λ q. give (f p q)) at ws g e in
     let c = bind-ok part (λ q. give (f (b .0 .it) q)) (b .0 .next) (b .0 .rest) g (b .2) in
@@ -91,7 +101,14 @@ pattern-sound zero at ws g e = none-read patternWords Widthsᵖ at ws g e
 pattern-sound (suc depth) at ws g e = tagged-sound patternTags (patternParts (λ i us. pattern depth i us)) patternWords Widthsᵖ PatternMeans
     pattern-means (pattern-parts (λ i us. pattern depth i us) (pattern-sound depth)) at ws g e
 
--- The two parts of a cons or a join.
+-- The part of a not.
+one-read : (part : Reader Pattern) (f : Pattern → Pattern) (p : Pattern) (at n : ℕ) (us : List ℤ)
+    → part at (patternWords p ++ us) ≡ ok (got p (at + length (patternWords p)) us) → at + length (patternWords p) ≡ n
+    → patternParts part (inner f) at (patternWords p ++ us) ≡ ok (got (f p) n us)
+unfolding patternParts _then_ give _>>=_
+one-read part f p at n us i k = ap (λ x. x then λ g. give (f (g .it)) (g .next) (g .rest)) i ∙ moved (f p) us k
+
+-- The two parts of a cons, a join, an and or an or.
 both-read : (part : Reader Pattern) (f : Pattern → Pattern → Pattern) (p q : Pattern) (at n : ℕ) (us : List ℤ)
     → part at (patternWords p ++ (patternWords q ++ us)) ≡ ok (got p (at + length (patternWords p)) (patternWords q ++ us))
     → part (at + length (patternWords p)) (patternWords q ++ us) ≡ ok (got q (at + length (patternWords p) + length (patternWords q)) us)
@@ -113,6 +130,9 @@ has-word (value v c) h = not-suc-le-zero h
 has-word (cons p q) h = not-suc-le-zero h
 has-word (join p q) h = not-suc-le-zero h
 has-word (tuple ps) h = not-suc-le-zero h
+has-word (both p q) h = not-suc-le-zero h
+has-word (either p q) h = not-suc-le-zero h
+has-word (never p) h = not-suc-le-zero h
 
 -- Few words, and good widths.
 abbrev Short : ℕ → Pattern → Type 0
@@ -140,6 +160,16 @@ pattern-complete (suc d) (join p q) h at us =
     let l = length-append (patternWords p) (patternWords q) in
     both-read (λ i ws. pattern d i ws) join p q (suc at) _ us (pattern-complete d p (omega (arith, h .0, l), h .1 .0) (suc at) (patternWords q ++ us))
     (pattern-complete d q (omega (arith, h .0, l), h .1 .1) (suc at + length (patternWords p)) us) (omega (arith, l))
+pattern-complete (suc d) (both p q) h at us =
+    let l = length-append (patternWords p) (patternWords q) in
+    both-read (λ i ws. pattern d i ws) both p q (suc at) _ us (pattern-complete d p (omega (arith, h .0, l), h .1 .0) (suc at) (patternWords q ++ us))
+    (pattern-complete d q (omega (arith, h .0, l), h .1 .1) (suc at + length (patternWords p)) us) (omega (arith, l))
+pattern-complete (suc d) (either p q) h at us =
+    let l = length-append (patternWords p) (patternWords q) in
+    both-read (λ i ws. pattern d i ws) either p q (suc at) _ us (pattern-complete d p (omega (arith, h .0, l), h .1 .0) (suc at) (patternWords q ++ us))
+    (pattern-complete d q (omega (arith, h .0, l), h .1 .1) (suc at + length (patternWords p)) us) (omega (arith, l))
+pattern-complete (suc d) (never p) h at us =
+    one-read (λ i ws. pattern d i ws) never p (suc at) _ us (pattern-complete d p (omega (arith, h .0), h .1) (suc at) us) (omega arith)
 pattern-complete (suc d) (tuple ps) h at us = counted-complete in-a-row (λ i ws. pattern d i ws) width tuple (short-opens d)
     (λ p k i ws. pattern-complete d p k i ws) ps (omega (arith, h .0), h .1 .1) (width-is (countᵖ ps) .1 (h .1 .0)) (suc at) _ us (omega arith)
 

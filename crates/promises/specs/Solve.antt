@@ -1,103 +1,19 @@
--- The solutions of a pattern as a list, by recursion on the pattern: each with its way and its bindings, in the order in which the search finds them.
+-- The rows of the states in the order in which they are taken up are those of the good ways, in order.
 use Prim.Native.Nat.{ℕ, suc}
-use mathlib.Core.Path.{_≡_, refl, sym, ap, _∙_}
+use native.Mathlib.Nat.{suc-ne-zero}
+use mathlib.Core.Path.{_≡_, refl, sym, ap, ap₂, _∙_}
 use mathlib.Core.Bool.{Bool, true, false}
-use mathlib.Core.List.{List, [], _∷_, _++_, map, flatMap, append-nil, Memᴰ·map, Memᴰ·of-map}
-use Rattle.rules.specs.Forms.{Matcher, something, integer, list, multiset, tupleOf, Matchers, noMatchers, _▸ᵐ_}
-use Rattle.rules.specs.Forms.{Pattern, wildcard, nil, variable, constant, value, cons, join, tuple, Patterns, noPatterns, _▸ᵖ_}
+use mathlib.Core.List.{List, [], _∷_, _++_, map, flatMap, append-nil}
+use Rattle.rules.specs.Forms.{Matcher, Matchers, noMatchers, _▸ᵐ_}
+use Rattle.rules.specs.Forms.{Pattern, wildcard, nil, variable, constant, value, cons, join, tuple, both, either, never, Patterns, noPatterns, _▸ᵖ_}
 use Rattle.rules.specs.Forms.{Value, int, collection, tupled, Values, empty, _▸_}
 use Rattle.rules.specs.Fit.{element, members, isSomething}
 use Rattle.rules.specs.Equality.{Bindings, isConstant, isValue, isEmpty}
 use Rattle.rules.specs.Search.{Halves, consHalves, joinHalves, start}
 use Rattle.rules.specs.Ways.{Way}
-use Rattle.promises.specs.Lists.{Mem, flatMap-map, flatMap-flatMap, flatMap-cong, mem-flatMap, of-flatMap}
-use Rattle.promises.specs.Trace.{Taken, passed, found, onlyIf, ofParts, visit, visitEach, trace}
-
-pub record Solution : Type 0 where
-  pub way : Way
-  pub bound : Bindings
-
--- The choices at a cons or a join, numbered from 0.
-pub record Numbered : Type 0 where
-  pub no : ℕ
-  pub halves : Halves
-
-unfoldable pub up : Numbered → Numbered
-up c = record { no = suc (c .no); halves = c .halves }
-
-unfoldable pub numbered : List Halves → List Numbered
-unfolding up
-numbered [] = []
-numbered (h ∷ hs) = record { no = 0; halves = h } ∷ map up (numbered hs)
-
--- A cons under a multiset and a join put their choice into the way; a cons under a list does not.
-unfoldable pub isMultiset : Matcher → Bool
-isMultiset something = false
-isMultiset integer = false
-isMultiset (list m) = false
-isMultiset (multiset m) = true
-isMultiset (tupleOf ms) = false
-
-unfoldable pub mark : Bool → ℕ → Way
-mark true k = k ∷ []
-mark false k = []
-
-unfoldable pub extend : Way → Solution → Solution → Solution
-extend w s t = record { way = w ++ (s .way ++ t .way); bound = t .bound }
-
--- After the choices w each solution of the first part, and after it each of the second.
-unfoldable pub chain : Way → List Solution → (Bindings → List Solution) → List Solution
-unfolding flatMap extend
-chain w ss g = flatMap (λ s. map (extend w s) (g (s .bound))) ss
-
--- So for each choice.
-unfoldable pub combine : Bool → (Value → List Solution) → (Value → Bindings → List Solution) → List Halves → List Solution
-unfolding flatMap numbered mark chain
-combine b f g hs = flatMap (λ c. chain (mark b (c .no)) (f (c .halves .first)) (g (c .halves .second))) (numbered hs)
-
-unfoldable pub just : Bindings → List Solution
-just e = record { way = []; bound = e } ∷ []
-
-unfoldable pub whenSo : Bool → Bindings → List Solution
-unfolding just
-whenSo true e = just e
-whenSo false e = []
-
-unfoldable mutual
-  unfolding just whenSo combine chain isConstant isValue isEmpty consHalves joinHalves element members isMultiset ofParts
-
-  pub solve : Pattern → Matcher → Value → Bindings → List Solution
-  solve wildcard m v e = just e
-  solve (variable x) m v e = just (e ++ (v ∷ []))
-  solve (constant c) m v e = whenSo (isConstant c v) e
-  solve (value x c) m v e = whenSo (isValue m e x c v) e
-  solve nil m v e = whenSo (isEmpty v) e
-  solve (cons p q) m v e = combine (isMultiset m) (λ a. solve p (element m) a e) (λ a d. solve q m a d) (consHalves m v)
-  solve (join p q) m v e = combine true (λ a. solve p m a e) (λ a d. solve q m a d) (joinHalves v)
-  solve (tuple ps) m v e = ofParts (λ vs. solveEach ps (members m) vs e) v
-
-  -- A tuple's parts: each part, and then the others.
-  pub solveEach : Patterns → Matchers → Values → Bindings → List Solution
-  solveEach noPatterns ms vs e = just e
-  solveEach (p ▸ᵖ ps) noMatchers vs e = just e
-  solveEach (p ▸ᵖ ps) (m ▸ᵐ ms) empty e = just e
-  solveEach (p ▸ᵖ ps) (m ▸ᵐ ms) (v ▸ vs) e = chain [] (solve p m v e) (λ d. solveEach ps ms vs d)
-
--- ---- The members of a chain.
-
-module _ (w : Way) (ss : List Solution) (g : Bindings → List Solution) where
-  pub in-chain : (s t : Solution) → Mem s ss → Mem t (g (s .bound)) → Mem (extend w s t) (chain w ss g)
-  unfolding chain
-  in-chain s t i j = mem-flatMap (λ r. map (extend w r) (g (r .bound))) i (Memᴰ·map (extend w s) j)
-
-  pub of-chain : (r : Solution) → Mem r (chain w ss g) → (s t : Solution) × Mem s ss × Mem t (g (s .bound)) × (extend w s t ≡ r)
-  unfolding chain
-  of-chain r i =
-      let x = of-flatMap (λ s. map (extend w s) (g (s .bound))) ss i in
-      let y = Memᴰ·of-map (extend w (x .0)) (g (x .0 .bound)) (x .2) in
-      (x .0, y .0, x .1, y .1, y .2)
-
--- ---- The rows of the trace are those of the solutions, in order.
+use Rattle.rules.specs.Following.{Solution, Numbered, up, numbered, isMultiset, mark, extend, chain, onSide, combine, just, whenSo, none, ofParts, solve, solveEach}
+use Rattle.rules.specs.Lists.{flatMap-append, flatMap-map, flatMap-flatMap, flatMap-cong}
+use Rattle.promises.specs.Trace.{Taken, passed, found, Met, taken, ended, pass, onlyIf, inside, visit, visitEach, met, close, trace}
 
 -- The bindings of the states with no atom left.
 unfoldable pub founds : List Taken → List Bindings
@@ -111,23 +27,60 @@ founds-append [] ys = refl
 founds-append (passed ∷ xs) ys = founds-append xs ys
 founds-append (found e ∷ xs) ys = ap {B = List Bindings} (λ r. e ∷ r) (founds-append xs ys)
 
-founds-flatMap : {A : Type 0} (f : A → List Taken) (xs : List A) → founds (flatMap f xs) ≡ flatMap (λ x. founds (f x)) xs
-unfolding founds flatMap
-founds-flatMap f [] = refl
-founds-flatMap f (x ∷ xs) = founds-append (f x) (flatMap f xs) ∙ ap {B = List Bindings} (λ r. founds (f x) ++ r) (founds-flatMap f xs)
+-- ---- Of what is met, the states whose row is found and the ends of searches inside a not.
+
+unfoldable pub stops : List Met → List Met
+stops [] = []
+stops (taken passed ∷ ms) = stops ms
+stops (taken (found e) ∷ ms) = taken (found e) ∷ stops ms
+stops (ended ∷ ms) = ended ∷ stops ms
+
+stops-append : (xs ys : List Met) → stops (xs ++ ys) ≡ stops xs ++ stops ys
+unfolding stops
+stops-append [] ys = refl
+stops-append (taken passed ∷ xs) ys = stops-append xs ys
+stops-append (taken (found e) ∷ xs) ys = ap {B = List Met} (λ r. taken (found e) ∷ r) (stops-append xs ys)
+stops-append (ended ∷ xs) ys = ap {B = List Met} (λ r. ended ∷ r) (stops-append xs ys)
+
+stops-flatMap : {A : Type 0} (f : A → List Met) (xs : List A) → stops (flatMap f xs) ≡ flatMap (λ x. stops (f x)) xs
+unfolding stops flatMap
+stops-flatMap f [] = refl
+stops-flatMap f (x ∷ xs) = stops-append (f x) (flatMap f xs) ∙ ap {B = List Met} (λ r. stops (f x) ++ r) (stops-flatMap f xs)
+
+pub no-cons : {A B : Type 0} {x : A} {xs : List A} → x ∷ xs ≡ [] → B
+no-cons e = let z : _≡_ {A = ℕ} 0 1 = cc in absurd (suc-ne-zero 0 (sym z))
+
+pub not-ended : {A : Type 0} {t : Taken} {ms ns : List Met} → taken t ∷ ms ≡ ended ∷ ns → A
+not-ended e = let z : _≡_ {A = ℕ} 0 1 = cc in absurd (suc-ne-zero 0 (sym z))
+
+-- A search inside a not that meets no end, and one that meets one.
+inside-none : (ms ns : List Met) → stops ms ≡ [] → stops (inside ms ns) ≡ stops ns
+unfolding stops inside
+inside-none [] ns h = refl
+inside-none (taken passed ∷ ms) ns h = inside-none ms ns h
+inside-none (taken (found e) ∷ ms) ns h = no-cons h
+inside-none (ended ∷ ms) ns h = no-cons h
+
+inside-ended : (ms ns us : List Met) → stops ms ≡ ended ∷ us → stops (inside ms ns) ≡ []
+unfolding stops inside
+inside-ended [] ns us h = no-cons (sym h)
+inside-ended (taken passed ∷ ms) ns us h = inside-ended ms ns us h
+inside-ended (taken (found e) ∷ ms) ns us h = not-ended h
+inside-ended (ended ∷ ms) ns us h = refl
+
+-- ---- What a continuation meets after the solutions of a chain, and of a cons or a join.
 
 forget : {A : Type 0} (f : Halves → List A) (hs : List Halves) → flatMap (λ c. f (c .halves)) (numbered hs) ≡ flatMap f hs
 unfolding numbered flatMap
 forget f [] = refl
 forget {A} f (h ∷ hs) = ap {B = List A} (λ r. f h ++ r) (flatMap-map (λ c. f (c .halves)) up (numbered hs) ∙ forget f hs)
 
--- What a continuation finds after the solutions of a chain, and of a cons or a join.
-after-chain : (w : Way) (ss : List Solution) (g : Bindings → List Solution) (k : Bindings → List Bindings)
+after-chain : (w : Way) (ss : List Solution) (g : Bindings → List Solution) (k : Bindings → List Met)
     → flatMap (λ s. k (s .bound)) (chain w ss g) ≡ flatMap (λ s. flatMap (λ t. k (t .bound)) (g (s .bound))) ss
 unfolding chain
 after-chain w ss g k = flatMap-flatMap (λ s. k (s .bound)) _ ss ∙ flatMap-cong _ _ ss (λ s. flatMap-map (λ t. k (t .bound)) (extend w s) (g (s .bound)))
 
-after : (b : Bool) (f : Value → List Solution) (g : Value → Bindings → List Solution) (k : Bindings → List Bindings) (hs : List Halves)
+after : (b : Bool) (f : Value → List Solution) (g : Value → Bindings → List Solution) (k : Bindings → List Met) (hs : List Halves)
     → flatMap (λ s. k (s .bound)) (combine b f g hs)
     ≡ flatMap (λ h. flatMap (λ s. flatMap (λ t. k (t .bound)) (g (h .second) (s .bound))) (f (h .first))) hs
 unfolding combine
@@ -136,57 +89,92 @@ after b f g k hs =
     ∙ flatMap-cong _ _ (numbered hs) (λ c. after-chain (mark b (c .no)) (f (c .halves .first)) (g (c .halves .second)) k)
     ∙ forget (λ h. flatMap (λ s. flatMap (λ t. k (t .bound)) (g (h .second) (s .bound))) (f (h .first))) hs
 
-test : (b : Bool) (e : Bindings) (k : Bindings → List Taken) → founds (onlyIf b (k e)) ≡ flatMap (λ s. founds (k (s .bound))) (whenSo b e)
-unfolding founds onlyIf whenSo flatMap
-test true e k = sym (append-nil (founds (k e)))
+test : (b : Bool) (e : Bindings) (k : Bindings → List Met) → stops (onlyIf b (k e)) ≡ flatMap (λ s. stops (k (s .bound))) (whenSo b e)
+unfolding stops onlyIf whenSo flatMap
+test true e k = sym (append-nil (stops (k e)))
 test false e k = refl
 
-leaf : (b : Bool) (e : Bindings) (k : Bindings → List Taken)
-    → founds (elim b as (λ _. List Taken) [ true ↦ k e | false ↦ passed ∷ k e ]) ≡ flatMap (λ s. founds (k (s .bound))) (just e)
-unfolding founds just flatMap
-leaf true e k = sym (append-nil (founds (k e)))
-leaf false e k = sym (append-nil (founds (k e)))
+leaf : (b : Bool) (e : Bindings) (k : Bindings → List Met)
+    → stops (elim b as (λ _. List Met) [ true ↦ k e | false ↦ pass ∷ k e ]) ≡ flatMap (λ s. stops (k (s .bound))) (just e)
+unfolding stops just flatMap
+leaf true e k = sym (append-nil (stops (k e)))
+leaf false e k = sym (append-nil (stops (k e)))
+
+-- The sides of an or.
+sides : (ss ts : List Solution) (k : Bindings → List Met)
+    → flatMap (λ s. k (s .bound)) (map (onSide 0) ss ++ map (onSide 1) ts) ≡ flatMap (λ s. k (s .bound)) ss ++ flatMap (λ s. k (s .bound)) ts
+unfolding onSide
+sides ss ts k = flatMap-append (λ s. k (s .bound)) (map (onSide 0) ss) (map (onSide 1) ts)
+    ∙ ap₂ {C = List Met} (λ xs ys. xs ++ ys) (flatMap-map (λ s. k (s .bound)) (onSide 0) ss) (flatMap-map (λ s. k (s .bound)) (onSide 1) ts)
+
+-- A not, by the solutions inside it.
+nothing : (ms : List Met) (ss : List Solution) (e : Bindings) (k : Bindings → List Met) → stops ms ≡ flatMap (λ s. ended ∷ []) ss
+    → stops (inside ms (k e)) ≡ flatMap (λ s. stops (k (s .bound))) (whenSo (none ss) e)
+unfolding none whenSo just flatMap
+nothing ms [] e k h = inside-none ms (k e) h ∙ sym (append-nil (stops (k e)))
+nothing ms (s ∷ ss) e k h = inside-ended ms (k e) _ h
+
+-- ---- What stops the search from an atom on is what comes after its solutions.
 
 mutual
-  unfolding founds visit solve
+  unfolding stops visit solve
 
-  pub founds-visit : (p : Pattern) (m : Matcher) (v : Value) (e : Bindings) (k : Bindings → List Taken)
-      → founds (visit p m v e k) ≡ flatMap (λ s. founds (k (s .bound))) (solve p m v e)
-  founds-visit wildcard m v e k = leaf (isSomething m) e k
-  founds-visit nil m v e k = test (isEmpty v) e k
-  founds-visit (variable x) m v e k = leaf (isSomething m) (e ++ (v ∷ [])) k
-  founds-visit (constant c) m v e k = test (isConstant c v) e k
-  founds-visit (value x c) m v e k = test (isValue m e x c v) e k
-  founds-visit (cons p q) m v e k =
-      founds-flatMap _ (consHalves m v)
-      ∙ flatMap-cong _ _ (consHalves m v) (λ h. founds-visit p (element m) (h .first) e (λ d. visit q m (h .second) d k)
-      ∙ flatMap-cong _ _ (solve p (element m) (h .first) e) (λ s. founds-visit q m (h .second) (s .bound) k))
-      ∙ sym (after (isMultiset m) (λ a. solve p (element m) a e) (λ a d. solve q m a d) (λ d. founds (k d)) (consHalves m v))
-  founds-visit (join p q) m v e k =
-      founds-flatMap _ (joinHalves v)
-      ∙ flatMap-cong _ _ (joinHalves v) (λ h. founds-visit p m (h .first) e (λ d. visit q m (h .second) d k)
-      ∙ flatMap-cong _ _ (solve p m (h .first) e) (λ s. founds-visit q m (h .second) (s .bound) k))
-      ∙ sym (after true (λ a. solve p m a e) (λ a d. solve q m a d) (λ d. founds (k d)) (joinHalves v))
-  founds-visit (tuple ps) m (int x) e k = refl
-  founds-visit (tuple ps) m (collection vs) e k = refl
-  founds-visit (tuple ps) m (tupled vs) e k = founds-each ps (members m) vs e k
+  pub stops-visit : (p : Pattern) (m : Matcher) (v : Value) (e : Bindings) (k : Bindings → List Met)
+      → stops (visit p m v e k) ≡ flatMap (λ s. stops (k (s .bound))) (solve p m v e)
+  stops-visit wildcard m v e k = leaf (isSomething m) e k
+  stops-visit nil m v e k = test (isEmpty v) e k
+  stops-visit (variable x) m v e k = leaf (isSomething m) (e ++ (v ∷ [])) k
+  stops-visit (constant c) m v e k = test (isConstant c v) e k
+  stops-visit (value x c) m v e k = test (isValue m e x c v) e k
+  stops-visit (cons p q) m v e k =
+      stops-flatMap _ (consHalves m v)
+      ∙ flatMap-cong _ _ (consHalves m v) (λ h. stops-visit p (element m) (h .first) e (λ d. visit q m (h .second) d k)
+      ∙ flatMap-cong _ _ (solve p (element m) (h .first) e) (λ s. stops-visit q m (h .second) (s .bound) k))
+      ∙ sym (after (isMultiset m) (λ a. solve p (element m) a e) (λ a d. solve q m a d) (λ d. stops (k d)) (consHalves m v))
+  stops-visit (join p q) m v e k =
+      stops-flatMap _ (joinHalves v)
+      ∙ flatMap-cong _ _ (joinHalves v) (λ h. stops-visit p m (h .first) e (λ d. visit q m (h .second) d k)
+      ∙ flatMap-cong _ _ (solve p m (h .first) e) (λ s. stops-visit q m (h .second) (s .bound) k))
+      ∙ sym (after true (λ a. solve p m a e) (λ a d. solve q m a d) (λ d. stops (k d)) (joinHalves v))
+  stops-visit (tuple ps) m (int x) e k = refl
+  stops-visit (tuple ps) m (collection vs) e k = refl
+  stops-visit (tuple ps) m (tupled vs) e k = stops-each ps (members m) vs e k
+  stops-visit (both p q) m v e k =
+      stops-visit p m v e (λ d. visit q m v d k)
+      ∙ flatMap-cong _ _ (solve p m v e) (λ s. stops-visit q m v (s .bound) k)
+      ∙ sym (after-chain [] (solve p m v e) (λ d. solve q m v d) (λ d. stops (k d)))
+  stops-visit (either p q) m v e k =
+      stops-append (visit p m v e k) (visit q m v e k)
+      ∙ ap₂ {C = List Met} (λ xs ys. xs ++ ys) (stops-visit p m v e k) (stops-visit q m v e k)
+      ∙ sym (sides (solve p m v e) (solve q m v e) (λ d. stops (k d)))
+  stops-visit (never p) m v e k = nothing (visit p m v e (λ d. ended ∷ [])) (solve p m v e) e k (stops-visit p m v e (λ d. ended ∷ []))
 
-  founds-each : (ps : Patterns) (ms : Matchers) (vs : Values) (e : Bindings) (k : Bindings → List Taken)
-      → founds (visitEach ps ms vs e k) ≡ flatMap (λ s. founds (k (s .bound))) (solveEach ps ms vs e)
-  founds-each noPatterns ms vs e k = leaf true e k
-  founds-each (p ▸ᵖ ps) noMatchers vs e k = leaf true e k
-  founds-each (p ▸ᵖ ps) (m ▸ᵐ ms) empty e k = leaf true e k
-  founds-each (p ▸ᵖ ps) (m ▸ᵐ ms) (v ▸ vs) e k =
-      founds-visit p m v e (λ d. visitEach ps ms vs d k)
-      ∙ flatMap-cong _ _ (solve p m v e) (λ s. founds-each ps ms vs (s .bound) k)
-      ∙ sym (after-chain [] (solve p m v e) (λ d. solveEach ps ms vs d) (λ d. founds (k d)))
+  stops-each : (ps : Patterns) (ms : Matchers) (vs : Values) (e : Bindings) (k : Bindings → List Met)
+      → stops (visitEach ps ms vs e k) ≡ flatMap (λ s. stops (k (s .bound))) (solveEach ps ms vs e)
+  stops-each noPatterns ms vs e k = leaf true e k
+  stops-each (p ▸ᵖ ps) noMatchers vs e k = leaf true e k
+  stops-each (p ▸ᵖ ps) (m ▸ᵐ ms) empty e k = leaf true e k
+  stops-each (p ▸ᵖ ps) (m ▸ᵐ ms) (v ▸ vs) e k =
+      stops-visit p m v e (λ d. visitEach ps ms vs d k)
+      ∙ flatMap-cong _ _ (solve p m v e) (λ s. stops-each ps ms vs (s .bound) k)
+      ∙ sym (after-chain [] (solve p m v e) (λ d. solveEach ps ms vs d) (λ d. stops (k d)))
 
-singles : (ss : List Solution) → flatMap (λ s. founds (found (s .bound) ∷ [])) ss ≡ map (λ s. s .bound) ss
-unfolding flatMap founds
-singles [] = refl
-singles (s ∷ ss) = ap {B = List Bindings} (λ r. s .bound ∷ r) (singles ss)
+-- ---- The rows that the whole search finds, in order.
 
--- The rows that the whole search finds, in order.
+same-row : {d e : Bindings} {ms ns : List Met} → taken (found d) ∷ ms ≡ taken (found e) ∷ ns → (d ≡ e) × (ms ≡ ns)
+same-row h = (cc, cc)
+
+founds-close : (ms : List Met) (ss : List Solution) → stops ms ≡ flatMap (λ s. taken (found (s .bound)) ∷ []) ss → founds (close ms) ≡ map (λ s. s .bound) ss
+unfolding stops founds close flatMap
+founds-close [] [] h = refl
+founds-close [] (s ∷ ss) h = no-cons (sym h)
+founds-close (taken passed ∷ ms) ss h = founds-close ms ss h
+founds-close (taken (found d) ∷ ms) [] h = no-cons h
+founds-close (taken (found d) ∷ ms) (s ∷ ss) h =
+    let r = same-row h in ap₂ {C = List Bindings} (λ x xs. x ∷ xs) (r .0) (founds-close ms ss (r .1))
+founds-close (ended ∷ ms) [] h = no-cons h
+founds-close (ended ∷ ms) (s ∷ ss) h = not-ended (sym h)
+
 pub founds-start : (m : Matcher) (p : Pattern) (v : Value) → founds (trace (start m p v ∷ [])) ≡ map (λ s. s .bound) (solve p m v [])
-unfolding trace founds start
-founds-start m p v = ap founds (append-nil (visit p m v [] (λ d. found d ∷ []))) ∙ founds-visit p m v [] (λ d. found d ∷ []) ∙ singles (solve p m v [])
+unfolding trace met start stops
+founds-start m p v = founds-close (visit p m v [] (λ d. taken (found d) ∷ [])) (solve p m v []) (stops-visit p m v [] (λ d. taken (found d) ∷ []))

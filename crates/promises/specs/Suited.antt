@@ -12,7 +12,7 @@ use Rattle.rules.specs.Variables.{demand}
 use Rattle.rules.specs.Fit.{element, members, fitsAll, fitsValue, fitsEach}
 use Rattle.rules.specs.Equality.{picks}
 use Rattle.rules.specs.Search.{cuts, Halves, consHalves, joinHalves}
-use Rattle.promises.specs.Lists.{Mem}
+use Rattle.rules.specs.Lists.{Mem}
 use Rattle.promises.specs.Readers.{then-ok}
 use Rattle.promises.specs.Numbering.{demand-ok}
 use Rattle.promises.specs.Parts.{Among, none, kept, left, pick-among, cut-among}

@@ -6,7 +6,7 @@ use mathlib.Core.List.{List, [], _∷_, _++_}
 use lib.ListN.{length, length-append}
 use lib.IntN.{ℤ, pos}
 use Rattle.rules.specs.Forms.{Matcher, something, integer, list, multiset, tupleOf, Matchers, noMatchers, _▸ᵐ_, countᵐ}
-use Rattle.rules.specs.Forms.{Pattern, wildcard, variable, constant, value, nil, cons, join, tuple, Patterns, noPatterns, _▸ᵖ_, countᵖ, span, spanAll}
+use Rattle.rules.specs.Forms.{Pattern, wildcard, variable, constant, value, nil, cons, join, tuple, both, either, never, Patterns, noPatterns, _▸ᵖ_, countᵖ, span, spanAll}
 use Rattle.rules.specs.Forms.{Value, int, collection, tupled, Values, empty, _▸_, count, words, wordsAll, size, sizeAll}
 
 unfoldable mutual
@@ -35,6 +35,9 @@ unfoldable mutual
   patternWords (cons p q) = pos 5 ∷ (patternWords p ++ patternWords q)
   patternWords (join p q) = pos 6 ∷ (patternWords p ++ patternWords q)
   patternWords (tuple ps) = pos 7 ∷ pos (countᵖ ps) ∷ patternWordsAll ps
+  patternWords (both p q) = pos 8 ∷ (patternWords p ++ patternWords q)
+  patternWords (either p q) = pos 9 ∷ (patternWords p ++ patternWords q)
+  patternWords (never p) = pos 10 ∷ patternWords p
 
   pub patternWordsAll : Patterns → List ℤ
   patternWordsAll noPatterns = []
@@ -64,6 +67,9 @@ unfoldable mutual
   variableTags (cons p q) = variableTags p + variableTags q
   variableTags (join p q) = variableTags p + variableTags q
   variableTags (tuple ps) = variableTagsAll ps
+  variableTags (both p q) = variableTags p + variableTags q
+  variableTags (either p q) = variableTags p + variableTags q
+  variableTags (never p) = variableTags p
 
   pub variableTagsAll : Patterns → ℕ
   variableTagsAll noPatterns = 0
@@ -128,6 +134,9 @@ unfoldable mutual
   Widthsᵖ (cons p q) = Widthsᵖ p × Widthsᵖ q
   Widthsᵖ (join p q) = Widthsᵖ p × Widthsᵖ q
   Widthsᵖ (tuple ps) = IsWidth (countᵖ ps) × WidthsAllᵖ ps
+  Widthsᵖ (both p q) = Widthsᵖ p × Widthsᵖ q
+  Widthsᵖ (either p q) = Widthsᵖ p × Widthsᵖ q
+  Widthsᵖ (never p) = Widthsᵖ p
 
   pub WidthsAllᵖ : Patterns → Type 0
   WidthsAllᵖ noPatterns = Unit {0}
@@ -171,6 +180,9 @@ mutual
   length-pattern-words (cons p q) = omega (arith, length-append (patternWords p) (patternWords q), length-pattern-words p, length-pattern-words q)
   length-pattern-words (join p q) = omega (arith, length-append (patternWords p) (patternWords q), length-pattern-words p, length-pattern-words q)
   length-pattern-words (tuple ps) = omega (arith, length-pattern-words-all ps)
+  length-pattern-words (both p q) = omega (arith, length-append (patternWords p) (patternWords q), length-pattern-words p, length-pattern-words q)
+  length-pattern-words (either p q) = omega (arith, length-append (patternWords p) (patternWords q), length-pattern-words p, length-pattern-words q)
+  length-pattern-words (never p) = omega (arith, length-pattern-words p)
 
   pub length-pattern-words-all : (ps : Patterns) → length (patternWordsAll ps) ≡ spanAll ps
   length-pattern-words-all noPatterns = refl

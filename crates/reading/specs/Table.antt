@@ -5,7 +5,7 @@ use mathlib.Core.Option.{Option, none, some}
 use lib.ListN.{getElem?}
 use Rattle.rules.specs.Forms.{something, noMatchers}
 use Rattle.rules.specs.Fit.{takes}
-use Rattle.rules.specs.Reading.{MatcherTag, bare, of, ofAll, matcherTags, PatternTag, alone, operand, operands, parts, wide, patternTags}
+use Rattle.rules.specs.Reading.{MatcherTag, bare, of, ofAll, matcherTags, PatternTag, alone, operand, operands, inner, parts, wide, patternTags}
 use Rattle.reading.specs.declared.table.Row.{Row}
 use Rattle.reading.specs.declared.table.Row.the-variants.{Unknown, Known, Wide}
 
@@ -26,6 +26,7 @@ rowIn none taken = Unknown
 rowIn (some (alone p)) taken = Known 0 0 taken
 rowIn (some (operand f)) taken = Known 1 0 taken
 rowIn (some (operands f)) taken = Known 2 0 taken
+rowIn (some (inner f)) taken = Known 0 1 taken
 rowIn (some (parts f)) taken = Known 0 2 taken
 rowIn (some (wide f)) taken = Wide taken
 

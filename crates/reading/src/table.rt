@@ -23,6 +23,9 @@ pub fn row_of(m: u32, t: u32) -> Row
         5 => Row::Known(0, 2, between(2, m, 3)),
         6 => Row::Known(0, 2, between(2, m, 2)),
         7 => Row::Wide(between(4, m, 4)),
-        8..=4294967295 => Row::Unknown,
+        8 => Row::Known(0, 2, between(0, m, 4)),
+        9 => Row::Known(0, 2, between(0, m, 4)),
+        10 => Row::Known(0, 1, between(0, m, 4)),
+        11..=4294967295 => Row::Unknown,
     }
 }

@@ -7,20 +7,25 @@ use lib.Dec.{eqb}
 use lib.IntN.{ℤ, pos}
 use Rattle.rules.specs.Numbers.{same}
 use Rattle.rules.specs.Forms.{Matcher, something, integer, list, multiset, tupleOf, Matchers, noMatchers, _▸ᵐ_, countᵐ}
-use Rattle.rules.specs.Forms.{Pattern, wildcard, variable, constant, value, nil, cons, join, tuple, Patterns, noPatterns, _▸ᵖ_, countᵖ, span}
+use Rattle.rules.specs.Forms.{Pattern, wildcard, variable, constant, value, nil, cons, join, tuple, both, either, never, Patterns, noPatterns, _▸ᵖ_, countᵖ, span}
 use Rattle.rules.specs.Forms.{Value, int, collection, tupled, Values, empty, _▸_, count, size}
 use Rattle.rules.specs.Reading.{Verdict, ok, fault, _then_, entry}
 use Rattle.rules.specs.Variables.{demand}
 
 -- ---- Pattern and matcher.
 
+-- And, or, not: "each under any matcher".
+unfoldable pub anywhere : List ℕ
+anywhere = 8 ∷ 9 ∷ 10 ∷ []
+
 -- The tags that a matcher takes.
 unfoldable pub tagsOf : Matcher → List ℕ
-tagsOf something = 0 ∷ 1 ∷ []
-tagsOf integer = 0 ∷ 1 ∷ 2 ∷ 3 ∷ []
-tagsOf (list m) = 0 ∷ 1 ∷ 3 ∷ 4 ∷ 5 ∷ 6 ∷ []
-tagsOf (multiset m) = 0 ∷ 1 ∷ 3 ∷ 4 ∷ 5 ∷ []
-tagsOf (tupleOf ms) = 0 ∷ 1 ∷ 3 ∷ 7 ∷ []
+unfolding anywhere
+tagsOf something = 0 ∷ 1 ∷ anywhere
+tagsOf integer = 0 ∷ 1 ∷ 2 ∷ 3 ∷ anywhere
+tagsOf (list m) = 0 ∷ 1 ∷ 3 ∷ 4 ∷ 5 ∷ 6 ∷ anywhere
+tagsOf (multiset m) = 0 ∷ 1 ∷ 3 ∷ 4 ∷ 5 ∷ anywhere
+tagsOf (tupleOf ms) = 0 ∷ 1 ∷ 3 ∷ 7 ∷ anywhere
 
 unfoldable pub among : ℕ → List ℕ → Bool
 among t [] = false
@@ -132,6 +137,11 @@ unfoldable mutual
   fits (join p q) m at ms =
       demand (takes m 6) at ms then λ ks. fits p m (at + 1) ks then λ ls. fits q m (at + 1 + span p) ls
   fits (tuple ps) m at ms = demand (takes m 7 && eqb (countᵖ ps) (countᵐ (members m))) at ms then λ ks. fitsParts ps (members m) (at + 2) ks
+  fits (both p q) m at ms =
+      demand (takes m 8) at ms then λ ks. fits p m (at + 1) ks then λ ls. fits q m (at + 1 + span p) ls
+  fits (either p q) m at ms =
+      demand (takes m 9) at ms then λ ks. fits p m (at + 1) ks then λ ls. fits q m (at + 1 + span p) ls
+  fits (never p) m at ms = demand (takes m 10) at ms then λ ks. fits p m (at + 1) ks
 
   -- Each part under its matcher.
   pub fitsParts : Patterns → Matchers → (at : ℕ) → List Matcher → Verdict (List Matcher)

@@ -1,97 +1,105 @@
--- Document 01, section 5: good ways as a computation, the executable twin of Ways. A way is followed down the pattern and used up from its front.
-use Prim.Native.Nat.{ℕ}
+-- Document 01, section 5: the good ways as a computation, the executable twin of Ways: all of them, each with its bindings, in dictionary order.
+use Prim.Native.Nat.{ℕ, suc}
 use mathlib.Core.Bool.{Bool, true, false}
-use mathlib.Core.Option.{Option, none, some}
-use mathlib.Core.List.{List, [], _∷_, _++_}
-use lib.Dec.{leb}
+use mathlib.Core.List.{List, [], _∷_, _++_, map, flatMap}
 use Rattle.rules.specs.Forms.{Matcher, something, integer, list, multiset, tupleOf, Matchers, noMatchers, _▸ᵐ_}
-use Rattle.rules.specs.Forms.{Pattern, wildcard, variable, constant, value, nil, cons, join, tuple, Patterns, noPatterns, _▸ᵖ_}
-use Rattle.rules.specs.Forms.{Value, int, collection, tupled, Values, empty, _▸_, count}
+use Rattle.rules.specs.Forms.{Pattern, wildcard, nil, variable, constant, value, cons, join, tuple, both, either, never, Patterns, noPatterns, _▸ᵖ_}
+use Rattle.rules.specs.Forms.{Value, int, collection, tupled, Values, empty, _▸_}
 use Rattle.rules.specs.Fit.{element, members}
 use Rattle.rules.specs.Equality.{Bindings, isConstant, isValue, isEmpty}
-use Rattle.rules.specs.Ways.{Way, at, without, front, back}
+use Rattle.rules.specs.Search.{Halves, consHalves, joinHalves}
+use Rattle.rules.specs.Ways.{Way}
 
-infixl 20 _thenₒ_
-unfoldable pub _thenₒ_ : {A B : Type 0} → Option A → (A → Option B) → Option B
-none thenₒ k = none
-some a thenₒ k = k a
-
--- What a cons or a join divides a value into by the next choice, and the choices after it.
-pub record Divided : Type 0 where
-  pub first : Value
-  pub second : Value
-  pub left : Way
-
-unfoldable pub divided : Value → Value → Way → Divided
-divided a b w = record { first = a; second = b; left = w }
-
-unfoldable pub consBy : Matcher → Value → Way → Option Divided
-unfolding _thenₒ_ divided at without
-consBy something v w = none
-consBy integer v w = none
-consBy (list m) (int x) w = none
-consBy (list m) (collection empty) w = none
-consBy (list m) (collection (v ▸ vs)) w = some (divided v (collection vs) w)
-consBy (list m) (tupled vs) w = none
-consBy (multiset m) (int x) w = none
-consBy (multiset m) (collection vs) [] = none
-consBy (multiset m) (collection vs) (k ∷ w) = at vs k thenₒ λ a. some (divided a (collection (without vs k)) w)
-consBy (multiset m) (tupled vs) w = none
-consBy (tupleOf ms) v w = none
-
-unfoldable pub cutBy : Bool → Divided → Option Divided
-cutBy true d = some d
-cutBy false d = none
-
-unfoldable pub joinBy : Value → Way → Option Divided
-unfolding cutBy divided count front back
-joinBy (int x) w = none
-joinBy (collection vs) [] = none
-joinBy (collection vs) (k ∷ w) = cutBy (leb k (count vs)) (divided (collection (front vs k)) (collection (back vs k)) w)
-joinBy (tupled vs) w = none
-
--- The bindings after a pattern, and the choices that it left; none if with these choices the match fails.
-pub record Followed : Type 0 where
+pub record Solution : Type 0 where
+  pub way : Way
   pub bound : Bindings
-  pub left : Way
 
-unfoldable pub followed : Bindings → Way → Followed
-followed e w = record { bound = e; left = w }
+-- The choices at a cons or a join, numbered from 0.
+pub record Numbered : Type 0 where
+  pub no : ℕ
+  pub halves : Halves
 
-unfoldable pub ifSo : Bool → Followed → Option Followed
-ifSo true f = some f
-ifSo false f = none
+unfoldable pub up : Numbered → Numbered
+up c = record { no = suc (c .no); halves = c .halves }
 
-unfoldable pub parted : (Values → Option Followed) → Value → Option Followed
-parted f (int x) = none
-parted f (collection vs) = none
-parted f (tupled vs) = f vs
+unfoldable pub numbered : List Halves → List Numbered
+unfolding up
+numbered [] = []
+numbered (h ∷ hs) = record { no = 0; halves = h } ∷ map up (numbered hs)
+
+-- A cons under a multiset and a join put their choice into the way; a cons under a list does not.
+unfoldable pub isMultiset : Matcher → Bool
+isMultiset something = false
+isMultiset integer = false
+isMultiset (list m) = false
+isMultiset (multiset m) = true
+isMultiset (tupleOf ms) = false
+
+unfoldable pub mark : Bool → ℕ → Way
+mark true k = k ∷ []
+mark false k = []
+
+unfoldable pub extend : Way → Solution → Solution → Solution
+extend w s t = record { way = w ++ (s .way ++ t .way); bound = t .bound }
+
+-- After the choices w each solution of the first part, and after it each of the second.
+unfoldable pub chain : Way → List Solution → (Bindings → List Solution) → List Solution
+unfolding flatMap extend
+chain w ss g = flatMap (λ s. map (extend w s) (g (s .bound))) ss
+
+-- So for each choice.
+unfoldable pub combine : Bool → (Value → List Solution) → (Value → Bindings → List Solution) → List Halves → List Solution
+unfolding flatMap numbered mark chain
+combine b f g hs = flatMap (λ c. chain (mark b (c .no)) (f (c .halves .first)) (g (c .halves .second))) (numbered hs)
+
+-- On a side of an or, which stands in the way before the choices inside it.
+unfoldable pub onSide : ℕ → Solution → Solution
+onSide k s = record { way = k ∷ s .way; bound = s .bound }
+
+-- One solution, with no choice; and one or none, by a test.
+unfoldable pub just : Bindings → List Solution
+just e = record { way = []; bound = e } ∷ []
+
+unfoldable pub whenSo : Bool → Bindings → List Solution
+unfolding just
+whenSo true e = just e
+whenSo false e = []
+
+-- No solution.
+unfoldable pub none : List Solution → Bool
+none [] = true
+none (s ∷ ss) = false
+
+-- What the parts of a tuple give; of another value there are none.
+unfoldable pub ofParts : {A : Type 0} → (Values → List A) → Value → List A
+ofParts f (int x) = []
+ofParts f (collection vs) = []
+ofParts f (tupled vs) = f vs
 
 unfoldable mutual
-  unfolding _thenₒ_ followed ifSo isConstant isValue isEmpty consBy joinBy parted element members
+  unfolding just whenSo none combine chain onSide isConstant isValue isEmpty consHalves joinHalves element members isMultiset ofParts
 
-  pub follow : Pattern → Matcher → Value → Bindings → Way → Option Followed
-  follow wildcard m v e w = some (followed e w)
-  follow (variable x) m v e w = some (followed (e ++ (v ∷ [])) w)
-  follow (constant c) m v e w = ifSo (isConstant c v) (followed e w)
-  follow (value x c) m v e w = ifSo (isValue m e x c v) (followed e w)
-  follow nil m v e w = ifSo (isEmpty v) (followed e w)
-  follow (cons p q) m v e w =
-      consBy m v w thenₒ λ d. follow p (element m) (d .first) e (d .left) thenₒ λ f. follow q m (d .second) (f .bound) (f .left)
-  follow (join p q) m v e w =
-      joinBy v w thenₒ λ d. follow p m (d .first) e (d .left) thenₒ λ f. follow q m (d .second) (f .bound) (f .left)
-  follow (tuple ps) m v e w = parted (λ vs. followAll ps (members m) vs e w) v
+  pub solve : Pattern → Matcher → Value → Bindings → List Solution
+  solve wildcard m v e = just e
+  solve (variable x) m v e = just (e ++ (v ∷ []))
+  solve (constant c) m v e = whenSo (isConstant c v) e
+  solve (value x c) m v e = whenSo (isValue m e x c v) e
+  solve nil m v e = whenSo (isEmpty v) e
+  solve (cons p q) m v e = combine (isMultiset m) (λ a. solve p (element m) a e) (λ a d. solve q m a d) (consHalves m v)
+  solve (join p q) m v e = combine true (λ a. solve p m a e) (λ a d. solve q m a d) (joinHalves v)
+  solve (tuple ps) m v e = ofParts (λ vs. solveEach ps (members m) vs e) v
+  solve (both p q) m v e = chain [] (solve p m v e) (λ d. solve q m v d)
+  solve (either p q) m v e = map (onSide 0) (solve p m v e) ++ map (onSide 1) (solve q m v e)
+  solve (never p) m v e = whenSo (none (solve p m v e)) e
 
-  pub followAll : Patterns → Matchers → Values → Bindings → Way → Option Followed
-  followAll noPatterns ms vs e w = some (followed e w)
-  followAll (p ▸ᵖ ps) noMatchers vs e w = some (followed e w)
-  followAll (p ▸ᵖ ps) (m ▸ᵐ ms) empty e w = some (followed e w)
-  followAll (p ▸ᵖ ps) (m ▸ᵐ ms) (v ▸ vs) e w = follow p m v e w thenₒ λ f. followAll ps ms vs (f .bound) (f .left)
+  -- A tuple's parts: each part, and then the others.
+  pub solveEach : Patterns → Matchers → Values → Bindings → List Solution
+  solveEach noPatterns ms vs e = just e
+  solveEach (p ▸ᵖ ps) noMatchers vs e = just e
+  solveEach (p ▸ᵖ ps) (m ▸ᵐ ms) empty e = just e
+  solveEach (p ▸ᵖ ps) (m ▸ᵐ ms) (v ▸ vs) e = chain [] (solve p m v e) (λ d. solveEach ps ms vs d)
 
--- The bindings of a way that is good: the whole pattern is followed and no choice is left over.
-unfoldable pub allUsed : Followed → Option Bindings
-allUsed f = elim (f .left) [ [] ↦ some (f .bound) | k ∷ w ↦ none ]
-
-unfoldable pub bindingsBy : Matcher → Pattern → Value → Way → Option Bindings
-unfolding _thenₒ_ follow allUsed
-bindingsBy m p v w = follow p m v [] w thenₒ allUsed
+-- The good ways of a rule on a target.
+unfoldable pub goodWays : Matcher → Pattern → Value → List Solution
+unfolding solve
+goodWays m p v = solve p m v []

@@ -15,7 +15,8 @@ mutual
     noMatchers : Matchers
     _▸ᵐ_ : Matcher → Matchers → Matchers
 
--- An operand is a word as it stands: `variable v`, `constant c`, `value v c` (the value of variable v, plus c). What v may be is said in Variables.
+-- An operand is a word as it stands: `variable v`, `constant c`, `value v c` (the value of variable v, plus c). What v may be is said in
+-- Variables. `both`, `either` and `never` are and, or, not.
 infixr 67 _▸ᵖ_
 mutual
   pub data Pattern : Type 0 where
@@ -24,6 +25,8 @@ mutual
     value : ℤ → ℤ → Pattern
     cons join : Pattern → Pattern → Pattern
     tuple : Patterns → Pattern
+    both either : Pattern → Pattern → Pattern
+    never : Pattern → Pattern
 
   pub data Patterns : Type 0 where
     noPatterns : Patterns
@@ -87,6 +90,9 @@ unfoldable mutual
   span (cons p q) = 1 + span p + span q
   span (join p q) = 1 + span p + span q
   span (tuple ps) = 2 + spanAll ps
+  span (both p q) = 1 + span p + span q
+  span (either p q) = 1 + span p + span q
+  span (never p) = 1 + span p
 
   pub spanAll : Patterns → ℕ
   spanAll noPatterns = 0

@@ -1,4 +1,4 @@
--- The rules of document 01 as definitions, to be read in this order.
+-- The rules of document 01, with the requests of document 02 that have landed, as definitions, to be read in this order.
 pub mod Numbers
 pub mod Forms
 pub mod Reading
@@ -8,6 +8,8 @@ pub mod Equality
 pub mod Search
 pub mod Ways
 pub mod Following
+pub mod Lists
+pub mod Choices
 pub mod Twin
 pub mod Review
 pub mod Services
@@ -15,4 +17,5 @@ pub mod Tables
 pub mod Worked
 pub mod WorkedTuples
 pub mod WorkedSums
+pub mod WorkedChoices
 pub mod Refusals

@@ -8,7 +8,7 @@ use mathlib.Core.Bool.{_&&_}
 use lib.Dec.{leb}
 use lib.IntN.{ℤ, pos, negsuc}
 use Rattle.rules.specs.Forms.{Matcher, something, integer, list, multiset, tupleOf, Matchers, noMatchers, _▸ᵐ_}
-use Rattle.rules.specs.Forms.{Pattern, wildcard, variable, constant, value, nil, cons, join, tuple, Patterns, noPatterns, _▸ᵖ_}
+use Rattle.rules.specs.Forms.{Pattern, wildcard, variable, constant, value, nil, cons, join, tuple, both, either, never, Patterns, noPatterns, _▸ᵖ_}
 use Rattle.rules.specs.Forms.{Value, int, collection, tupled, Values, empty, _▸_}
 
 -- What a test finds: `ok` with what it was after, or the place of the fault.
@@ -115,12 +115,13 @@ unfoldable pub readMatcher : List ℤ → Verdict Matcher
 unfolding matcher whole limited
 readMatcher = limited 64 (whole (matcher 4))
 
--- ---- Pattern, at most 256 words. A tag has no operand, one or two; or two parts; or a width and so many parts.
+-- ---- Pattern, at most 256 words. A tag has no operand, one or two; or one part or two; or a width and so many parts.
 
 pub data PatternTag : Type 0 where
   alone : Pattern → PatternTag
   operand : (ℤ → Pattern) → PatternTag
   operands : (ℤ → ℤ → Pattern) → PatternTag
+  inner : (Pattern → Pattern) → PatternTag
   parts : (Pattern → Pattern → Pattern) → PatternTag
   wide : (Patterns → Pattern) → PatternTag
 
@@ -134,6 +135,9 @@ patternTags =
     ∷ parts cons  -- 5 p q  cons: an element and the rest
     ∷ parts join  -- 6 p q  join: a front and a back
     ∷ wide tuple  -- 7 k ..  tuple of k patterns
+    ∷ parts both  -- 8 p q  and: both on the same value
+    ∷ parts either  -- 9 p q  or
+    ∷ inner never  -- 10 p   not
     ∷ []
 
 unfoldable pub patternParts : Reader Pattern → PatternTag → Reader Pattern
@@ -141,6 +145,7 @@ unfolding _>>=_ give word known width times
 patternParts part (alone p) = give p
 patternParts part (operand f) = word >>= λ x. give (f x)
 patternParts part (operands f) = word >>= λ x. word >>= λ y. give (f x y)
+patternParts part (inner f) = part >>= λ p. give (f p)
 patternParts part (parts f) = part >>= λ p. part >>= λ q. give (f p q)
 patternParts part (wide f) = known width >>= λ k. times noPatterns _▸ᵖ_ part k >>= λ ps. give (f ps)
 

@@ -93,11 +93,15 @@ table =
     ∷ refuses integer (nums (1 ∷ [])) none 2 1
     ∷ refuses integer (nums (3 ∷ 0 ∷ [])) none 2 2
     ∷ refuses integer (nums (5 ∷ 0 ∷ [])) none 2 2
-    ∷ refuses integer (nums (8 ∷ [])) none 2 0  -- a wrong tag
+    ∷ refuses integer (nums (11 ∷ [])) none 2 0  -- a wrong tag
     ∷ refuses integer (nums (7 ∷ [])) none 2 1  -- a tuple cut short
     ∷ refuses integer (nums (7 ∷ 3 ∷ 0 ∷ 0 ∷ [])) none 2 4
     ∷ refuses integer (nums (7 ∷ 1 ∷ 0 ∷ [])) none 2 1  -- a width out of range
     ∷ refuses integer (nums (7 ∷ 5 ∷ 0 ∷ [])) none 2 1
+    ∷ refuses integer (nums (8 ∷ 0 ∷ [])) none 2 2  -- and, or, not cut short
+    ∷ refuses integer (nums (9 ∷ 0 ∷ [])) none 2 2
+    ∷ refuses integer (nums (10 ∷ [])) none 2 1
+    ∷ refuses integer (nums (10 ∷ 0 ∷ 0 ∷ [])) none 2 2
     ∷ refuses integer (pos 5 ∷ pos 0 ∷ minus 1 ∷ []) none 2 2
     ∷ refuses integer (nums (0 ∷ 0 ∷ [])) none 2 1  -- left over
     ∷ passes multisetInteger (chain 127) (braces []) 0 1  -- 255 words
@@ -114,6 +118,13 @@ table =
     ∷ refuses multisetInteger (binding 0 16) none 5 0  -- sixteen variables
     ∷ refuses multisetInteger (binding 0 17) none 3 49  -- a seventeenth
     ∷ refuses multisetInteger (nums (5 ∷ 4 ∷ 1 ∷ 1 ∷ [])) none 3 2  -- a misfit stands to its left
+    ∷ refuses integer (nums (10 ∷ 1 ∷ 0 ∷ [])) none 3 1  -- inside a not
+    ∷ refuses multisetInteger (nums (10 ∷ 5 ∷ 1 ∷ 0 ∷ 0 ∷ [])) none 3 2
+    ∷ refuses integer (nums (9 ∷ 1 ∷ 0 ∷ 0 ∷ [])) none 3 1  -- inside an or
+    ∷ refuses integer (nums (8 ∷ 1 ∷ 0 ∷ 9 ∷ 3 ∷ 0 ∷ 0 ∷ 1 ∷ 1 ∷ [])) none 3 7
+    ∷ refuses integer (nums (9 ∷ 0 ∷ 8 ∷ 0 ∷ 1 ∷ 0 ∷ [])) none 3 4  -- inside an and that stands inside an or
+    ∷ refuses integer (nums (9 ∷ 3 ∷ 0 ∷ 0 ∷ 1 ∷ 0 ∷ [])) none 3 1  -- the first fault of the two
+    ∷ refuses integer (nums (8 ∷ 10 ∷ 0 ∷ 1 ∷ 1 ∷ [])) none 3 3  -- after a not the numbers go on from 0
     -- 4 misfit
     ∷ refuses something (nums (2 ∷ 7 ∷ [])) none 4 0
     ∷ refuses something (nums (4 ∷ [])) none 4 0
@@ -130,6 +141,10 @@ table =
     ∷ refuses integer (nums (7 ∷ 2 ∷ 0 ∷ 0 ∷ [])) none 4 0
     ∷ refuses pair (nums (5 ∷ 0 ∷ 0 ∷ [])) none 4 0
     ∷ refuses pair (nums (7 ∷ 2 ∷ 0 ∷ 4 ∷ [])) none 4 3
+    ∷ refuses integer (nums (8 ∷ 0 ∷ 4 ∷ [])) none 4 2  -- inside and, or, not
+    ∷ refuses integer (nums (9 ∷ 4 ∷ 0 ∷ [])) none 4 1
+    ∷ refuses something (nums (10 ∷ 2 ∷ 5 ∷ [])) none 4 1
+    ∷ refuses listInteger (nums (8 ∷ 1 ∷ 0 ∷ 5 ∷ 3 ∷ 0 ∷ 0 ∷ 0 ∷ [])) none 4 4
     -- 5 target
     ∷ refuses something wildcard none 5 0  -- cut short
     ∷ refuses something wildcard (nums (0 ∷ [])) 5 1
@@ -166,7 +181,7 @@ table =
     ∷ refuses integer (nums (1 ∷ 1 ∷ [])) (replicate 1025 (pos 0)) 3 0
     -- review: 1 to 4, then 9, then 10
     ∷ declines (nums (9 ∷ [])) wildcard (pos 65) 1 0
-    ∷ declines integer (nums (9 ∷ [])) (pos 65) 2 0
+    ∷ declines integer (nums (11 ∷ [])) (pos 65) 2 0
     ∷ declines integer (nums (1 ∷ 1 ∷ [])) (pos 65) 3 0
     ∷ declines integer (nums (4 ∷ [])) (pos 65) 4 0
     ∷ declines multisetInteger (chain 5) (pos 65) 9 0

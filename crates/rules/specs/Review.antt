@@ -1,18 +1,9 @@
--- Document 01, section 6: review's formula. `most` is the cap.
+-- Document 01, section 6, and document 02, No. 3: review's formula, on the pattern's tree. `most` is the cap.
 use Prim.Native.Nat.{ℕ, suc, _+_, _*_}
 use mathlib.Core.Bool.{cond}
-use mathlib.Core.List.{List, [], _∷_, _++_}
 use Rattle.rules.specs.Forms.{Matcher, something, integer, list, multiset, tupleOf, Matchers, noMatchers, _▸ᵐ_}
-use Rattle.rules.specs.Forms.{Pattern, wildcard, variable, constant, value, nil, cons, join, tuple, Patterns, noPatterns, _▸ᵖ_}
+use Rattle.rules.specs.Forms.{Pattern, wildcard, variable, constant, value, nil, cons, join, tuple, both, either, never, Patterns, noPatterns, _▸ᵖ_}
 use Rattle.rules.specs.Fit.{element, members, isSomething}
-
--- What is given to a tag.
-pub record Weight : Type 0 where
-  pub steps : ℕ
-  pub factor : ℕ
-
-unfoldable pub weight : ℕ → ℕ → Weight
-weight s f = record { steps = s; factor = f }
 
 -- "Steps: 2 for tags 0 and 1 under integer, list or multiset, else 1", and two under a tuple matcher.
 unfoldable pub leafSteps : Matcher → ℕ
@@ -27,31 +18,53 @@ consFactor most (list m) = 1
 consFactor most (multiset m) = most
 consFactor most (tupleOf ms) = 1
 
--- The tags, left to right.
+-- The product of the factors of a pattern's tags. A tuple and an and have factor 1 of their own; "an or adds its sides' factors .., a not has factor 1".
 unfoldable mutual
-  unfolding weight leafSteps consFactor element members
+  unfolding consFactor element members
 
-  pub weights : ℕ → Pattern → Matcher → List Weight
-  weights most wildcard m = weight (leafSteps m) 1 ∷ []
-  weights most (variable v) m = weight (leafSteps m) 1 ∷ []
-  weights most (constant c) m = weight 1 1 ∷ []
-  weights most (value v c) m = weight 1 1 ∷ []
-  weights most nil m = weight 1 1 ∷ []
-  weights most (cons p q) m = weight 1 (consFactor most m) ∷ (weights most p (element m) ++ weights most q m)
-  weights most (join p q) m = weight 1 (suc most) ∷ (weights most p m ++ weights most q m)
-  weights most (tuple ps) m = weight 1 1 ∷ weightsAll most ps (members m)
+  pub factor : ℕ → Pattern → Matcher → ℕ
+  factor most wildcard m = 1
+  factor most (variable v) m = 1
+  factor most (constant c) m = 1
+  factor most (value v c) m = 1
+  factor most nil m = 1
+  factor most (cons p q) m = consFactor most m * (factor most p (element m) * factor most q m)
+  factor most (join p q) m = suc most * (factor most p m * factor most q m)
+  factor most (tuple ps) m = factorAll most ps (members m)
+  factor most (both p q) m = factor most p m * factor most q m
+  factor most (either p q) m = factor most p m + factor most q m
+  factor most (never p) m = 1
 
-  pub weightsAll : ℕ → Patterns → Matchers → List Weight
-  weightsAll most noPatterns ms = []
-  weightsAll most (p ▸ᵖ ps) noMatchers = []
-  weightsAll most (p ▸ᵖ ps) (m ▸ᵐ ms) = weights most p m ++ weightsAll most ps ms
+  pub factorAll : ℕ → Patterns → Matchers → ℕ
+  factorAll most noPatterns ms = 1
+  factorAll most (p ▸ᵖ ps) noMatchers = 1
+  factorAll most (p ▸ᵖ ps) (m ▸ᵐ ms) = factor most p m * factorAll most ps ms
 
--- "The count is, over the tags left to right, the steps times the factors of all earlier tags, summed, plus the product of all factors." `earlier`
--- is the product of the earlier factors.
-unfoldable pub total : (earlier : ℕ) → List Weight → ℕ
-total earlier [] = earlier
-total earlier (t ∷ ts) = t .steps * earlier + total (earlier * t .factor) ts
+-- "Over the tags left to right, the steps times the factors of all earlier tags, summed." `earlier` is the product of the earlier factors. "The new tags
+-- take one step; an or adds its sides' .. counts without closing product", each after the same earlier tags; "a not .. adds its whole inner count".
+unfoldable mutual
+  unfolding leafSteps consFactor factor element members
 
+  pub summed : ℕ → Pattern → Matcher → (earlier : ℕ) → ℕ
+  summed most wildcard m earlier = leafSteps m * earlier
+  summed most (variable v) m earlier = leafSteps m * earlier
+  summed most (constant c) m earlier = earlier
+  summed most (value v c) m earlier = earlier
+  summed most nil m earlier = earlier
+  summed most (cons p q) m earlier =
+      earlier + summed most p (element m) (earlier * consFactor most m) + summed most q m (earlier * consFactor most m * factor most p (element m))
+  summed most (join p q) m earlier = earlier + summed most p m (earlier * suc most) + summed most q m (earlier * suc most * factor most p m)
+  summed most (tuple ps) m earlier = earlier + summedAll most ps (members m) earlier
+  summed most (both p q) m earlier = earlier + summed most p m earlier + summed most q m (earlier * factor most p m)
+  summed most (either p q) m earlier = earlier + summed most p m earlier + summed most q m earlier
+  summed most (never p) m earlier = earlier + (summed most p m earlier + earlier * factor most p m)
+
+  pub summedAll : ℕ → Patterns → Matchers → (earlier : ℕ) → ℕ
+  summedAll most noPatterns ms earlier = 0
+  summedAll most (p ▸ᵖ ps) noMatchers earlier = 0
+  summedAll most (p ▸ᵖ ps) (m ▸ᵐ ms) earlier = summed most p m earlier + summedAll most ps ms (earlier * factor most p m)
+
+-- The count: that sum, "plus the product of all factors".
 unfoldable pub formula : ℕ → Pattern → Matcher → ℕ
-unfolding weights total
-formula most p m = total 1 (weights most p m)
+unfolding factor summed
+formula most p m = summed most p m 1 + factor most p m

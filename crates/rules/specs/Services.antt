@@ -32,7 +32,7 @@ unfolding test readMatcher readPattern variables fits
 ruleOf ms ps =
     test 1 (readMatcher ms) λ m.
     test 2 (readPattern ps) λ p.
-    test 3 (variables p 0 0) λ _.
+    test 3 (variables p true 0 0) λ _.
     test 4 (fits p m 0 []) λ _.
     accepted (record { matcher = m; pattern = p })
 

@@ -1,244 +1,226 @@
--- The two forms of document 01, section 5, say the same: a way is good, with its bindings, exactly where following it gives those bindings.
-use Prim.Native.Nat.{ℕ, zero, suc, _≤_}
-use native.Mathlib.Omega.{arith}
+-- The two forms of document 01, section 5, say the same: a way is good, with its bindings, exactly where the computation lists it with them.
+use Prim.Native.Nat.{ℕ}
 use mathlib.Core.Path.{_≡_, refl, sym, ap, ap₂, _∙_, subst}
 use mathlib.Core.Bool.{Bool, true, false}
-use mathlib.Core.Logic.{_↔_}
-use mathlib.Core.Option.{Option, none, some}
-use mathlib.Core.List.{List, [], _∷_, _++_, append-nil, append-assoc}
-use lib.Dec.{T, leb, leb→le, le→leb}
-use Rattle.rules.specs.Forms.{Matcher, something, integer, list, multiset, tupleOf, Matchers, noMatchers, _▸ᵐ_}
-use Rattle.rules.specs.Forms.{Pattern, wildcard, variable, constant, value, nil, cons, join, tuple, Patterns, noPatterns, _▸ᵖ_}
-use Rattle.rules.specs.Forms.{Value, int, collection, tupled, Values, empty, _▸_, count}
+use mathlib.Core.Logic.{_↔_, inl, inr, ⊎-elim}
+use mathlib.Core.List.{List, [], _∷_, _++_, map, List·Memᴰ·head, List·Memᴰ·tail, List·Memᴰ·not-nil, List·Memᴰ·append-cases, List·Memᴰ·eq-of-singleton, Memᴰ·cast, Memᴰ·map, Memᴰ·of-map, Memᴰ·append-left, Memᴰ·append-right}
+use lib.Dec.{T}
+use Rattle.rules.specs.Forms.{Matcher, Matchers, noMatchers, _▸ᵐ_, Value, int, collection, tupled, Values, empty, _▸_}
+use Rattle.rules.specs.Forms.{Pattern, wildcard, nil, variable, constant, value, cons, join, tuple, both, either, never, Patterns, noPatterns, _▸ᵖ_}
 use Rattle.rules.specs.Fit.{element, members}
 use Rattle.rules.specs.Equality.{Bindings, isConstant, isValue, isEmpty}
-use Rattle.rules.specs.Ways.{Way, at, without, front, back, ConsBy, JoinBy, Both, Next, Parts, Follows, FollowsAll, Good}
-use Rattle.rules.specs.Following.{_thenₒ_, Divided, divided, consBy, cutBy, joinBy, Followed, followed, ifSo, parted, follow, followAll, allUsed, bindingsBy}
+use Rattle.rules.specs.Search.{Halves, consHalves, joinHalves}
+use Rattle.rules.specs.Ways.{Way, ConsBy, JoinBy, Both, Next, Side, Follows, FollowsAll, Good}
+use Rattle.rules.specs.Lists.{Mem, mem-flatMap, of-flatMap}
+use Rattle.rules.specs.Following.{Solution, Numbered, numbered, isMultiset, mark, extend, chain, onSide, combine, just, whenSo, none, solve, solveEach, goodWays}
+use Rattle.rules.specs.Choices.{Made, cons-sound, cons-complete, join-sound, join-complete}
 
-absurd-none : {A : Type 0} {B : Type 0} (b : B) → none ≡ some b → A
-absurd-none b e = let z : _≡_ {A = ℕ} 0 1 = cc in absurd (omega arith)
+abbrev pub solution : Way → Bindings → Solution
+solution w d = record { way = w; bound = d }
 
-then-some : {A B : Type 0} (o : Option A) (k : A → Option B) (b : B) → (o thenₒ k) ≡ some b → (a : A) × (o ≡ some a) × (k a ≡ some b)
-unfolding _thenₒ_
-then-some none k b e = absurd-none b e
-then-some (some a) k b e = (a, refl, e)
+-- ---- The members of a chain.
 
--- ---- From the relation to the computation: the way's choices are used, and what stands after them is left.
+module _ (w : Way) (ss : List Solution) (g : Bindings → List Solution) where
+  pub in-chain : (s t : Solution) → Mem s ss → Mem t (g (s .bound)) → Mem (extend w s t) (chain w ss g)
+  unfolding chain
+  in-chain s t i j = mem-flatMap (λ r. map (extend w r) (g (r .bound))) i (Memᴰ·map (extend w s) j)
 
-true-path : (b : Bool) → T b → b ≡ true
-true-path true t = refl
-true-path false t = absurd t
+  pub of-chain : (r : Solution) → Mem r (chain w ss g) → (s t : Solution) × Mem s ss × Mem t (g (s .bound)) × (extend w s t ≡ r)
+  unfolding chain
+  of-chain r i =
+      let x = of-flatMap (λ s. map (extend w s) (g (s .bound))) ss i in
+      let y = Memᴰ·of-map (extend w (x .0)) (g (x .0 .bound)) (x .2) in
+      (x .0, y .0, x .1, y .1, y .2)
 
-if-so : (b : Bool) (e d : Bindings) (w r : Way) → T b → w ≡ [] → d ≡ e → ifSo b (followed e (w ++ r)) ≡ some (followed d r)
-unfolding ifSo followed
-if-so true e d w r t p q = rw (p, q)
-if-so false e d w r t p q = absurd t
+-- ---- Leaves: nothing is chosen.
 
-cons-by : (m : Matcher) (v : Value) (here : Way) (a b : Value) (r : Way) → ConsBy m v here a b → consBy m v (here ++ r) ≡ some (divided a b r)
-unfolding ConsBy consBy divided _thenₒ_
-cons-by something v here a b r h = absurd h
-cons-by integer v here a b r h = absurd h
-cons-by (list m) (int x) here a b r h = absurd h
-cons-by (list m) (collection empty) here a b r h = absurd h
-cons-by (list m) (collection (x ▸ xs)) here a b r h = rw (h .0, h .1, h .2)
-cons-by (list m) (tupled vs) here a b r h = absurd h
-cons-by (multiset m) (int x) here a b r h = absurd h
-cons-by (multiset m) (collection vs) here a b r h = rw (h .1, h .2, h .3)
-cons-by (multiset m) (tupled vs) here a b r h = absurd h
-cons-by (tupleOf ms) v here a b r h = absurd h
+just-sound : (e : Bindings) (s : Solution) → Mem s (just e) → (s .way ≡ []) × (s .bound ≡ e)
+unfolding just
+just-sound e s i = let q = List·Memᴰ·eq-of-singleton i in (ap (λ (z : Solution). z .way) q, ap (λ (z : Solution). z .bound) q)
 
-join-by : (v : Value) (here : Way) (a b : Value) (r : Way) → JoinBy v here a b → joinBy v (here ++ r) ≡ some (divided a b r)
-unfolding JoinBy joinBy divided cutBy
-join-by (int x) here a b r h = absurd h
-join-by (collection vs) here a b r h = rw (h .1, true-path (leb (h .0) (count vs)) (le→leb (h .0) (count vs) (h .2)), h .3, h .4)
-join-by (tupled vs) here a b r h = absurd h
+when-sound : (b : Bool) (e : Bindings) (s : Solution) → Mem s (whenSo b e) → T b × (s .way ≡ []) × (s .bound ≡ e)
+unfolding whenSo
+when-sound true e s i = let q = just-sound e s i in (tt, q .0, q .1)
+when-sound false e s i = absurd (List·Memᴰ·not-nil i)
 
-module _ (by : Way → Option Divided) (F : Value → Bindings → Way → Option Followed) (G : Value → Bindings → Way → Option Followed) where
-  -- How a cons or a join is followed.
-  abbrev both : Bindings → Way → Option Followed
-  both e w = by w thenₒ λ d. F (d .first) e (d .left) thenₒ λ f. G (d .second) (f .bound) (f .left)
+just-complete : (e : Bindings) (w : Way) (d : Bindings) → w ≡ [] → d ≡ e → Mem (solution w d) (just e)
+unfolding just
+just-complete e w d p q = List·Memᴰ·head (ap₂ solution p q)
 
-  module _ (By : Way → Value → Value → Type 0) (P Q : Value → Bindings → Way → Bindings → Type 0) where
-    both-by : ((here : Way) (a b : Value) (r : Way) → By here a b → by (here ++ r) ≡ some (divided a b r))
-        → ((a : Value) (e : Bindings) (w : Way) (d : Bindings) (r : Way) → P a e w d → F a e (w ++ r) ≡ some (followed d r))
-        → ((b : Value) (e : Bindings) (w : Way) (d : Bindings) (r : Way) → Q b e w d → G b e (w ++ r) ≡ some (followed d r))
-        → (e : Bindings) (w : Way) (d : Bindings) (r : Way) → Both By P Q e w d → both e (w ++ r) ≡ some (followed d r)
-    unfolding _thenₒ_ divided followed
-    both-by i f g e w d r h =
-        let shape : w ++ r ≡ h .here ++ (h .one ++ (h .two ++ r)) = sym (ap (λ u. u ++ r) (h .way)) ∙ simp append-assoc in
-        rw (shape, i (h .here) (h .a) (h .b) (h .one ++ (h .two ++ r)) (h .divided), f (h .a) e (h .one) (h .between) (h .two ++ r) (h .first))
-        (g (h .b) (h .between) (h .two) d r (h .second))
+when-complete : (b : Bool) (e : Bindings) (w : Way) (d : Bindings) → T b → w ≡ [] → d ≡ e → Mem (solution w d) (whenSo b e)
+unfolding whenSo
+when-complete true e w d t p q = just-complete e w d p q
+when-complete false e w d t p q = absurd t
 
-    -- From the computation to the relation: what was used up is a way.
-    by-both : ((w : Way) (x : Divided) → by w ≡ some x → (here : Way) × (here ++ x .left ≡ w) × By here (x .first) (x .second))
-        → ((a : Value) (e : Bindings) (w : Way) (x : Followed) → F a e w ≡ some x → (u : Way) × (u ++ x .left ≡ w) × P a e u (x .bound))
-        → ((b : Value) (e : Bindings) (w : Way) (x : Followed) → G b e w ≡ some x → (u : Way) × (u ++ x .left ≡ w) × Q b e u (x .bound))
-        → (e : Bindings) (w : Way) (x : Followed) → both e w ≡ some x → (u : Way) × (u ++ x .left ≡ w) × Both By P Q e u (x .bound)
-    by-both i f g e w x h =
-        let c = then-some (by w) _ x h in
-        let d = then-some (F (c .0 .first) e (c .0 .left)) _ x (c .2) in
-        let j = i w (c .0) (c .1) in
-        let k = f (c .0 .first) e (c .0 .left) (d .0) (d .1) in
-        let l = g (c .0 .second) (d .0 .bound) (d .0 .left) x (d .2) in
-        let p : (j .0 ++ (k .0 ++ l .0)) ++ x .left ≡ j .0 ++ (k .0 ++ (l .0 ++ x .left)) = simp append-assoc in (
-          j .0 ++ (k .0 ++ l .0),
-          p ∙ ap {B = Way} (λ u. j .0 ++ (k .0 ++ u)) (l .1) ∙ ap {B = Way} (λ u. j .0 ++ u) (k .1) ∙ j .1,
-          record {
-            here = j .0;
-            one = k .0;
-            two = l .0;
-            a = c .0 .first;
-            b = c .0 .second;
-            between = d .0 .bound;
-            divided = j .2;
-            first = k .2;
-            second = l .2;
-            way = refl;
-          },
-        )
+-- ---- Cons and join: a choice, then the first part, then the second. What the two share, over how they divide (By) and how the parts are followed.
 
--- One part of a tuple and then the others, both ways.
-module _ (F G : Bindings → Way → Option Followed) (P Q : Bindings → Way → Bindings → Type 0) where
-  next-by : ((e : Bindings) (w : Way) (d : Bindings) (r : Way) → P e w d → F e (w ++ r) ≡ some (followed d r))
-      → ((e : Bindings) (w : Way) (d : Bindings) (r : Way) → Q e w d → G e (w ++ r) ≡ some (followed d r))
-      → (e : Bindings) (w : Way) (d : Bindings) (r : Way) → Next P Q e w d → (F e (w ++ r) thenₒ λ f. G (f .bound) (f .left)) ≡ some (followed d r)
-  unfolding _thenₒ_ followed
-  next-by f g e w d r h =
-      let shape : w ++ r ≡ h .one ++ (h .two ++ r) = sym (ap (λ u. u ++ r) (h .way)) ∙ simp append-assoc in
-      rw (shape, f e (h .one) (h .between) (h .two ++ r) (h .first)) (g (h .between) (h .two) d r (h .others))
+module _ (b : Bool) (hs : List Halves) (By : Way → Value → Value → Type 0)
+    (First Second : Value → Bindings → Way → Bindings → Type 0) (e : Bindings)
+    (f : Value → List Solution) (g : Value → Bindings → List Solution) where
+  both-sound : ((c : Numbered) → Mem c (numbered hs) → By (mark b (c .no)) (c .halves .first) (c .halves .second))
+      → ((a : Value) (s : Solution) → Mem s (f a) → First a e (s .way) (s .bound))
+      → ((a : Value) (d : Bindings) (s : Solution) → Mem s (g a d) → Second a d (s .way) (s .bound))
+      → (s : Solution) → Mem s (combine b f g hs) → Both By First Second e (s .way) (s .bound)
+  unfolding combine extend
+  both-sound made hf hg s i =
+      let x = of-flatMap _ (numbered hs) i in
+      let y = of-chain (mark b (x .0 .no)) (f (x .0 .halves .first)) (g (x .0 .halves .second)) s (x .2) in
+      record {
+        here = mark b (x .0 .no);
+        one = y .0 .way;
+        two = y .1 .way;
+        a = x .0 .halves .first;
+        b = x .0 .halves .second;
+        between = y .0 .bound;
+        divided = made (x .0) (x .1);
+        first = hf (x .0 .halves .first) (y .0) (y .2);
+        second = subst (λ (t : Solution). Second (x .0 .halves .second) (y .0 .bound) (y .1 .way) (t .bound)) (y .4)
+            (hg (x .0 .halves .second) (y .0 .bound) (y .1) (y .3));
+        way = ap (λ (t : Solution). t .way) (y .4);
+      }
 
-  by-next : ((e : Bindings) (w : Way) (x : Followed) → F e w ≡ some x → (u : Way) × (u ++ x .left ≡ w) × P e u (x .bound))
-      → ((e : Bindings) (w : Way) (x : Followed) → G e w ≡ some x → (u : Way) × (u ++ x .left ≡ w) × Q e u (x .bound))
-      → (e : Bindings) (w : Way) (x : Followed) → (F e w thenₒ λ f. G (f .bound) (f .left)) ≡ some x → (u : Way) × (u ++ x .left ≡ w) × Next P Q e u (x .bound)
-  by-next f g e w x h =
-      let d = then-some (F e w) _ x h in
-      let k = f e w (d .0) (d .1) in
-      let l = g (d .0 .bound) (d .0 .left) x (d .2) in
-      let p : (k .0 ++ l .0) ++ x .left ≡ k .0 ++ (l .0 ++ x .left) = simp append-assoc in (
-        k .0 ++ l .0,
-        p ∙ ap {B = Way} (λ u. k .0 ++ u) (l .1) ∙ k .1,
-        record { one = k .0; two = l .0; between = d .0 .bound; first = k .2; others = l .2; way = refl },
-      )
+  both-complete : ((here : Way) (x y : Value) → By here x y → Made b hs here x y)
+      → ((a : Value) (w : Way) (d : Bindings) → First a e w d → Mem (solution w d) (f a))
+      → ((a : Value) (c : Bindings) (w : Way) (d : Bindings) → Second a c w d → Mem (solution w d) (g a c))
+      → (w : Way) (d : Bindings) → Both By First Second e w d → Mem (solution w d) (combine b f g hs)
+  unfolding combine extend
+  both-complete made hf hg w d h =
+      let c = made (h .here) (h .a) (h .b) (h .divided) in
+      Memᴰ·cast (ap (λ x. solution x d) (sym (h .way) ∙ ap (λ x. x ++ (h .one ++ h .two)) (sym (c .way))))
+      (mem-flatMap _ (c .member)
+      (in-chain (mark b (c .c .no)) (f (c .c .halves .first)) (g (c .c .halves .second)) (solution (h .one) (h .between)) (solution (h .two) d)
+      (subst (λ (z : Halves). Mem (solution (h .one) (h .between)) (f (z .first))) (sym (c .is)) (hf (h .a) (h .one) (h .between) (h .first)))
+      (subst (λ (z : Halves). Mem (solution (h .two) d) (g (z .second) (h .between))) (sym (c .is)) (hg (h .b) (h .between) (h .two) d (h .second)))))
 
-mutual
-  unfolding Follows follow followed
+-- ---- A part of a tuple and then the others.
 
-  follows-follow : (p : Pattern) (m : Matcher) (v : Value) (e : Bindings) (w : Way) (d : Bindings) (r : Way) → Follows p m v e w d → follow p m v e (w ++ r) ≡ some (followed d r)
-  follows-follow wildcard m v e w d r h = rw (h .0, h .1)
-  follows-follow (variable x) m v e w d r h = rw (h .0, h .1)
-  follows-follow (constant c) m v e w d r h = if-so (isConstant c v) e d w r (h .0) (h .1) (h .2)
-  follows-follow (value x c) m v e w d r h = if-so (isValue m e x c v) e d w r (h .0) (h .1) (h .2)
-  follows-follow nil m v e w d r h = if-so (isEmpty v) e d w r (h .0) (h .1) (h .2)
-  follows-follow (cons p q) m v e w d r h = both-by (consBy m v) (λ a x y. follow p (element m) a x y) (λ b x y. follow q m b x y) (ConsBy m v) _ _
-      (cons-by m v) (λ a. follows-follow p (element m) a) (λ b. follows-follow q m b) e w d r h
-  follows-follow (join p q) m v e w d r h = both-by (joinBy v) (λ a x y. follow p m a x y) (λ b x y. follow q m b x y) (JoinBy v) _ _
-      (join-by v) (λ a. follows-follow p m a) (λ b. follows-follow q m b) e w d r h
-  follows-follow (tuple ps) m (int x) e w d r h = absurd h
-  follows-follow (tuple ps) m (collection vs) e w d r h = absurd h
-  follows-follow (tuple ps) m (tupled vs) e w d r h = follows-follow-all ps (members m) vs e w d r h
+module _ (First Others : Bindings → Way → Bindings → Type 0) (e : Bindings) (ss : List Solution) (g : Bindings → List Solution) where
+  next-sound : ((s : Solution) → Mem s ss → First e (s .way) (s .bound))
+      → ((d : Bindings) (s : Solution) → Mem s (g d) → Others d (s .way) (s .bound))
+      → (s : Solution) → Mem s (chain [] ss g) → Next First Others e (s .way) (s .bound)
+  unfolding extend
+  next-sound hf hg s i =
+      let y = of-chain [] ss g s i in
+      record {
+        one = y .0 .way;
+        two = y .1 .way;
+        between = y .0 .bound;
+        first = hf (y .0) (y .2);
+        others = subst (λ (t : Solution). Others (y .0 .bound) (y .1 .way) (t .bound)) (y .4) (hg (y .0 .bound) (y .1) (y .3));
+        way = ap (λ (t : Solution). t .way) (y .4);
+      }
 
-  follows-follow-all : (ps : Patterns) (ms : Matchers) (vs : Values) (e : Bindings) (w : Way) (d : Bindings) (r : Way) → FollowsAll ps ms vs e w d
-      → followAll ps ms vs e (w ++ r) ≡ some (followed d r)
-  follows-follow-all noPatterns ms vs e w d r h = rw (h .0, h .1)
-  follows-follow-all (p ▸ᵖ ps) noMatchers vs e w d r h = rw (h .0, h .1)
-  follows-follow-all (p ▸ᵖ ps) (m ▸ᵐ ms) empty e w d r h = rw (h .0, h .1)
-  follows-follow-all (p ▸ᵖ ps) (m ▸ᵐ ms) (v ▸ vs) e w d r h = next-by (λ x y. follow p m v x y) (λ x y. followAll ps ms vs x y) _ _
-      (λ x y z t g. follows-follow p m v x y z t g) (λ x y z t g. follows-follow-all ps ms vs x y z t g) e w d r h
+  next-complete : ((w : Way) (d : Bindings) → First e w d → Mem (solution w d) ss)
+      → ((c : Bindings) (w : Way) (d : Bindings) → Others c w d → Mem (solution w d) (g c))
+      → (w : Way) (d : Bindings) → Next First Others e w d → Mem (solution w d) (chain [] ss g)
+  unfolding extend
+  next-complete hf hg w d h = Memᴰ·cast (ap (λ x. solution x d) (sym (h .way)))
+      (in-chain [] ss g (solution (h .one) (h .between)) (solution (h .two) d)
+      (hf (h .one) (h .between) (h .first)) (hg (h .between) (h .two) d (h .others)))
 
--- ---- From the computation to the relation.
+-- ---- The side of an or.
 
-so-if : (b : Bool) (e : Bindings) (w : Way) (x : Followed) → ifSo b (followed e w) ≡ some x → (u : Way) × (u ++ x .left ≡ w) × (T b × (u ≡ []) × (x .bound ≡ e))
-unfolding ifSo followed
-so-if true e w x h = let q : followed e w ≡ x = cc in ([], sym (ap (λ (y : Followed). y .left) q), (tt, refl, sym (ap (λ (y : Followed). y .bound) q)))
-so-if false e w x h = absurd-none x h
+side-sound : (k : ℕ) (In : Way → Bindings → Type 0) (ss : List Solution) → ((s : Solution) → Mem s ss → In (s .way) (s .bound))
+    → (s : Solution) → Mem s (map (onSide k) ss) → Side k (λ u. In u (s .bound)) (s .way)
+unfolding onSide
+side-sound k In ss h s i =
+    let r = Memᴰ·of-map (onSide k) ss i in
+    record {
+      rest = r .0 .way;
+      inside = subst (λ (t : Solution). In (r .0 .way) (t .bound)) (r .2) (h (r .0) (r .1));
+      way = ap (λ (t : Solution). t .way) (r .2);
+    }
 
-leaf-follows : (e : Bindings) (w : Way) (x : Followed) → some (followed e w) ≡ some x → (u : Way) × (u ++ x .left ≡ w) × ((u ≡ []) × (x .bound ≡ e))
-unfolding followed
-leaf-follows e w x h = let q : followed e w ≡ x = cc in ([], sym (ap (λ (y : Followed). y .left) q), (refl, sym (ap (λ (y : Followed). y .bound) q)))
+side-complete : (k : ℕ) (In : Way → Bindings → Type 0) (ss : List Solution) → ((w : Way) (d : Bindings) → In w d → Mem (solution w d) ss)
+    → (w : Way) (d : Bindings) → Side k (λ u. In u d) w → Mem (solution w d) (map (onSide k) ss)
+unfolding onSide
+side-complete k In ss h w d s = Memᴰ·cast (ap (λ x. solution x d) (sym (s .way))) (Memᴰ·map (onSide k) (h (s .rest) d (s .inside)))
 
-by-cons : (m : Matcher) (v : Value) (w : Way) (x : Divided) → consBy m v w ≡ some x → (here : Way) × (here ++ x .left ≡ w) × ConsBy m v here (x .first) (x .second)
-unfolding ConsBy consBy divided
-by-cons something v w x h = absurd-none x h
-by-cons integer v w x h = absurd-none x h
-by-cons (list m) (int y) w x h = absurd-none x h
-by-cons (list m) (collection empty) w x h = absurd-none x h
-by-cons (list m) (collection (y ▸ ys)) w x h =
-    let q : divided y (collection ys) w ≡ x = cc in
-    ([], sym (ap (λ (z : Divided). z .left) q), (refl, sym (ap (λ (z : Divided). z .first) q), sym (ap (λ (z : Divided). z .second) q)))
-by-cons (list m) (tupled vs) w x h = absurd-none x h
-by-cons (multiset m) (int y) w x h = absurd-none x h
-by-cons (multiset m) (collection vs) [] x h = absurd-none x h
-by-cons (multiset m) (collection vs) (k ∷ w) x h =
-    let c = then-some (at vs k) _ x h in
-    let q : divided (c .0) (collection (without vs k)) w ≡ x = cc (c .2) in (
-      k ∷ [],
-      ap {B = Way} (λ u. k ∷ u) (sym (ap (λ (z : Divided). z .left) q)),
-      (k, refl, c .1 ∙ ap (λ (z : Divided). some (z .first)) q, sym (ap (λ (z : Divided). z .second) q)),
-    )
-by-cons (multiset m) (tupled vs) w x h = absurd-none x h
-by-cons (tupleOf ms) v w x h = absurd-none x h
+-- ---- No way at all, inside a not.
 
-by-cut : (b : Bool) (d x : Divided) → cutBy b d ≡ some x → T b × (d ≡ x)
-unfolding cutBy
-by-cut true d x h = (tt, cc)
-by-cut false d x h = absurd-none x h
+none-sound : (ss : List Solution) → T (none ss) → (s : Solution) → Mem s ss → ⊥
+unfolding none
+none-sound [] t s i = List·Memᴰ·not-nil i
+none-sound (r ∷ ss) t s i = t
 
-by-join : (v : Value) (w : Way) (x : Divided) → joinBy v w ≡ some x → (here : Way) × (here ++ x .left ≡ w) × JoinBy v here (x .first) (x .second)
-unfolding JoinBy joinBy divided
-by-join (int y) w x h = absurd-none x h
-by-join (collection vs) [] x h = absurd-none x h
-by-join (collection vs) (k ∷ w) x h =
-    let c = by-cut (leb k (count vs)) _ x h in (
-      k ∷ [],
-      ap {B = Way} (λ u. k ∷ u) (sym (ap (λ (z : Divided). z .left) (c .1))),
-      (k, refl, leb→le k (count vs) (c .0), sym (ap (λ (z : Divided). z .first) (c .1)), sym (ap (λ (z : Divided). z .second) (c .1))),
-    )
-by-join (tupled vs) w x h = absurd-none x h
+none-complete : (ss : List Solution) → ((s : Solution) → Mem s ss → ⊥) → T (none ss)
+unfolding none
+none-complete [] h = tt
+none-complete (s ∷ ss) h = absurd (h s (List·Memᴰ·head refl))
+
+-- ---- Sound and complete.
 
 mutual
-  unfolding Follows follow followed
+  unfolding solve Follows
 
-  follow-follows : (p : Pattern) (m : Matcher) (v : Value) (e : Bindings) (w : Way) (x : Followed) → follow p m v e w ≡ some x
-      → (u : Way) × (u ++ x .left ≡ w) × Follows p m v e u (x .bound)
-  follow-follows wildcard m v e w x h = leaf-follows e w x h
-  follow-follows (variable y) m v e w x h = leaf-follows (e ++ (v ∷ [])) w x h
-  follow-follows (constant c) m v e w x h = so-if (isConstant c v) e w x h
-  follow-follows (value y c) m v e w x h = so-if (isValue m e y c v) e w x h
-  follow-follows nil m v e w x h = so-if (isEmpty v) e w x h
-  follow-follows (cons p q) m v e w x h = by-both (consBy m v) (λ a y z. follow p (element m) a y z) (λ b y z. follow q m b y z) (ConsBy m v) _ _
-      (by-cons m v) (λ a. follow-follows p (element m) a) (λ b. follow-follows q m b) e w x h
-  follow-follows (join p q) m v e w x h = by-both (joinBy v) (λ a y z. follow p m a y z) (λ b y z. follow q m b y z) (JoinBy v) _ _
-      (by-join v) (λ a. follow-follows p m a) (λ b. follow-follows q m b) e w x h
-  follow-follows (tuple ps) m (int y) e w x h = absurd-none x h
-  follow-follows (tuple ps) m (collection vs) e w x h = absurd-none x h
-  follow-follows (tuple ps) m (tupled vs) e w x h = follow-follows-all ps (members m) vs e w x h
+  pub sound : (p : Pattern) (m : Matcher) (v : Value) (e : Bindings) (s : Solution) → Mem s (solve p m v e) → Follows p m v e (s .way) (s .bound)
+  sound wildcard m v e s i = just-sound e s i
+  sound nil m v e s i = when-sound (isEmpty v) e s i
+  sound (variable x) m v e s i = just-sound (e ++ (v ∷ [])) s i
+  sound (constant c) m v e s i = when-sound (isConstant c v) e s i
+  sound (value x c) m v e s i = when-sound (isValue m e x c v) e s i
+  sound (cons p q) m v e s i =
+      both-sound (isMultiset m) (consHalves m v) (ConsBy m v) (Follows p (element m)) (Follows q m) e (λ a. solve p (element m) a e) (solve q m)
+      (cons-sound m v) (λ a t j. sound p (element m) a e t j) (λ a d t j. sound q m a d t j) s i
+  sound (join p q) m v e s i =
+      both-sound true (joinHalves v) (JoinBy v) (Follows p m) (Follows q m) e (λ a. solve p m a e) (solve q m)
+      (join-sound v) (λ a t j. sound p m a e t j) (λ a d t j. sound q m a d t j) s i
+  sound (tuple ps) m (int x) e s i = absurd (List·Memᴰ·not-nil i)
+  sound (tuple ps) m (collection vs) e s i = absurd (List·Memᴰ·not-nil i)
+  sound (tuple ps) m (tupled vs) e s i = sound-each ps (members m) vs e s i
+  sound (both p q) m v e s i = next-sound (Follows p m v) (Follows q m v) e (solve p m v e) (solve q m v)
+      (λ t j. sound p m v e t j) (λ d t j. sound q m v d t j) s i
+  sound (either p q) m v e s i = ⊎-elim
+      (λ j. inl (side-sound 0 (Follows p m v e) (solve p m v e) (λ t l. sound p m v e t l) s j))
+      (λ j. inr (side-sound 1 (Follows q m v e) (solve q m v e) (λ t l. sound q m v e t l) s j))
+      (List·Memᴰ·append-cases (map (onSide 0) (solve p m v e)) i)
+  sound (never p) m v e s i =
+      let r = when-sound (none (solve p m v e)) e s i in
+      ((λ u c h. none-sound (solve p m v e) (r .0) (solution u c) (complete p m v e u c h)), r .1, r .2)
 
-  follow-follows-all : (ps : Patterns) (ms : Matchers) (vs : Values) (e : Bindings) (w : Way) (x : Followed) → followAll ps ms vs e w ≡ some x
-      → (u : Way) × (u ++ x .left ≡ w) × FollowsAll ps ms vs e u (x .bound)
-  follow-follows-all noPatterns ms vs e w x h = leaf-follows e w x h
-  follow-follows-all (p ▸ᵖ ps) noMatchers vs e w x h = leaf-follows e w x h
-  follow-follows-all (p ▸ᵖ ps) (m ▸ᵐ ms) empty e w x h = leaf-follows e w x h
-  follow-follows-all (p ▸ᵖ ps) (m ▸ᵐ ms) (v ▸ vs) e w x h = by-next (λ y z. follow p m v y z) (λ y z. followAll ps ms vs y z) _ _
-      (λ y z t g. follow-follows p m v y z t g) (λ y z t g. follow-follows-all ps ms vs y z t g) e w x h
+  sound-each : (ps : Patterns) (ms : Matchers) (vs : Values) (e : Bindings) (s : Solution) → Mem s (solveEach ps ms vs e)
+      → FollowsAll ps ms vs e (s .way) (s .bound)
+  sound-each noPatterns ms vs e s i = just-sound e s i
+  sound-each (p ▸ᵖ ps) noMatchers vs e s i = just-sound e s i
+  sound-each (p ▸ᵖ ps) (m ▸ᵐ ms) empty e s i = just-sound e s i
+  sound-each (p ▸ᵖ ps) (m ▸ᵐ ms) (v ▸ vs) e s i =
+      next-sound (Follows p m v) (FollowsAll ps ms vs) e (solve p m v e) (solveEach ps ms vs)
+      (λ t j. sound p m v e t j) (λ d t j. sound-each ps ms vs d t j) s i
+
+  pub complete : (p : Pattern) (m : Matcher) (v : Value) (e : Bindings) (w : Way) (d : Bindings) → Follows p m v e w d → Mem (solution w d) (solve p m v e)
+  complete wildcard m v e w d h = just-complete e w d (h .0) (h .1)
+  complete nil m v e w d h = when-complete (isEmpty v) e w d (h .0) (h .1) (h .2)
+  complete (variable x) m v e w d h = just-complete (e ++ (v ∷ [])) w d (h .0) (h .1)
+  complete (constant c) m v e w d h = when-complete (isConstant c v) e w d (h .0) (h .1) (h .2)
+  complete (value x c) m v e w d h = when-complete (isValue m e x c v) e w d (h .0) (h .1) (h .2)
+  complete (cons p q) m v e w d h =
+      both-complete (isMultiset m) (consHalves m v) (ConsBy m v) (Follows p (element m)) (Follows q m) e (λ a. solve p (element m) a e) (solve q m)
+      (cons-complete m v) (λ a u c j. complete p (element m) a e u c j) (λ a b u c j. complete q m a b u c j) w d h
+  complete (join p q) m v e w d h =
+      both-complete true (joinHalves v) (JoinBy v) (Follows p m) (Follows q m) e (λ a. solve p m a e) (solve q m)
+      (join-complete v) (λ a u c j. complete p m a e u c j) (λ a b u c j. complete q m a b u c j) w d h
+  complete (tuple ps) m (int x) e w d h = absurd h
+  complete (tuple ps) m (collection vs) e w d h = absurd h
+  complete (tuple ps) m (tupled vs) e w d h = complete-each ps (members m) vs e w d h
+  complete (both p q) m v e w d h = next-complete (Follows p m v) (Follows q m v) e (solve p m v e) (solve q m v)
+      (λ u c j. complete p m v e u c j) (λ b u c j. complete q m v b u c j) w d h
+  complete (either p q) m v e w d (inl h) = Memᴰ·append-left (map (onSide 1) (solve q m v e))
+      (side-complete 0 (Follows p m v e) (solve p m v e) (λ u c j. complete p m v e u c j) w d h)
+  complete (either p q) m v e w d (inr h) = Memᴰ·append-right (map (onSide 0) (solve p m v e))
+      (side-complete 1 (Follows q m v e) (solve q m v e) (λ u c j. complete q m v e u c j) w d h)
+  complete (never p) m v e w d h = when-complete (none (solve p m v e)) e w d
+      (none-complete (solve p m v e) (λ s i. h .0 (s .way) (s .bound) (sound p m v e s i))) (h .1) (h .2)
+
+  complete-each : (ps : Patterns) (ms : Matchers) (vs : Values) (e : Bindings) (w : Way) (d : Bindings) → FollowsAll ps ms vs e w d
+      → Mem (solution w d) (solveEach ps ms vs e)
+  complete-each noPatterns ms vs e w d h = just-complete e w d (h .0) (h .1)
+  complete-each (p ▸ᵖ ps) noMatchers vs e w d h = just-complete e w d (h .0) (h .1)
+  complete-each (p ▸ᵖ ps) (m ▸ᵐ ms) empty e w d h = just-complete e w d (h .0) (h .1)
+  complete-each (p ▸ᵖ ps) (m ▸ᵐ ms) (v ▸ vs) e w d h = next-complete (Follows p m v) (FollowsAll ps ms vs) e (solve p m v e) (solveEach ps ms vs)
+      (λ u c j. complete p m v e u c j) (λ b u c j. complete-each ps ms vs b u c j) w d h
 
 -- ---- The theorem.
 
-all-used : (x : Followed) (e : Bindings) → allUsed x ≡ some e → (x .left ≡ []) × (x .bound ≡ e)
-unfolding allUsed
-all-used x e h = go (x .left) refl h
-  where
-    go : (l : Way) → x .left ≡ l → elim l as (λ _. Option Bindings) [ [] ↦ some (x .bound) | k ∷ w ↦ none ] ≡ some e → (x .left ≡ []) × (x .bound ≡ e)
-    go [] q h = (q, cc)
-    go (k ∷ w) q h = absurd-none e h
-
-pub good-is-computed : (m : Matcher) (p : Pattern) (v : Value) (w : Way) (e : Bindings) → Good m p v w e ↔ (bindingsBy m p v w ≡ some e)
-unfolding Good bindingsBy _thenₒ_ allUsed followed
-good-is-computed m p v w e = (
-  λ g. rw (sym (append-nil w), follows-follow p m v [] w e [] g),
-  λ h.
-      let c = then-some (follow p m v [] w) allUsed e h in
-      let u = all-used (c .0) e (c .2) in
-      let f = follow-follows p m v [] w (c .0) (c .1) in
-      let q : f .0 ≡ w = sym (append-nil (f .0)) ∙ ap {B = Way} (λ z. f .0 ++ z) (sym (u .0)) ∙ f .1 in
-      subst (λ z. Follows p m v [] z e) q (subst (λ z. Follows p m v [] (f .0) z) (u .1) (f .2)),
-)
+pub good-is-computed : (m : Matcher) (p : Pattern) (v : Value) (w : Way) (e : Bindings) → Good m p v w e ↔ Mem (solution w e) (goodWays m p v)
+unfolding Good goodWays
+good-is-computed m p v w e = (complete p m v [] w e, sound p m v [] (solution w e))

@@ -4,7 +4,7 @@ use mathlib.Core.Bool.{Bool, true, false, _&&_}
 use lib.Dec.{ltb}
 use lib.IntN.{ℤ, pos, negsuc}
 use Rattle.rules.specs.Numbers.{same}
-use Rattle.rules.specs.Forms.{Pattern, wildcard, variable, constant, value, nil, cons, join, tuple, Patterns, noPatterns, _▸ᵖ_, span}
+use Rattle.rules.specs.Forms.{Pattern, wildcard, variable, constant, value, nil, cons, join, tuple, both, either, never, Patterns, noPatterns, _▸ᵖ_, span}
 use Rattle.rules.specs.Reading.{Verdict, ok, fault, _then_}
 
 -- What is demanded of the tag at an index.
@@ -22,20 +22,24 @@ unfoldable pub isLeft : ℤ → ℕ → Bool
 isLeft (pos v) n = ltb v n
 isLeft (negsuc v) n = false
 
--- n variables stand to the left of the pattern, whose tag is at the index; found is how many stand to the left of what follows it.
+-- n variables stand to the left of the pattern, whose tag is at the index; found is how many stand to the left of what follows it. "A variable tag
+-- inside an or or a not is 3, at that tag": `may` tells whether one may stand here.
 unfoldable mutual
   unfolding _then_ demand isNext isLeft span
 
-  pub variables : Pattern → (at n : ℕ) → Verdict ℕ
-  variables wildcard at n = ok n
-  variables (variable v) at n = demand (isNext v n) at (suc n)
-  variables (constant c) at n = ok n
-  variables (value v c) at n = demand (isLeft v n) at n
-  variables nil at n = ok n
-  variables (cons p q) at n = variables p (at + 1) n then λ k. variables q (at + 1 + span p) k
-  variables (join p q) at n = variables p (at + 1) n then λ k. variables q (at + 1 + span p) k
-  variables (tuple ps) at n = variablesAll ps (at + 2) n
+  pub variables : Pattern → (may : Bool) → (at n : ℕ) → Verdict ℕ
+  variables wildcard may at n = ok n
+  variables (variable v) may at n = demand (may && isNext v n) at (suc n)
+  variables (constant c) may at n = ok n
+  variables (value v c) may at n = demand (isLeft v n) at n
+  variables nil may at n = ok n
+  variables (cons p q) may at n = variables p may (at + 1) n then λ k. variables q may (at + 1 + span p) k
+  variables (join p q) may at n = variables p may (at + 1) n then λ k. variables q may (at + 1 + span p) k
+  variables (tuple ps) may at n = variablesAll ps may (at + 2) n
+  variables (both p q) may at n = variables p may (at + 1) n then λ k. variables q may (at + 1 + span p) k
+  variables (either p q) may at n = variables p false (at + 1) n then λ k. variables q false (at + 1 + span p) k
+  variables (never p) may at n = variables p false (at + 1) n
 
-  pub variablesAll : Patterns → (at n : ℕ) → Verdict ℕ
-  variablesAll noPatterns at n = ok n
-  variablesAll (p ▸ᵖ ps) at n = variables p at n then λ k. variablesAll ps (at + span p) k
+  pub variablesAll : Patterns → (may : Bool) → (at n : ℕ) → Verdict ℕ
+  variablesAll noPatterns may at n = ok n
+  variablesAll (p ▸ᵖ ps) may at n = variables p may at n then λ k. variablesAll ps may (at + span p) k

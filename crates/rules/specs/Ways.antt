@@ -6,13 +6,13 @@ use mathlib.Core.Option.{Option, none, some}
 use mathlib.Core.List.{List, [], _∷_, _++_}
 use lib.Dec.{T}
 use Rattle.rules.specs.Forms.{Matcher, something, integer, list, multiset, tupleOf, Matchers, noMatchers, _▸ᵐ_}
-use Rattle.rules.specs.Forms.{Pattern, wildcard, variable, constant, value, nil, cons, join, tuple, Patterns, noPatterns, _▸ᵖ_}
+use Rattle.rules.specs.Forms.{Pattern, wildcard, variable, constant, value, nil, cons, join, tuple, both, either, never, Patterns, noPatterns, _▸ᵖ_}
 use Rattle.rules.specs.Forms.{Value, int, collection, tupled, Values, empty, _▸_, count}
 use Rattle.rules.specs.Fit.{element, members}
 use Rattle.rules.specs.Equality.{Bindings, isConstant, isValue, isEmpty}
 
 -- "A way names, for each cons under a multiset and each join in pattern order left to right, which of its states was chosen, counted in section
--- 4's order." (Counted from 0.)
+-- 4's order." (Counted from 0.) "A way also records the side of each or it meets, and no choice in the other side or in a not."
 abbrev pub Way : Type 0
 Way = List ℕ
 
@@ -80,7 +80,7 @@ pub record Both (By : Way → Value → Value → Type 0) (First Second : Value 
   pub second : Second b between two d
   pub way : here ++ (one ++ two) ≡ w
 
--- One part of a tuple, and then the others: the first part's choices, then theirs.
+-- One part of a tuple, and then the others: the first part's choices, then theirs. An and's two parts likewise.
 pub record Next (First Others : Bindings → Way → Bindings → Type 0) (e : Bindings) (w : Way) (d : Bindings) : Type 0 where
   pub one : Way
   pub two : Way
@@ -89,6 +89,12 @@ pub record Next (First Others : Bindings → Way → Bindings → Type 0) (e : B
   pub others : Others between two d
   pub way : one ++ two ≡ w
 
+-- A side of an or: its number, and then the choices inside it.
+pub record Side (no : ℕ) (Inside : Way → Type 0) (w : Way) : Type 0 where
+  pub rest : Way
+  pub inside : Inside rest
+  pub way : no ∷ rest ≡ w
+
 -- What a tuple's parts are followed through, if the value is a tuple.
 unfoldable pub Parts : (Values → Type 0) → Value → Type 0
 Parts P (int x) = ⊥
@@ -96,7 +102,7 @@ Parts P (collection vs) = ⊥
 Parts P (tupled vs) = P vs
 
 -- With exactly the choices w, p under m matches v from the bindings e, and d are the bindings then. "Every chosen state exists, every list cons has
--- an element, every nil an empty collection, and tags 2 and 3 are equal."
+-- an element, every nil an empty collection, and tags 2 and 3 are equal." A not is a condition: p "has no good way from the bindings held".
 unfoldable mutual
   unfolding ConsBy JoinBy Parts isConstant isValue isEmpty element members
 
@@ -109,6 +115,9 @@ unfoldable mutual
   Follows (cons p q) m v e w d = Both (ConsBy m v) (λ a x y z. Follows p (element m) a x y z) (λ b x y z. Follows q m b x y z) e w d
   Follows (join p q) m v e w d = Both (JoinBy v) (λ a x y z. Follows p m a x y z) (λ b x y z. Follows q m b x y z) e w d
   Follows (tuple ps) m v e w d = Parts (λ vs. FollowsAll ps (members m) vs e w d) v
+  Follows (both p q) m v e w d = Next (λ x y z. Follows p m v x y z) (λ x y z. Follows q m v x y z) e w d
+  Follows (either p q) m v e w d = Side 0 (λ u. Follows p m v e u d) w ⊎ Side 1 (λ u. Follows q m v e u d) w
+  Follows (never p) m v e w d = ((u : Way) (c : Bindings) → Follows p m v e u c → ⊥) × (w ≡ []) × (d ≡ e)
 
   pub FollowsAll : Patterns → Matchers → Values → Bindings → Way → Bindings → Type 0
   FollowsAll noPatterns ms vs e w d = (w ≡ []) × (d ≡ e)

@@ -8,6 +8,7 @@ use lib.Pow.{pow-pos}
 use lib.IntN.{ℤ}
 use Rattle.rules.specs.Fit.{fits}
 use Rattle.words.specs.Words.{entries}
+use Rattle.program.specs.Lines.{Line}
 use Rattle.program.specs.Columns.{lineIn}
 use Rattle.holding.specs.Places.{Target, Tag, marksAt}
 use Rattle.holding.specs.Held.{Held, wholeAt}
@@ -63,8 +64,8 @@ module _ (e : Env) (some : 0 < length (e .words)) where
   unfolding begun lineAt lineIn
   searched g fine budget room = record {
     is = refl;
-    as-defined = λ r v ks holds fit wide read fits.
-        search-runs e g fine (r .matcher) (r .pattern) 0 ks fit wide (λ pc l. holds .means pc l) v 0 (wholeAt (e .words) 0) (target-is (e .words) v read (r .matcher) fits)
+    as-defined = λ r v ks holds fit wide closed read fits.
+        search-runs e g fine (r .matcher) (r .pattern) 0 ks fit wide closed (λ pc l. holds .means pc l) (λ pc l. ap (λ (l : Line). l .op) (holds .after pc l)) v 0 (wholeAt (e .words) 0) (target-is (e .words) v read (r .matcher) fits)
         (tables (zeros entries) (zeros entries) (zeros entries) (zeros entries) (zeros entries)) (unbound 16) room (begun-valid room) budget;
   }
 

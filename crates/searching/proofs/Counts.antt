@@ -1,5 +1,5 @@
 -- What a state taken up and a choice taken do to the counts, the room and the words written.
-use Prim.Native.Nat.{ℕ, _+_, _-_, _≤_}
+use Prim.Native.Nat.{ℕ, zero, suc, _+_, _-_, _≤_}
 use native.Mathlib.Omega.{arith}
 use mathlib.Core.Path.{_≡_, refl, ap}
 use mathlib.Core.Logic.{_⊎_, inl, inr}
@@ -9,15 +9,15 @@ use lib.ListN.{length, getD, drop}
 use lib.Dec.{eqb, ltb}
 use lib.Count.{trailingZeros}
 use lib.IntN.{ℤ, pos}
-use borrow.Author.Tests.{eqb-false, ltb-false}
+use borrow.Author.Tests.{eqb-false, ltb-false, eq-eqb, ne-eqb}
 use Rattle.rules.specs.Search.{row}
 use Rattle.marks.specs.Marks.{clear}
 use Rattle.holding.specs.Places.{elementAt}
 use Rattle.holding.specs.Held.{wholeAt, put}
 use Rattle.rows.specs.Row.{bound}
 use Rattle.stepping.specs.declared.State.{State}
-use Rattle.stepping.specs.Steps.{when, Tables, Turned, turned, counted, moved, lived, topped, dropped, pushed, pushedIn, passesOf, noneOf, opensOf, splitOf, isWide, apartAt, apartOf, divideOf, stepBy, stepOf, topLeft, longerOf, joinOf, joinBy, consOf, consBy, pickOf}
-use Rattle.searching.specs.Run.{Env, Run, run, Ended, ended, filled, wrote, endBy, endOf, afterTurn, afterEnd, takeEnd, takeBind, takeStep, takeOf, asked, settled}
+use Rattle.stepping.specs.Steps.{when, Tables, Turned, turned, counted, moved, lived, topped, dropped, pushed, pushedIn, passesOf, noneOf, opensOf, splitOf, isWide, apartAt, apartOf, keptAt, keptIn, framedAt, framedIn, cutTo, sidesOf, divideOf, stepBy, stepOf, topLeft, longerOf, joinOf, joinBy, consOf, consBy, resumedAt, resumedBy, resumeOf, choiceOf, pickOf}
+use Rattle.searching.specs.Run.{Env, Run, run, Ended, ended, filled, wrote, endBy, endOf, afterTurn, afterEnd, takeEnd, takeBind, takeStep, takeOf, asked, settled, runOf}
 use Rattle.rows.proofs.Room.{length-put}
 use Rattle.searching.proofs.Room.{put-after}
 use Rattle.searching.proofs.Frames.{when-if}
@@ -28,25 +28,50 @@ pub record Took (x y : State) : Type 0 where
   pub words : y .words ≡ x .words
   pub steps : y .steps ≡ x .steps + 1
   pub live : (y .live ≡ 1) ⊎ (y .live ≡ 2)
-  pub top : (y .top ≡ x .top) ⊎ (y .top ≡ x .pc + 1)
 
-took-1 : (x y : State) → y .rows ≡ x .rows → y .words ≡ x .words → y .steps ≡ x .steps + 1 → y .live ≡ 1 → y .top ≡ x .top → Took x y
-took-1 x y r w s l f = record { rows = r; words = w; steps = s; live = inl l; top = inl f }
+took-1 : (x y : State) → y .rows ≡ x .rows → y .words ≡ x .words → y .steps ≡ x .steps + 1 → y .live ≡ 1 → Took x y
+took-1 x y r w s l = record { rows = r; words = w; steps = s; live = inl l }
 
-took-2 : (x y : State) → y .rows ≡ x .rows → y .words ≡ x .words → y .steps ≡ x .steps + 1 → y .live ≡ 2 → (y .top ≡ x .top) ⊎ (y .top ≡ x .pc + 1) → Took x y
-took-2 x y r w s l f = record { rows = r; words = w; steps = s; live = inr l; top = f }
+took-2 : (x y : State) → y .rows ≡ x .rows → y .words ≡ x .words → y .steps ≡ x .steps + 1 → y .live ≡ 2 → Took x y
+took-2 x y r w s l = record { rows = r; words = w; steps = s; live = inr l }
 
-pub step-took : (op from : List ℕ) (con s : List ℤ) (q : Bool) (x : State) (t : Tables) → Took x (stepOf op from con s q x t .state)
-unfolding stepOf stepBy divideOf splitOf apartOf apartAt counted moved lived dropped pushed
-step-took op from con s q x t =
-    when-if at-turn (eqb o 1) (turned (moved (counted x) (x .pc + 1) (x .at) (x .marks)) t) rest (λ z. took-1 x _ refl refl refl refl refl)
-    (λ z. when-if at-turn (ltb 7 o) (divideOf s o (counted x) t) tests
-    (λ k. when-if at-turn (ltb 10 o) (apartOf s (o - 10) (counted x) t) (splitOf o (counted x) t)
-    (λ y. when-if (Took x) (isWide s (x .at) (o - 10)) _ (lived (counted x) 2) (λ u. took-1 x _ refl refl refl refl refl) (λ u. took-2 x _ refl refl refl refl (inl refl)))
+sides-took : (o : ℕ) (from : List ℕ) (x : State) (t : Tables) → Took x (sidesOf o from (counted x) t .state)
+unfolding sidesOf keptAt framedAt cutTo counted moved lived
+sides-took o from x t =
+    when-if at-turn (eqb o 14) (turned (keptAt (counted x)) (keptIn (counted x) t)) others (λ z. took-1 x _ refl refl refl refl)
+    (λ z. when-if at-turn (ltb o 17) (turned (framedAt (counted x)) (framedIn (counted x) t)) ends (λ k. took-1 x _ refl refl refl refl)
+    (λ k. when-if at-turn (eqb o 17) (turned (cutTo from (t .lows) (counted x)) t) (turned (lived (counted x) 2) t)
+    (λ y. took-2 x _ refl refl refl refl) (λ y. took-2 x _ refl refl refl refl)))
+  where
+    at-turn : Turned → Type 0
+    at-turn u = Took x (u .state)
+
+    ends : Turned
+    ends = when (eqb o 17) (turned (cutTo from (t .lows) (counted x)) t) (turned (lived (counted x) 2) t)
+
+    others : Turned
+    others = when (ltb o 17) (turned (framedAt (counted x)) (framedIn (counted x) t)) ends
+
+divide-took : (s : List ℤ) (o : ℕ) (from : List ℕ) (x : State) (t : Tables) → Took x (divideOf s o from (counted x) t .state)
+unfolding divideOf splitOf apartOf apartAt counted moved lived pushed
+divide-took s o from x t =
+    when-if at-turn (ltb 10 o) (when (ltb o 14) (apartOf s (o - 10) (counted x) t) (sidesOf o from (counted x) t)) (splitOf o (counted x) t)
+    (λ k. when-if at-turn (ltb o 14) (apartOf s (o - 10) (counted x) t) (sidesOf o from (counted x) t)
+    (λ y. when-if (Took x) (isWide s (x .at) (o - 10)) _ (lived (counted x) 2) (λ u. took-1 x _ refl refl refl refl) (λ u. took-2 x _ refl refl refl refl))
+    (λ y. sides-took o from x t))
     (λ w. when-if at-turn (noneOf o (x .marks)) (turned (lived (counted x) 2) t) (turned (pushed (counted x)) (pushedIn (opensOf o (x .marks)) (counted x) t))
-    (λ y. took-2 x _ refl refl refl refl (inl refl)) (λ y. took-2 x _ refl refl refl refl (inr refl))))
-    (λ k. when-if at-turn passes (turned (dropped from (t .ats) (t .backs) (counted x)) t) (turned (lived (counted x) 2) t)
-    (λ y. took-1 x _ refl refl refl refl refl) (λ y. took-2 x _ refl refl refl refl (inl refl))))
+    (λ y. took-2 x _ refl refl refl refl) (λ y. took-2 x _ refl refl refl refl))
+  where
+    at-turn : Turned → Type 0
+    at-turn u = Took x (u .state)
+
+pub step-took : (op from to : List ℕ) (con s : List ℤ) (q : Bool) (x : State) (t : Tables) → Took x (stepOf op from to con s q x t .state)
+unfolding stepOf stepBy counted moved lived dropped
+step-took op from to con s q x t =
+    when-if at-turn (eqb o 1) (turned (moved (counted x) (x .pc + 1) (x .at) (x .marks)) t) rest (λ z. took-1 x _ refl refl refl refl)
+    (λ z. when-if at-turn (ltb 7 o) (divideOf s o from (counted x) t) tests (λ k. divide-took s o from x t)
+    (λ k. when-if at-turn passes (turned (dropped from to (t .ats) (t .backs) (counted x)) t) (turned (lived (counted x) 2) t)
+    (λ y. took-1 x _ refl refl refl refl) (λ y. took-2 x _ refl refl refl refl)))
   where
     at-turn : Turned → Type 0
     at-turn u = Took x (u .state)
@@ -58,14 +83,14 @@ step-took op from con s q x t =
     passes = passesOf o q s (x .at) (x .marks) (getD con (x .pc) (pos 0))
 
     tests : Turned
-    tests = when passes (turned (dropped from (t .ats) (t .backs) (counted x)) t) (turned (lived (counted x) 2) t)
+    tests = when passes (turned (dropped from to (t .ats) (t .backs) (counted x)) t) (turned (lived (counted x) 2) t)
 
     rest : Turned
-    rest = when (ltb 7 o) (divideOf s o (counted x) t) tests
+    rest = when (ltb 7 o) (divideOf s o from (counted x) t) tests
 
 pub bind-took : (e : Env) (r : Run) → Took (r .state) (takeBind e r .state)
 unfolding takeBind dropped moved counted
-bind-took e r = took-1 (r .state) _ refl refl refl refl refl
+bind-took e r = took-1 (r .state) _ refl refl refl refl
 
 -- A choice: the counts stay, and a state stands or none is left.
 pub record Chose (x y : State) : Type 0 where
@@ -94,13 +119,26 @@ cons-chose s j x t = top-chose x (moved x (j + 1) at (wholeAt s at)) (clear k (g
     at : ℕ
     at = elementAt s (getD (t .ats) j 0) k
 
-pub pick-chose : (op : List ℕ) (s : List ℤ) (x : State) (t : Tables) → Chose x (pickOf op s x t .state)
+resume-chose : (o j : ℕ) (from to : List ℕ) (x : State) (t : Tables) → Chose x (resumeOf o j from to x t .state)
+unfolding resumeOf resumedAt resumedBy
+resume-chose o j from to x t = record { rows = refl; words = refl; steps = refl; live = inr refl }
+
+choice-chose : (o j : ℕ) (from to : List ℕ) (s : List ℤ) (x : State) (t : Tables) → Chose x (choiceOf o j from to s x t .state)
+unfolding choiceOf
+choice-chose o j from to s x t =
+    when-if at-turn (ltb 9 o) (when (eqb o 10) (joinOf j x t) (resumeOf o j from to x t)) (consOf s j x t)
+    (λ z. when-if at-turn (eqb o 10) (joinOf j x t) (resumeOf o j from to x t) (λ k. join-chose j x t) (λ k. resume-chose o j from to x t))
+    (λ z. cons-chose s j x t)
+  where
+    at-turn : Turned → Type 0
+    at-turn u = Chose x (u .state)
+
+pub pick-chose : (op from to : List ℕ) (s : List ℤ) (x : State) (t : Tables) → Chose x (pickOf op from to s x t .state)
 unfolding pickOf lived
-pick-chose op s x t =
-    when-if at-turn (eqb (x .top) 0) (turned (lived x 0) t) (when (eqb (getD op (x .top - 1) 0) 10) (joinOf (x .top - 1) x t) (consOf s (x .top - 1) x t))
+pick-chose op from to s x t =
+    when-if at-turn (eqb (x .top) 0) (turned (lived x 0) t) (choiceOf (getD op (x .top - 1) 0) (x .top - 1) from to s x t)
     (λ z. record { rows = refl; words = refl; steps = refl; live = inl refl })
-    (λ z. when-if at-turn (eqb (getD op (x .top - 1) 0) 10) (joinOf (x .top - 1) x t) (consOf s (x .top - 1) x t)
-    (λ k. join-chose (x .top - 1) x t) (λ k. cons-chose s (x .top - 1) x t))
+    (λ z. choice-chose (getD op (x .top - 1) 0) (x .top - 1) from to s x t)
   where
     at-turn : Turned → Type 0
     at-turn u = Chose x (u .state)
@@ -117,7 +155,7 @@ pub record Settles (r r′ : Run) : Type 0 where
 pub settled-is : (e : Env) (r : Run) → Settles r (settled e r)
 unfolding settled afterTurn
 settled-is e r = when-if (Settles r) (eqb (r .state .live) 2) _ _
-    (λ z. let c = pick-chose (e .op) (e .words) (r .state) (r .tables) in record {
+    (λ z. let c = pick-chose (e .op) (e .from) (e .to) (e .words) (r .state) (r .tables) in record {
       rows = c .rows;
       words = c .words;
       steps = c .steps;
@@ -174,7 +212,18 @@ takes-is e r h = when-if (Takes r) (eqb (getD (e .op) (r .state .pc) 0) 0) (take
     (λ z. end-takes r (row (bound (e .words) (r .binds) (e .vars))) h)
     (λ z. when-if (Takes r) (eqb (getD (e .op) (r .state .pc) 0) 3) (takeBind e r) (takeStep e r)
     (λ k. took-takes r (takeBind e r) (bind-took e r) (bind-room e r))
-    (λ k. took-takes r (takeStep e r) (step-took (e .op) (e .from) (e .con) (e .words) (asked e r) (r .state) (r .tables)) refl))
+    (λ k. took-takes r (takeStep e r) (step-took (e .op) (e .from) (e .to) (e .con) (e .words) (asked e r) (r .state) (r .tables)) refl))
   where
     bind-room : (e : Env) (r : Run) → takeBind e r .room ≡ r .room
     bind-room e r = refl
+
+-- ---- The run.
+
+pub run-over : (e : Env) (n : ℕ) (r : Run) → (r .state .live ≡ 1 → ⊥) → runOf e n r ≡ r
+unfolding runOf when
+run-over e zero r h = refl
+run-over e (suc n) r h = rw (ne-eqb (r .state .live) 1 h)
+
+pub run-more : (e : Env) (n : ℕ) (r : Run) → r .state .live ≡ 1 → runOf e (suc n) r ≡ runOf e n (settled e (takeOf e r))
+unfolding runOf when
+run-more e n r l = rw (eq-eqb (r .state .live) 1 l)

@@ -1,5 +1,5 @@
 -- What keeps a run valid and what is the same for a state taken up and a choice taken: cases, places and marks, frames.
-use Prim.Native.Nat.{ℕ, _+_, _-_, _^_, _≤_, _<_}
+use Prim.Native.Nat.{ℕ, zero, suc, _+_, _-_, _^_, _≤_, _<_}
 use native.Mathlib.Omega.{arith}
 use lib.Pow.{pow-pos}
 use mathlib.Core.Path.{_≡_, refl}
@@ -50,8 +50,31 @@ low-le m h l = digit-le (trailingZeros 64 m) m (low-digit 64 m h l)
 
 -- ---- Frames.
 
+pub top-bound : (top : ℕ) → ((top ≡ 0 → ⊥) → top - 1 < entries) → top ≤ entries
+top-bound zero h = omega arith
+top-bound (suc j) h = let k = h (λ z. omega arith) in omega arith
+
+-- The frame of an or or a not asks nothing of its slot.
+pub frame-beyond : (o : ℕ) (s : List ℤ) (j at m c : ℕ) → j < entries → 14 < o → o < 17 → Frame o s j at m c
+frame-beyond o s j at m c p h k = record {
+  place = p;
+  splits = omega arith;
+  chooses = k;
+  whole = λ z. h;
+  held = λ z. absurd (omega arith);
+  within = λ z. absurd (omega arith);
+  some = λ z. absurd (omega arith);
+  there = λ z. absurd (omega arith);
+}
+
 -- A slot written keeps every frame a frame.
 module _ (op : List ℕ) (s : List ℤ) (t : Tables) (l : Long t) (i : ℕ) (h : i < entries) where
+  pub frame-waits : 13 < getD op i 0 → (at j : ℕ) → Frame (getD op j 0) s j (getD (t .ats) j 0) (getD (t .wholes) j 0) (getD (t .lefts) j 0)
+      → Frame (getD op j 0) s j (getD (set (t .ats) i at) j 0) (getD (t .wholes) j 0) (getD (t .lefts) j 0)
+  frame-waits k at j old = by-place _ i j
+      (λ e. let p : 13 < getD op j 0 = rw e k in frame-beyond (getD op j 0) s j _ _ _ (old .place) (old .whole (omega arith)) (old .chooses))
+      (λ n. rw (getD-set-other (t .ats) i j at 0 n) old)
+
   pub frame-pushed : (at m c j : ℕ) → Frame (getD op i 0) s i at m c
       → Frame (getD op j 0) s j (getD (t .ats) j 0) (getD (t .wholes) j 0) (getD (t .lefts) j 0)
       → Frame (getD op j 0) s j (getD (set (t .ats) i at) j 0) (getD (set (t .wholes) i m) j 0) (getD (set (t .lefts) i c) j 0)

@@ -21,14 +21,13 @@ use Rattle.equality.specs.Equality.{equalAt, isSum}
 use Rattle.rows.specs.declared.Binding.{Binding}
 use Rattle.holding.proofs.Elements.{second}
 use Rattle.stepping.specs.declared.State.{State}
-use Rattle.stepping.specs.Steps.{when, Tables, Turned, tables, turned, counted, dropped, stepBy, stepOf, passesOf, pickOf, settleOf, Steps, PicksIf}
+use Rattle.stepping.specs.Steps.{when, Tables, Turned, tables, turned, counted, dropped, stepBy, stepOf, passesOf, pickOf, settleOf, Steps, Slots, PicksIf}
 use Rattle.searching.specs.Run.{Env, Run, run, Ended, ended, filled, wrote, endBy, endOf, askOf, boundAt, asked, afterTurn, afterEnd, takeEnd, takeBind, takeStep, takeOf, taken, settled, runOf}
 use Rattle.searching.specs.Valid.{Fine, Valid, Given, Rows, Takes}
 use Rattle.searching.proofs.Keeps.{take-keeps}
 use Rattle.searching.proofs.Settles.{settle-keeps}
-use Rattle.searching.proofs.Counts.{settled-is, takes-is}
-use Rattle.searching.proofs.Whole.{run-over, run-more}
-use Rattle.searching.proofs.Runs.{top-bound}
+use Rattle.searching.proofs.Counts.{settled-is, takes-is, run-over, run-more}
+use Rattle.searching.proofs.Frames.{top-bound}
 
 -- ---- The row.
 
@@ -70,12 +69,12 @@ module _ (o : ℕ) (s : List ℤ) (op from : List ℕ) (b : List Binding) (n : �
   pub take-steps : (o ≡ 0 → ⊥) → Steps s op from x
   take-steps z = h .step z
 
-module _ (o : ℕ) (q : Bool) (op from : List ℕ) (con s : List ℤ) (n : ℕ) (x : State) (t : Tables) (b : List Binding) (room : List ℤ) where
-  pub taken-end : (y : State) (room′ : List ℤ) → o ≡ 0 → ended y room′ ≡ endOf s n x b room → run y t b room′ ≡ taken o q op from con s n (run x t b room)
+module _ (o : ℕ) (q : Bool) (op from to : List ℕ) (con s : List ℤ) (n : ℕ) (x : State) (t : Tables) (b : List Binding) (room : List ℤ) where
+  pub taken-end : (y : State) (room′ : List ℤ) → o ≡ 0 → ended y room′ ≡ endOf s n x b room → run y t b room′ ≡ taken o q op from to con s n (run x t b room)
   unfolding taken afterEnd when
   taken-end y room′ z p = rw (eq-eqb _ _ z) (ap (λ (u : Ended). run (u .state) t b (u .room)) p)
 
-  pub taken-step : (y : State) (u : Tables) → (o ≡ 0 → ⊥) → turned y u ≡ stepOf op from con s q x t → run y u b room ≡ taken o q op from con s n (run x t b room)
+  pub taken-step : (y : State) (u : Tables) → (o ≡ 0 → ⊥) → turned y u ≡ stepOf op from to con s q x t → run y u b room ≡ taken o q op from to con s n (run x t b room)
   unfolding taken afterTurn when
   taken-step y u z p = rw (ne-eqb _ _ z) (ap (λ (w : Turned). run (w .state) (w .tables) b room) p)
 
@@ -152,14 +151,14 @@ module _ (e : Env) (x : State) (t : Tables) (b : List Binding) (room : List ℤ)
 
 -- ---- A turn.
 
-step-3 : (from : List ℕ) (con s : List ℤ) (q : Bool) (x : State) (t : Tables) → stepBy 3 from con s q x t ≡ turned (dropped from (t .ats) (t .backs) x) t
+step-3 : (from to : List ℕ) (con s : List ℤ) (q : Bool) (x : State) (t : Tables) → stepBy 3 from to con s q x t ≡ turned (dropped from to (t .ats) (t .backs) x) t
 unfolding stepBy when passesOf
-step-3 from con s q x t = refl
+step-3 from to con s q x t = refl
 
-step-bind : (op from : List ℕ) (con s : List ℤ) (q : Bool) (x : State) (t : Tables) → getD op (x .pc) 0 ≡ 3
-    → stepOf op from con s q x t ≡ turned (dropped from (t .ats) (t .backs) (counted x)) t
+step-bind : (op from to : List ℕ) (con s : List ℤ) (q : Bool) (x : State) (t : Tables) → getD op (x .pc) 0 ≡ 3
+    → stepOf op from to con s q x t ≡ turned (dropped from to (t .ats) (t .backs) (counted x)) t
 unfolding stepOf
-step-bind op from con s q x t z = ap (λ (o : ℕ). stepBy o from con s q (counted x) t) z ∙ step-3 from con s q (counted x) t
+step-bind op from to con s q x t z = ap (λ (o : ℕ). stepBy o from to con s q (counted x) t) z ∙ step-3 from to con s q (counted x) t
 
 module _ (e : Env) (x : State) (t : Tables) (b : List Binding) (room : List ℤ) (q : Bool) (b′ : List Binding) (a : Asked e (run x t b room) q b′) where
   same-binds : (getD (e .op) (x .pc) 0 ≡ 3 → ⊥) → b′ ≡ b
@@ -170,28 +169,28 @@ module _ (e : Env) (x : State) (t : Tables) (b : List Binding) (room : List ℤ)
   unfolding when
   new-binds z = a .binds ∙ rw (eq-eqb _ _ z)
 
-  took-0 : getD (e .op) (x .pc) 0 ≡ 0 → taken (getD (e .op) (x .pc) 0) q (e .op) (e .from) (e .con) (e .words) (e .vars) (run x t b′ room) ≡ takeOf e (run x t b room)
+  took-0 : getD (e .op) (x .pc) 0 ≡ 0 → taken (getD (e .op) (x .pc) 0) q (e .op) (e .from) (e .to) (e .con) (e .words) (e .vars) (run x t b′ room) ≡ takeOf e (run x t b room)
   unfolding taken takeOf takeEnd afterEnd when
   took-0 z = rw (eq-eqb _ _ z, same-binds (λ y. omega arith))
 
-  took-3 : getD (e .op) (x .pc) 0 ≡ 3 → taken (getD (e .op) (x .pc) 0) q (e .op) (e .from) (e .con) (e .words) (e .vars) (run x t b′ room) ≡ takeOf e (run x t b room)
+  took-3 : getD (e .op) (x .pc) 0 ≡ 3 → taken (getD (e .op) (x .pc) 0) q (e .op) (e .from) (e .to) (e .con) (e .words) (e .vars) (run x t b′ room) ≡ takeOf e (run x t b room)
   unfolding taken takeOf takeBind afterTurn when
   took-3 z =
       rw (ne-eqb _ 0 (λ (y : getD (e .op) (x .pc) 0 ≡ 0). omega arith), eq-eqb _ 3 z, new-binds z)
       (ap (λ (u : Turned). run (u .state) (u .tables) (set b (getD (e .arg) (x .pc) 0) (record { at = x .at; marks = x .marks })) room)
-      (step-bind (e .op) (e .from) (e .con) (e .words) q x t z))
+      (step-bind (e .op) (e .from) (e .to) (e .con) (e .words) q x t z))
 
   took-n : (getD (e .op) (x .pc) 0 ≡ 0 → ⊥) → (getD (e .op) (x .pc) 0 ≡ 3 → ⊥)
-      → taken (getD (e .op) (x .pc) 0) q (e .op) (e .from) (e .con) (e .words) (e .vars) (run x t b′ room) ≡ takeOf e (run x t b room)
+      → taken (getD (e .op) (x .pc) 0) q (e .op) (e .from) (e .to) (e .con) (e .words) (e .vars) (run x t b′ room) ≡ takeOf e (run x t b room)
   unfolding taken takeOf takeStep afterTurn when
   took-n n m = rw (ne-eqb _ _ n, ne-eqb _ _ m, same-binds m, a .ask)
 
   -- What `take` gives is the state taken up.
-  pub took : (r : Run) → r ≡ taken (getD (e .op) (x .pc) 0) q (e .op) (e .from) (e .con) (e .words) (e .vars) (run x t b′ room) → r ≡ takeOf e (run x t b room)
+  pub took : (r : Run) → r ≡ taken (getD (e .op) (x .pc) 0) q (e .op) (e .from) (e .to) (e .con) (e .words) (e .vars) (run x t b′ room) → r ≡ takeOf e (run x t b room)
   took r p = p ∙ go (eqb (getD (e .op) (x .pc) 0) 0) (eqb (getD (e .op) (x .pc) 0) 3) refl refl
     where
       go : (c d : Bool) → eqb (getD (e .op) (x .pc) 0) 0 ≡ c → eqb (getD (e .op) (x .pc) 0) 3 ≡ d
-          → taken (getD (e .op) (x .pc) 0) q (e .op) (e .from) (e .con) (e .words) (e .vars) (run x t b′ room) ≡ takeOf e (run x t b room)
+          → taken (getD (e .op) (x .pc) 0) q (e .op) (e .from) (e .to) (e .con) (e .words) (e .vars) (run x t b′ room) ≡ takeOf e (run x t b room)
       go true d i j = took-0 (eqb-true _ _ i)
       go false true i j = took-3 (eqb-true _ _ j)
       go false false i j = took-n (eqb-false _ _ i) (eqb-false _ _ j)
@@ -231,19 +230,22 @@ module _ (e : Env) (x : State) (t : Tables) (b : List Binding) (room : List ℤ)
     turn-picks o y u k room′ p = record { picks = λ z. subst (Valid e) (sym p) (take-keeps e fine g (run x t b room) v o) .frames .last }
 
 settle-by : (e : Env) (r : Run) (c : Bool)
-    → afterTurn (when c (pickOf (e .op) (e .words) (r .state) (r .tables)) (turned (r .state) (r .tables))) (r .binds) (r .room)
-    ≡ when c (afterTurn (pickOf (e .op) (e .words) (r .state) (r .tables)) (r .binds) (r .room)) r
+    → afterTurn (when c (pickOf (e .op) (e .from) (e .to) (e .words) (r .state) (r .tables)) (turned (r .state) (r .tables))) (r .binds) (r .room)
+    ≡ when c (afterTurn (pickOf (e .op) (e .from) (e .to) (e .words) (r .state) (r .tables)) (r .binds) (r .room)) r
 unfolding when afterTurn
 settle-by e r true = refl
 settle-by e r false = refl
 
-pub settled-by : (e : Env) (r : Run) (y : State) (u : Tables) → turned y u ≡ settleOf (e .op) (e .words) (r .state) (r .tables) → run y u (r .binds) (r .room) ≡ settled e r
+pub settled-by : (e : Env) (r : Run) (y : State) (u : Tables) → turned y u ≡ settleOf (e .op) (e .from) (e .to) (e .words) (r .state) (r .tables) → run y u (r .binds) (r .room) ≡ settled e r
 unfolding settled settleOf afterTurn
 settled-by e r y u p = ap (λ (z : Turned). run (z .state) (z .tables) (r .binds) (r .room)) p ∙ go (eqb (r .state .live) 2)
   where
-    go : (c : Bool) → afterTurn (when c (pickOf (e .op) (e .words) (r .state) (r .tables)) (turned (r .state) (r .tables))) (r .binds) (r .room)
-        ≡ when c (afterTurn (pickOf (e .op) (e .words) (r .state) (r .tables)) (r .binds) (r .room)) r
+    go : (c : Bool) → afterTurn (when c (pickOf (e .op) (e .from) (e .to) (e .words) (r .state) (r .tables)) (turned (r .state) (r .tables))) (r .binds) (r .room)
+        ≡ when c (afterTurn (pickOf (e .op) (e .from) (e .to) (e .words) (r .state) (r .tables)) (r .binds) (r .room)) r
     go c = settle-by e r c
+
+pub fine-slots : (e : Env) → Fine e → Slots (e .from)
+fine-slots e f = record { there = f .slots }
 
 -- ---- A state stands, and the budget is not used up.
 

@@ -14,9 +14,8 @@ use lib.IntN.{ℤ}
 use borrow.Author.Tests.{eqb-true, eqb-false, ltb-true, ltb-false, le-leb, lt-leb}
 use Rattle.rules.specs.Forms.{words}
 use Rattle.rules.specs.Search.{row}
-use Rattle.words.specs.Words.{entries}
 use Rattle.program.specs.Points.{Instr, bind, end}
-use Rattle.program.specs.Meaning.{Means, means-end, means-strip, means-drop, means-bind, means-constant, means-integer, means-value, means-nil, means-list, means-multiset, means-join, means-tuple}
+use Rattle.program.specs.Meaning.{Means, means-end, means-strip, means-drop, means-bind, means-constant, means-integer, means-value, means-nil, means-list, means-multiset, means-join, means-tuple, means-keep, means-choice, means-deny, means-cut, means-other, means-close}
 use Rattle.program.specs.Lines.{Line}
 use Rattle.engine.specs.Held.{Data}
 use Rattle.engine.specs.Engine.{Conf, back, exec, settle}
@@ -37,7 +36,7 @@ use Rattle.searching.proofs.Room.{put-before}
 use Rattle.searching.proofs.Keeps.{take-keeps}
 use Rattle.searching.proofs.Frames.{when-if}
 use Rattle.searching.proofs.Turns as choice
-use Rattle.searching.proofs.Turns.{asTurn, bind-turn, step-turn, pick-is}
+use Rattle.searching.proofs.Turns.{asTurn, bind-turn, step-turn, Divided, pick-is}
 use Rattle.searching.proofs.Counts.{Took, step-took, bind-took, settled-is}
 
 -- ---- The row.
@@ -68,19 +67,14 @@ row-fits : (D : Data) (k : Engine D) (ws : List ℤ) (c : Option (Conf D)) → l
 unfolding rowDone
 row-fits D k ws c h = ap (λ z. elim z as (λ _. Engine D) [ true ↦ wrote D k ws c | false ↦ filled D k ]) h
 
-pub top-bound : (top : ℕ) → ((top ≡ 0 → ⊥) → top - 1 < entries) → top ≤ entries
-top-bound zero h = omega arith
-top-bound (suc j) h = let k = h (λ z. omega arith) in omega arith
-
 module _ (e : Env) (g : Target (e .words)) where
   settle-is : (code : ℕ → Instr) (r : Run) → Valid e r → (r .state .live ≡ 1) ⊎ (r .state .live ≡ 2)
-      → ((j : ℕ) → r .state .top ≡ suc j → Means (e .matcher) (e .vars) (lineAt e j) (code j))
+      → Divided e g code
       → settle (places (e .words) g) code (asTurn e g r) ≡ engineOf (e .words) g (settled e r) .conf
   unfolding settle asTurn engineOf settled afterTurn standing when pickOf choice.stands
   settle-is code r v (inl l) m = rw l
   settle-is code r v (inr l) m =
-      rw l (pick-is e g (r .state) (r .tables) (r .binds) (v .long) code (r .state .top) refl m (λ n. (v .frames .last .frame n .splits, v .frames .last .frame n .chooses))
-      (top-bound (r .state .top) (λ n. v .frames .last .frame n .place)))
+      rw l (pick-is e g (r .state) (r .tables) (r .binds) (v .long) code (r .state .top) refl m (v .frames .last))
 
   -- A state that stands.
   standing-engine : (x : State) (t : Tables) (b : List Binding) (room : List ℤ) → Engine (places (e .words) g)
@@ -99,7 +93,7 @@ module _ (e : Env) (g : Target (e .words)) where
 
   -- One that has an atom left.
   goes-on : (code : ℕ → Instr) (x : State) (t : Tables) (b : List Binding) (room : List ℤ) (r : Run) → Took x (r .state) → r .room ≡ room → Valid e r
-      → ((j : ℕ) → r .state .top ≡ suc j → Means (e .matcher) (e .vars) (lineAt e j) (code j))
+      → Divided e g code
       → passed (places (e .words) g) (standing-engine x t b room) (settle (places (e .words) g) code (asTurn e g r)) ≡ engineOf (e .words) g (settled e r)
   unfolding passed engineOf standing-engine
   goes-on code x t b room r k q v m =
@@ -120,7 +114,7 @@ module _ (e : Env) (g : Target (e .words)) where
 
   wrote-is : (code : ℕ → Instr) (x : State) (t : Tables) (b : List Binding) (room ws : List ℤ) → x .words + length ws ≤ length room
       → Valid e (run (numbers.wrote x (length ws)) t b (put room (x .words) ws))
-      → ((j : ℕ) → x .top ≡ suc j → Means (e .matcher) (e .vars) (lineAt e j) (code j))
+      → Divided e g code
       → wrote (places (e .words) g) (standing-engine x t b room) ws (settle (places (e .words) g) code (back (confOf (e .words) g x t b)))
       ≡ engineOf (e .words) g (settled e (run (numbers.wrote x (length ws)) t b (put room (x .words) ws)))
   unfolding wrote engineOf standing-engine asTurn confOf numbers.wrote when
@@ -138,7 +132,7 @@ module _ (e : Env) (g : Target (e .words)) where
 
   -- One that has none: its row, if it fits.
   ends : (code : ℕ → Instr) (x : State) (t : Tables) (b : List Binding) (room ws : List ℤ) → x .words ≤ length room → Valid e (afterEnd (endBy ws x room) t b)
-      → ((j : ℕ) → x .top ≡ suc j → Means (e .matcher) (e .vars) (lineAt e j) (code j))
+      → Divided e g code
       → rowDone (places (e .words) g) (standing-engine x t b room) ws (settle (places (e .words) g) code (back (confOf (e .words) g x t b)))
       ≡ engineOf (e .words) g (settled e (afterEnd (endBy ws x room) t b))
   unfolding endBy afterEnd when standing-engine
@@ -165,7 +159,7 @@ module _ (e : Env) (g : Target (e .words)) where
   turn-stands code x t b room = refl
 
   -- An instruction that is no end.
-  result-passed : {l : Line} {i : Instr} (D : Data) (k : Engine D) (b : ℕ → D .Held) (o : Option (Conf D)) → Means (e .matcher) (e .vars) l i → (l .op ≡ 0 → ⊥)
+  result-passed : {l : Line} {to : ℕ} {i : Instr} (D : Data) (k : Engine D) (b : ℕ → D .Held) (o : Option (Conf D)) → Means (e .matcher) (e .vars) l to i → (l .op ≡ 0 → ⊥)
       → result D k i b o ≡ passed D k o
   unfolding result
   result-passed D k b o (means-end z) n = absurd (n z)
@@ -179,9 +173,15 @@ module _ (e : Env) (g : Target (e .words)) where
   result-passed D k b o (means-list m z) n = refl
   result-passed D k b o (means-multiset m z) n = refl
   result-passed D k b o (means-join m z) n = refl
-  result-passed D k b o (means-tuple m z) n = refl
+  result-passed D k b o (means-tuple m z h) n = refl
+  result-passed D k b o (means-keep z) n = refl
+  result-passed D k b o (means-choice z) n = refl
+  result-passed D k b o (means-deny z) n = refl
+  result-passed D k b o (means-cut z) n = refl
+  result-passed D k b o (means-other z) n = refl
+  result-passed D k b o (means-close z) n = refl
 
-  end-code : {l : Line} {i : Instr} → Means (e .matcher) (e .vars) l i → l .op ≡ 0 → i ≡ end (e .vars)
+  end-code : {l : Line} {to : ℕ} {i : Instr} → Means (e .matcher) (e .vars) l to i → l .op ≡ 0 → i ≡ end (e .vars)
   end-code (means-end z) h = refl
   end-code (means-strip z) h = absurd (omega arith)
   end-code (means-drop z) h = absurd (omega arith)
@@ -193,9 +193,15 @@ module _ (e : Env) (g : Target (e .words)) where
   end-code (means-list m z) h = absurd (omega arith)
   end-code (means-multiset m z) h = absurd (omega arith)
   end-code (means-join m z) h = absurd (omega arith)
-  end-code (means-tuple m z) h = absurd (omega arith)
+  end-code (means-tuple m z k) h = absurd (omega arith)
+  end-code (means-keep z) h = absurd (omega arith)
+  end-code (means-choice z) h = absurd (omega arith)
+  end-code (means-deny z) h = absurd (omega arith)
+  end-code (means-cut z) h = absurd (omega arith)
+  end-code (means-other z) h = absurd (omega arith)
+  end-code (means-close z) h = absurd (omega arith)
 
-  bind-code : {l : Line} {i : Instr} → Means (e .matcher) (e .vars) l i → l .op ≡ 3 → i ≡ bind (l .arg) (l .from)
+  bind-code : {l : Line} {to : ℕ} {i : Instr} → Means (e .matcher) (e .vars) l to i → l .op ≡ 3 → i ≡ bind (l .arg) (l .from) to
   bind-code (means-end z) h = absurd (omega arith)
   bind-code (means-strip z) h = absurd (omega arith)
   bind-code (means-drop z) h = absurd (omega arith)
@@ -207,18 +213,21 @@ module _ (e : Env) (g : Target (e .words)) where
   bind-code (means-list m z) h = absurd (omega arith)
   bind-code (means-multiset m z) h = absurd (omega arith)
   bind-code (means-join m z) h = absurd (omega arith)
-  bind-code (means-tuple m z) h = absurd (omega arith)
+  bind-code (means-tuple m z k) h = absurd (omega arith)
+  bind-code (means-keep z) h = absurd (omega arith)
+  bind-code (means-choice z) h = absurd (omega arith)
+  bind-code (means-deny z) h = absurd (omega arith)
+  bind-code (means-cut z) h = absurd (omega arith)
+  bind-code (means-other z) h = absurd (omega arith)
+  bind-code (means-close z) h = absurd (omega arith)
 
   module _ (fine : Fine e) (code : ℕ → Instr) (x : State) (t : Tables) (b : List Binding) (room : List ℤ)
-      (v : Valid e (run x t b room)) (l : x .live ≡ 1) (means : (j : ℕ) → j ≤ x .pc → Means (e .matcher) (e .vars) (lineAt e j) (code j)) (low : x .top ≤ x .pc) where
+      (v : Valid e (run x t b room)) (l : x .live ≡ 1) (here : Means (e .matcher) (e .vars) (lineAt e (x .pc)) (getD (e .to) (x .pc) 0) (code (x .pc))) (divides : Divided e g code) where
     same-turn : Run → Type 0
     same-turn r = Valid e r
         → result (places (e .words) g) (standing-engine x t b room) (code (x .pc)) (bindsOf (e .words) g b)
         (settle (places (e .words) g) code (exec (places (e .words) g) (code (x .pc)) (confOf (e .words) g x t b)))
         ≡ engineOf (e .words) g (settled e r)
-
-    here : Means (e .matcher) (e .vars) (lineAt e (x .pc)) (code (x .pc))
-    here = means (x .pc) (omega arith)
 
     end-turn : getD (e .op) (x .pc) 0 ≡ 0 → same-turn (takeEnd e (run x t b room))
     unfolding same-turn lineAt takeEnd endOf result exec
@@ -227,7 +236,7 @@ module _ (e : Env) (g : Target (e .words)) where
         (settle (places (e .words) g) code (exec (places (e .words) g) i (confOf (e .words) g x t b)))) (end-code here z)
         ∙ ap (λ ws. rowDone (places (e .words) g) (standing-engine x t b room) ws (settle (places (e .words) g) code (back (confOf (e .words) g x t b))))
         (row-is (e .words) g b (e .vars) (let k = fine .few in let q = v .binds .long in omega arith))
-        ∙ ends code x t b room (row (bound (e .words) b (e .vars))) (v .room) w (λ j q. means j (omega arith))
+        ∙ ends code x t b room (row (bound (e .words) b (e .vars))) (v .room) w divides
 
     goes : (r : Run) → Took x (r .state) → r .room ≡ room → (getD (e .op) (x .pc) 0 ≡ 0 → ⊥)
         → exec (places (e .words) g) (code (x .pc)) (confOf (e .words) g x t b) ≡ asTurn e g r → same-turn r
@@ -235,11 +244,7 @@ module _ (e : Env) (g : Target (e .words)) where
     goes r k q n p w =
         result-passed (places (e .words) g) (standing-engine x t b room) (bindsOf (e .words) g b) _ here n
         ∙ ap (λ u. passed (places (e .words) g) (standing-engine x t b room) (settle (places (e .words) g) code u)) p
-        ∙ goes-on code x t b room r k q w (λ j u. means j (before j u (k .top)))
-      where
-        before : (j : ℕ) → r .state .top ≡ suc j → (r .state .top ≡ x .top) ⊎ (r .state .top ≡ x .pc + 1) → j ≤ x .pc
-        before j u (inl a) = omega arith
-        before j u (inr a) = omega arith
+        ∙ goes-on code x t b room r k q w divides
 
     pub turn-is : turn (places (e .words) g) code (engineOf (e .words) g (run x t b room)) ≡ engineOf (e .words) g (settled e (takeOf e (run x t b room)))
     unfolding takeOf same-turn lineAt takeBind takeStep afterTurn
@@ -251,7 +256,7 @@ module _ (e : Env) (g : Target (e .words)) where
         (λ k. goes (takeBind e r) (bind-took e r) refl (eqb-false _ _ z)
         (ap (λ i. exec (places (e .words) g) i (confOf (e .words) g x t b)) (bind-code here (eqb-true _ _ k))
         ∙ bind-turn e g x t b room (v .binds .long) (fine .numbers (x .pc) (v .place))))
-        (λ k. goes (takeStep e r) (step-took (e .op) (e .from) (e .con) (e .words) (asked e r) x t) refl (eqb-false _ _ z)
+        (λ k. goes (takeStep e r) (step-took (e .op) (e .from) (e .to) (e .con) (e .words) (asked e r) x t) refl (eqb-false _ _ z)
         (step-turn e g x t b room (code (x .pc)) here (eqb-false _ _ z) (eqb-false _ _ k) (v .long) (v .place) (fine .parts (x .pc) (v .place)))))
         (take-keeps e fine g r v l)
       where

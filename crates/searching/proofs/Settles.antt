@@ -5,10 +5,10 @@ use mathlib.Core.Path.{_≡_, _∙_}
 use mathlib.Core.List.{List}
 use lib.ListN.{length, getD, set, length-set}
 use lib.Seq.{getD-set-same, getD-set-other}
-use lib.Dec.{eqb}
+use lib.Dec.{eqb, ltb}
 use lib.Count.{trailingZeros}
 use lib.IntN.{ℤ}
-use borrow.Author.Tests.{eqb-true, eqb-false}
+use borrow.Author.Tests.{eqb-true, eqb-false, ltb-true, ltb-false}
 use Rattle.words.specs.Words.{entries}
 use Rattle.marks.specs.Marks.{clear}
 use Rattle.marks.proofs.Places.{clear-le, clear-lt}
@@ -19,7 +19,7 @@ use Rattle.holding.proofs.Held.{marks-count, held-64}
 use Rattle.rows.specs.declared.Binding.{Binding}
 use Rattle.stepping.proofs.Laws.{low-there}
 use Rattle.stepping.specs.declared.State.{State}
-use Rattle.stepping.specs.Steps.{Tables, Turned, tables, moved, lived, topped, topLeft, nowLeft, longerOf, joinBy, joinOf, consBy, consOf, pickOf, Frame, Picks}
+use Rattle.stepping.specs.Steps.{Tables, Turned, tables, moved, lived, topped, topLeft, nowLeft, longerOf, joinBy, joinOf, consBy, consOf, slotBy, resumedBy, resumedAt, resumeOf, choiceOf, pickOf, Frame, Picks}
 use Rattle.searching.specs.Run.{Env, Run, run, afterTurn, settled}
 use Rattle.searching.specs.Valid.{Fine, Valid}
 use Rattle.searching.proofs.Frames.{when-if, by-place, next-place, held-less, held-whole, low-le, frame-left}
@@ -32,7 +32,7 @@ module _ (e : Env) (fine : Fine e) (g : Target (e .words)) where
       place = v .place;
       held = v .held;
       frames = v .frames;
-      waits = record { held = λ j h n. v .waits .held j h (λ p q. absurd (omega arith)) };
+      waits = record { held = λ j h n. v .waits .held j h (λ p q k. absurd (omega arith)) };
       binds = v .binds;
       room = v .room;
       counts = (let q = v .counts in omega arith);
@@ -64,7 +64,7 @@ module _ (e : Env) (fine : Fine e) (g : Target (e .words)) where
             waits = record {
               held = λ i y z. by-place _ j i
                   (λ q. rw (q, getD-set-same (t .backs) j back 0 (let u = f .place in omega (arith, v .long .backs))) w)
-                  (λ q. rw (getD-set-other (t .backs) j i back 0 q) (v .waits .held i y (λ u o. q (omega arith))));
+                  (λ q. rw (getD-set-other (t .backs) j i back 0 q) (v .waits .held i y (λ u o k. q (omega arith))));
             };
             binds = v .binds;
             room = v .room;
@@ -82,15 +82,16 @@ module _ (e : Env) (fine : Fine e) (g : Target (e .words)) where
       unfolding joinOf joinBy longerOf afterTurn
       join-keeps z =
           let w = f .within z in
-          choice-keeps (getD (t .ats) j 0) c (m - c) (longerOf c (m - c)) (held-less c (f .held) w) (held-less (m - c) (f .held) (omega arith))
+          choice-keeps (getD (t .ats) j 0) c (m - c) (longerOf c (m - c)) (held-less c (f .held (omega arith)) w) (held-less (m - c) (f .held (omega arith)) (omega arith))
           (λ n. record {
             place = f .place;
             splits = f .splits;
             chooses = f .chooses;
+            whole = f .whole;
             held = f .held;
             within = λ y. longer-le n w;
-            some = λ y. absurd (y z);
-            there = λ y. absurd (y z);
+            some = λ y. absurd (omega arith);
+            there = λ y. absurd (omega arith);
           })
         where
           c : ℕ
@@ -100,23 +101,24 @@ module _ (e : Env) (fine : Fine e) (g : Target (e .words)) where
           m = getD (t .wholes) j 0
 
           m-64 : m < 2 ^ 64
-          m-64 = held-64 (e .words) (getD (t .ats) j 0) m g (f .held)
+          m-64 = held-64 (e .words) (getD (t .ats) j 0) m g (f .held (omega arith))
 
           longer-le : (longerOf c (m - c) ≡ 0 → ⊥) → c ≤ m → longerOf c (m - c) ≤ m
           longer-le n w = when-if (λ (k : ℕ). k ≤ m) (eqb (m - c) 0) 0 _ (λ y. omega arith)
               (λ y. let d = eqb-false (m - c) 0 y in let h : 0 < m - c = omega arith in let u = m-64 in let q = low-le (m - c) h (omega arith) in omega arith)
 
-      cons-keeps : (getD (e .op) j 0 ≡ 10 → ⊥) → Valid e (afterTurn (consOf (e .words) j x t) b room)
+      cons-keeps : getD (e .op) j 0 ≤ 9 → Valid e (afterTurn (consOf (e .words) j x t) b room)
       unfolding consOf consBy afterTurn
-      cons-keeps z = choice-keeps place (wholeAt (e .words) place) (clear k m) (clear k c) (held-whole place inside) (held-less (clear k m) (f .held) (clear-le k m))
+      cons-keeps z = choice-keeps place (wholeAt (e .words) place) (clear k m) (clear k c) (held-whole place inside) (held-less (clear k m) (f .held (omega arith)) (clear-le k m))
           (λ n. record {
             place = f .place;
             splits = f .splits;
             chooses = f .chooses;
+            whole = f .whole;
             held = f .held;
-            within = λ y. absurd (z y);
+            within = λ y. absurd (omega arith);
             some = λ y. omega arith;
-            there = λ y. clear-lt (marksAt (e .words) (getD (t .ats) j 0)) k c (f .there z);
+            there = λ y. clear-lt (marksAt (e .words) (getD (t .ats) j 0)) k c (f .there (omega arith));
           })
         where
           c : ℕ
@@ -134,15 +136,46 @@ module _ (e : Env) (fine : Fine e) (g : Target (e .words)) where
           inside : Tag (e .words) place
           inside =
               let p = marks-count (e .words) (getD (t .ats) j 0) in
-              let q = g .small (getD (t .ats) j 0) (f .held .tag) in
-              let r = low-there (marksAt (e .words) (getD (t .ats) j 0)) c (omega arith) (f .some z) (f .there z) in
-              element-tag (e .words) (getD (t .ats) j 0) k g (f .held .tag) (omega arith)
+              let q = g .small (getD (t .ats) j 0) (f .held (omega arith) .tag) in
+              let r = low-there (marksAt (e .words) (getD (t .ats) j 0)) c (omega arith) (f .some (omega arith)) (f .there (omega arith)) in
+              element-tag (e .words) (getD (t .ats) j 0) k g (f .held (omega arith) .tag) (omega arith)
 
-    pick-keeps : Valid e (afterTurn (pickOf (e .op) (e .words) x t) b room)
+      -- An or or a not: what waits in its slot is held.
+      module _ (o : 10 < getD (e .op) j 0) where
+        all-wait : (i : ℕ) → i < entries → Held (e .words) (getD (t .ats) i 0) (getD (t .backs) i 0)
+        all-wait i h = v .waits .held i h (λ p q k. let z : i ≡ j = omega arith in let y : getD (e .op) j 0 < 11 = rw z at k in omega arith)
+
+        slot-there : slotBy (getD (e .op) j 0) j (e .from) < entries
+        unfolding slotBy
+        slot-there = when-if (λ (i : ℕ). i < entries) (eqb (getD (e .op) j 0) 15) _ _ (λ z. f .place) (λ z. fine .slots j (f .place))
+
+        resume-keeps : Valid e (afterTurn (resumeOf (getD (e .op) j 0) j (e .from) (e .to) x t) b room)
+        unfolding resumeOf resumedAt resumedBy afterTurn
+        resume-keeps = record {
+          place = fine .places j (f .place);
+          held = all-wait _ slot-there;
+          frames = record { last = v .frames .below j (f .place); below = v .frames .below };
+          waits = record { held = λ i h z. all-wait i h };
+          binds = v .binds;
+          room = v .room;
+          counts = (let q = v .counts in omega arith);
+          long = v .long;
+        }
+
+      any-keeps : Valid e (afterTurn (choiceOf (getD (e .op) j 0) j (e .from) (e .to) (e .words) x t) b room)
+      unfolding choiceOf afterTurn
+      any-keeps = when-if at-turn (ltb 9 (getD (e .op) j 0)) _ _
+          (λ z. let h : 9 < getD (e .op) j 0 = ltb-true 9 _ z in when-if at-turn (eqb (getD (e .op) j 0) 10) _ _ (λ k. join-keeps (eqb-true _ _ k))
+          (λ k. let d = eqb-false (getD (e .op) j 0) 10 k in resume-keeps (omega arith)))
+          (λ z. cons-keeps (ltb-false 9 _ z))
+        where
+          at-turn : Turned → Type 0
+          at-turn u = Valid e (run (u .state) (u .tables) b room)
+
+    pick-keeps : Valid e (afterTurn (pickOf (e .op) (e .from) (e .to) (e .words) x t) b room)
     unfolding pickOf afterTurn
     pick-keeps = when-if at-turn (eqb (x .top) 0) _ _ (λ z. none-keeps (eqb-true _ _ z))
-        (λ z. let n = eqb-false (x .top) 0 z in let u : x .top ≡ suc (x .top - 1) = omega arith in let f = v .frames .last .frame n in
-        when-if at-turn (eqb (getD (e .op) (x .top - 1) 0) 10) _ _ (λ k. join-keeps (x .top - 1) u f (eqb-true _ _ k)) (λ k. cons-keeps (x .top - 1) u f (eqb-false _ _ k)))
+        (λ z. let n = eqb-false (x .top) 0 z in let u : x .top ≡ suc (x .top - 1) = omega arith in any-keeps (x .top - 1) u (v .frames .last .frame n))
       where
         at-turn : Turned → Type 0
         at-turn u = Valid e (run (u .state) (u .tables) b room)

@@ -1,5 +1,5 @@
--- The stores of a push are one changed slot; so are those of a choice; those of a tuple are one for each part that waits.
-use Prim.Native.Nat.{ℕ, zero, suc, _+_, _-_, _≤_, _<_}
+-- The stores of a push are one changed slot; so are those of a choice, of an and, and of an or or a not; those of a tuple are one for each part that waits.
+use Prim.Native.Nat.{ℕ, zero, suc, _+_, _≤_, _<_}
 use native.Mathlib.Numerals.{add-one}
 use native.Mathlib.Omega.{arith}
 use mathlib.Core.Path.{_≡_, refl, sym, ap, _∙_, fun-ext}
@@ -11,11 +11,11 @@ use lib.Seq.{getD-set-same, getD-set-other}
 use lib.Dec.{eqb, eqb→eq, eqb-refl, T}
 use lib.IntN.{ℤ}
 use Rattle.words.specs.Words.{entries}
-use Rattle.engine.specs.Engine.{put, Slot, kept, keeping, slotAfter}
+use Rattle.engine.specs.Engine.{put, Slot, kept, framed, keeping, slotAfter}
 use Rattle.holding.specs.Places.{Target, elementAt}
 use Rattle.stepping.specs.declared.State.{State}
 use Rattle.stepping.specs.Steps as numbers
-use Rattle.stepping.specs.Steps.{when, Tables, tables, pushedIn, stored, partMarks, nowLeft}
+use Rattle.stepping.specs.Steps.{when, Tables, tables, pushedIn, stored, partMarks, keptIn, framedIn, nowLeft}
 use Rattle.searching.specs.Valid.{Long}
 use Rattle.tying.specs.Operations.{binding, someOf}
 use Rattle.tying.specs.Operations as operations
@@ -78,3 +78,18 @@ module _ (s : List ℤ) (g : Target s) where
       changed = one-changed _ _ j _
           (rw (getD-set-same (t .ats) j (elementAt s at i) 0 (omega (arith, l .ats)), getD-set-same (t .backs) j (partMarks s at i) 0 (omega (arith, l .backs))))
           (λ k n. rw (getD-set-other (t .ats) j k (elementAt s at i) 0 n, getD-set-other (t .backs) j k (partMarks s at i) 0 n))
+
+  -- A value that waits is one changed slot, with a frame and without.
+  pub slots-kept : (x : State) (t : Tables) → Long t → x .pc < entries
+      → slotsOf s g (keptIn x t) ≡ put (slotsOf s g t) (x .pc) (kept (places s g) (slotsOf s g t (x .pc)) (binding (x .at) (x .marks)))
+  unfolding slotsOf keptIn kept
+  slots-kept x t l h = one-changed _ _ (x .pc) _
+      (rw (getD-set-same (t .ats) (x .pc) (x .at) 0 (omega (arith, l .ats)), getD-set-same (t .backs) (x .pc) (x .marks) 0 (omega (arith, l .backs))))
+      (λ j n. rw (getD-set-other (t .ats) (x .pc) j (x .at) 0 n, getD-set-other (t .backs) (x .pc) j (x .marks) 0 n))
+
+  pub slots-framed : (x : State) (t : Tables) → Long t → x .pc < entries
+      → slotsOf s g (framedIn x t) ≡ put (slotsOf s g t) (x .pc) (framed (places s g) (slotsOf s g t (x .pc)) (binding (x .at) (x .marks)) (x .top))
+  unfolding slotsOf framedIn framed
+  slots-framed x t l h = one-changed _ _ (x .pc) _
+      (rw (getD-set-same (t .ats) (x .pc) (x .at) 0 (omega (arith, l .ats)), getD-set-same (t .backs) (x .pc) (x .marks) 0 (omega (arith, l .backs)), getD-set-same (t .lows) (x .pc) (x .top) 0 (omega (arith, l .lows))))
+      (λ j n. rw (getD-set-other (t .ats) (x .pc) j (x .at) 0 n, getD-set-other (t .backs) (x .pc) j (x .marks) 0 n, getD-set-other (t .lows) (x .pc) j (x .top) 0 n))

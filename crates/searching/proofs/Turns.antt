@@ -19,8 +19,8 @@ use Rattle.words.specs.Words.{entries}
 use Rattle.program.specs.Points.{asValue, Instr, bind, strip, test, apart}
 use Rattle.matchers.specs.Places.{matcherAt}
 use Rattle.matchers.proofs.Matchers.{matcher-at}
-use Rattle.program.specs.Meaning.{Means, means-end, means-strip, means-drop, means-bind, means-constant, means-integer, means-value, means-nil, means-list, means-multiset, means-join, means-tuple}
-use Rattle.engine.specs.Engine.{put, Slot, Conf, Turn, on, back, check, next, pushed, opening, parting, exec, slotAfter, topAfter, chosen, choose, nextChoice}
+use Rattle.program.specs.Meaning.{Means, means-end, means-strip, means-drop, means-bind, means-constant, means-integer, means-value, means-nil, means-list, means-multiset, means-join, means-tuple, means-keep, means-choice, means-deny, means-cut, means-other, means-close}
+use Rattle.engine.specs.Engine.{put, Slot, Conf, Turn, on, back, check, next, pushed, opening, keptHere, framedHere, without, parting, exec, slotAfter, topAfter, chosen, resumed, choose, nextChoice}
 use Rattle.engine.specs.Whole.{table-set}
 use Rattle.marks.specs.Marks.{clear}
 use Rattle.holding.specs.Places.{Target, countAt, elementAt}
@@ -30,14 +30,14 @@ use Rattle.equality.specs.Equality.{equalAt}
 use Rattle.rows.specs.declared.Binding.{Binding}
 use Rattle.stepping.specs.declared.State.{State}
 use Rattle.stepping.specs.Steps as numbers
-use Rattle.stepping.specs.Steps.{when, Tables, Turned, tables, turned, counted, moved, lived, dropped, pushedIn, passesOf, noneOf, opensOf, splitOf, stored, partMarks, apartAt, apartAts, apartBacks, apartOf, divideOf, stepBy, stepOf, topped, topLeft, nowLeft, longerOf, joinOf, joinBy, consOf, consBy, pickOf}
+use Rattle.stepping.specs.Steps.{when, Tables, Turned, tables, turned, counted, moved, lived, dropped, pushedIn, passesOf, noneOf, opensOf, splitOf, stored, partMarks, apartAt, apartAts, apartBacks, apartOf, keptAt, keptIn, framedAt, framedIn, cutTo, sidesOf, divideOf, stepBy, stepOf, topped, topLeft, nowLeft, longerOf, joinOf, joinBy, consOf, consBy, slotBy, resumedBy, resumedAt, resumeOf, choiceOf, pickOf, Frame, Picks}
 use Rattle.searching.specs.Run.{Env, Run, run, askOf, lineAt, boundAt, asked, takeBind, takeStep, afterTurn}
 use Rattle.searching.specs.Valid.{Long}
 use Rattle.tying.specs.Operations.{binding, isNone, isNumber, isSame, someOf, opensBy, opens, takePlace, takeFront, pick}
 use Rattle.tying.specs.Operations as operations
 use Rattle.tying.proofs.Instance.{places}
 use Rattle.searching.specs.Meaning.{slotsOf, bindsOf, confOf, standing}
-use Rattle.searching.proofs.Slots.{slots-push, slots-pick, slots-keep}
+use Rattle.searching.proofs.Slots.{slots-push, slots-pick, slots-keep, slots-kept, slots-framed}
 
 -- ---- One state taken up.
 
@@ -53,7 +53,7 @@ module _ (e : Env) (g : Target (e .words)) where
     unfolding afterTurn askOf boundAt
     stepAt o =
         afterTurn
-        (stepBy o (e .from) (e .con) (e .words)
+        (stepBy o (e .from) (e .to) (e .con) (e .words)
         (askOf o (e .matcher) (getD (e .mat) (x .pc) 0) (getD (e .con) (x .pc) (pos 0)) (e .words) (boundAt e (x .pc) b) (x .at) (x .marks)) (counted x) t)
         b room
 
@@ -62,12 +62,12 @@ module _ (e : Env) (g : Target (e .words)) where
     step-at z = ap (λ (o : ℕ). asTurn (stepAt o)) (sym z)
 
     test-turn : (q : Bool) → elim q as (λ _. Turn (places (e .words) g)) [
-      | true ↦ on (next (places (e .words) g) (confOf (e .words) g x t b) ((slotsOf (e .words) g t (getD (e .from) (x .pc) 0)) .second) (bindsOf (e .words) g b))
+      | true ↦ on (next (places (e .words) g) (confOf (e .words) g x t b) (getD (e .to) (x .pc) 0) ((slotsOf (e .words) g t (getD (e .from) (x .pc) 0)) .second) (bindsOf (e .words) g b))
       | false ↦ back (confOf (e .words) g x t b)
     ]
-        ≡ asTurn (afterTurn (when q (turned (dropped (e .from) (t .ats) (t .backs) (counted x)) t) (turned (lived (counted x) 2) t)) b room)
+        ≡ asTurn (afterTurn (when q (turned (dropped (e .from) (e .to) (t .ats) (t .backs) (counted x)) t) (turned (lived (counted x) 2) t)) b room)
     unfolding asTurn afterTurn when confOf slotsOf next dropped moved lived counted
-    test-turn true = rw (add-one (x .pc))
+    test-turn true = refl
     test-turn false = refl
 
     strip-turn : exec (places (e .words) g) strip (confOf (e .words) g x t b) ≡ asTurn (stepAt 1)
@@ -75,21 +75,21 @@ module _ (e : Env) (g : Target (e .words)) where
     strip-turn = rw (add-one (x .pc))
 
     pub bind-turn : length b ≡ 16 → getD (e .arg) (x .pc) 0 < 16
-        → exec (places (e .words) g) (bind (getD (e .arg) (x .pc) 0) (getD (e .from) (x .pc) 0)) (confOf (e .words) g x t b) ≡ asTurn (takeBind e (run x t b room))
+        → exec (places (e .words) g) (bind (getD (e .arg) (x .pc) 0) (getD (e .from) (x .pc) 0) (getD (e .to) (x .pc) 0)) (confOf (e .words) g x t b) ≡ asTurn (takeBind e (run x t b room))
     unfolding asTurn when confOf exec next dropped moved counted takeBind slotsOf bindsOf
     bind-turn lb v =
-        rw (add-one (x .pc)) (ap (λ z. on (record { pc = suc (x .pc); cur = (slotsOf (e .words) g t (getD (e .from) (x .pc) 0)) .second; top = x .top; slots = slotsOf (e .words) g t; binds = z }))
-        (sym (table-set b (getD (e .arg) (x .pc) 0) (binding (x .at) (x .marks)) nothing (omega arith))))
+        ap (λ z. on (record { pc = getD (e .to) (x .pc) 0; cur = (slotsOf (e .words) g t (getD (e .from) (x .pc) 0)) .second; top = x .top; slots = slotsOf (e .words) g t; binds = z }))
+        (sym (table-set b (getD (e .arg) (x .pc) 0) (binding (x .at) (x .marks)) nothing (omega arith)))
 
     collection-turn : (m : Matcher) → matcherAt (e .matcher) (getD (e .mat) (x .pc) 0) ≡ m
         → isSame (e .words) m (getD (e .con) (x .pc) (pos 0)) (getD b (getD (e .arg) (x .pc) 0) nothing) (binding (x .at) (x .marks))
         ≡ equal m (holds (e .words) (getD b (getD (e .arg) (x .pc) 0) nothing)) (holds (e .words) (binding (x .at) (x .marks)))
-        → exec (places (e .words) g) (test (asValue m (getD (e .arg) (x .pc) 0) (getD (e .con) (x .pc) (pos 0))) (getD (e .from) (x .pc) 0)) (confOf (e .words) g x t b)
+        → exec (places (e .words) g) (test (asValue m (getD (e .arg) (x .pc) 0) (getD (e .con) (x .pc) (pos 0))) (getD (e .from) (x .pc) 0) (getD (e .to) (x .pc) 0)) (confOf (e .words) g x t b)
         ≡ asTurn (stepAt 6)
     unfolding exec check stepAt when stepBy passesOf askOf boundAt equalAt holds confOf bindsOf slotsOf counted
     collection-turn m f q =
         ap (λ (q : Bool). elim q as (λ _. Turn (places (e .words) g)) [
-          | true ↦ on (next (places (e .words) g) (confOf (e .words) g x t b) ((slotsOf (e .words) g t (getD (e .from) (x .pc) 0)) .second) (bindsOf (e .words) g b))
+          | true ↦ on (next (places (e .words) g) (confOf (e .words) g x t b) (getD (e .to) (x .pc) 0) ((slotsOf (e .words) g t (getD (e .from) (x .pc) 0)) .second) (bindsOf (e .words) g b))
           | false ↦ back (confOf (e .words) g x t b)
         ])
         (q ∙ ap (λ (k : Matcher). equal k (holds (e .words) (getD b (getD (e .arg) (x .pc) 0) nothing)) (holds (e .words) (binding (x .at) (x .marks)))) (sym f))
@@ -113,15 +113,16 @@ module _ (e : Env) (g : Target (e .words)) where
         rw (add-one (x .pc)) (ap (λ z. back (record { pc = x .pc; cur = binding (x .at) (x .marks); top = suc (x .pc); slots = z; binds = bindsOf (e .words) g b }))
         (sym (slots-push (e .words) g c (counted x) t l h)))
 
-    -- A tuple's number divides, and is above those of cons and join.
-    step-apart : (n : ℕ) (q : Bool) → stepBy (11 + n) (e .from) (e .con) (e .words) q (counted x) t ≡ apartOf (e .words) (suc n) (counted x) t
+    -- A tuple's number divides, and is above those of cons and join, and below that of and.
+    step-apart : (n : ℕ) (q : Bool) → n ≤ 2 → stepBy (11 + n) (e .from) (e .to) (e .con) (e .words) q (counted x) t ≡ apartOf (e .words) (suc n) (counted x) t
     unfolding stepBy divideOf when
-    step-apart n q =
+    step-apart n q h =
         let a : 11 + n ≡ 1 → ⊥ = λ z. omega arith in
         let b : 7 < 11 + n = omega arith in
         let c : 10 < 11 + n = omega arith in
         let d : 11 + n - 10 ≡ suc n = omega arith in
-        rw (ne-eqb (11 + n) 1 a, lt-ltb 7 (11 + n) b, lt-ltb 10 (11 + n) c, d)
+        let f : 11 + n < 14 = omega arith in
+        rw (ne-eqb (11 + n) 1 a, lt-ltb 7 (11 + n) b, lt-ltb 10 (11 + n) c, lt-ltb (11 + n) 14 f, d)
 
     apart-by : (n : ℕ) → Long t → x .pc + (suc n) ≤ entries → (q : Bool) → elim q as (λ _. Turn (places (e .words) g)) [
       | true ↦ on (parting (places (e .words) g) (confOf (e .words) g x t b) n)
@@ -138,11 +139,11 @@ module _ (e : Env) (g : Target (e .words)) where
         y (slots-keep (e .words) g (x .at) (x .marks) (suc n) 1 (x .pc) t l h)
     apart-by n l h false = refl
 
-    apart-turn : (n : ℕ) → Long t → x .pc + (suc n) ≤ entries → exec (places (e .words) g) (apart n) (confOf (e .words) g x t b) ≡ asTurn (stepAt (11 + n))
+    apart-turn : (n : ℕ) → n ≤ 2 → Long t → x .pc + (suc n) ≤ entries → exec (places (e .words) g) (apart n) (confOf (e .words) g x t b) ≡ asTurn (stepAt (11 + n))
     unfolding exec stepAt confOf operations.isWide apartOf apartAt apartAts apartBacks numbers.isWide counted
-    apart-turn n l h =
+    apart-turn n y l h =
         apart-is (eqb (countAt (e .words) (x .at)) (suc (suc n))) refl
-        ∙ ap (λ (u : Turned). asTurn (afterTurn u b room)) (sym (step-apart n _))
+        ∙ ap (λ (u : Turned). asTurn (afterTurn u b room)) (sym (step-apart n _ y))
       where
         apart-is : (q : Bool) → eqb (countAt (e .words) (x .at)) (suc (suc n)) ≡ q → elim q as (λ _. Turn (places (e .words) g)) [
           | true ↦ on (parting (places (e .words) g) (confOf (e .words) g x t b) n)
@@ -153,11 +154,33 @@ module _ (e : Env) (g : Target (e .words)) where
             let y : suc (suc n) ≡ suc n + 1 = omega arith in
             apart-by n l h q ∙ rw (rw y at p)
 
+    -- And; or and not.
+    keep-turn : Long t → x .pc < entries → on (keptHere (places (e .words) g) (confOf (e .words) g x t b)) ≡ asTurn (run (keptAt (counted x)) (keptIn (counted x) t) b room)
+    unfolding asTurn when confOf keptHere keptAt moved counted
+    keep-turn l h =
+        rw (add-one (x .pc)) (ap (λ z. on (record { pc = suc (x .pc); cur = binding (x .at) (x .marks); top = x .top; slots = z; binds = bindsOf (e .words) g b }))
+        (sym (slots-kept (e .words) g (counted x) t l h)))
+
+    framed-turn : Long t → x .pc < entries → on (framedHere (places (e .words) g) (confOf (e .words) g x t b)) ≡ asTurn (run (framedAt (counted x)) (framedIn (counted x) t) b room)
+    unfolding asTurn when confOf framedHere framedAt counted
+    framed-turn l h =
+        rw (add-one (x .pc)) (ap (λ z. on (record { pc = suc (x .pc); cur = binding (x .at) (x .marks); top = suc (x .pc); slots = z; binds = bindsOf (e .words) g b }))
+        (sym (slots-framed (e .words) g (counted x) t l h)))
+
+    -- The end of the search inside a not; and where no state stands.
+    cut-turn : back (without (places (e .words) g) (confOf (e .words) g x t b) (getD (e .from) (x .pc) 0)) ≡ asTurn (run (cutTo (e .from) (t .lows) (counted x)) t b room)
+    unfolding asTurn when confOf without cutTo counted slotsOf
+    cut-turn = refl
+
+    back-turn : back (confOf (e .words) g x t b) ≡ asTurn (run (lived (counted x) 2) t b room)
+    unfolding asTurn when confOf lived counted
+    back-turn = refl
+
     -- An instruction that takes up a state with an atom left, and is no bind.
-    pub step-turn : (i : Instr) → Means (e .matcher) (e .vars) (lineAt e (x .pc)) i → (getD (e .op) (x .pc) 0 ≡ 0 → ⊥) → (getD (e .op) (x .pc) 0 ≡ 3 → ⊥) → Long t → x .pc < entries
-        → (10 < getD (e .op) (x .pc) 0 → x .pc + (getD (e .op) (x .pc) 0 - 10) < entries)
+    pub step-turn : (i : Instr) → Means (e .matcher) (e .vars) (lineAt e (x .pc)) (getD (e .to) (x .pc) 0) i → (getD (e .op) (x .pc) 0 ≡ 0 → ⊥) → (getD (e .op) (x .pc) 0 ≡ 3 → ⊥) → Long t → x .pc < entries
+        → (10 < getD (e .op) (x .pc) 0 → getD (e .op) (x .pc) 0 < 14 → x .pc + (getD (e .op) (x .pc) 0 - 10) < entries)
         → exec (places (e .words) g) i (confOf (e .words) g x t b) ≡ asTurn (takeStep e (run x t b room))
-    unfolding stepAt when exec check confOf bindsOf slotsOf stepBy passesOf askOf boundAt splitOf opensOf noneOf opens opensBy operations.code isSame isNumber isNone counted lineAt
+    unfolding stepAt afterTurn when exec check confOf bindsOf slotsOf stepBy divideOf sidesOf passesOf askOf boundAt splitOf opensOf noneOf opens opensBy operations.code isSame isNumber isNone counted lineAt
     step-turn i (means-end z) n k l h u = absurd (n z)
     step-turn i (means-strip z) n k l h u = strip-turn ∙ step-at z
     step-turn i (means-drop z) n k l h u = test-turn true ∙ step-at z
@@ -170,9 +193,19 @@ module _ (e : Env) (g : Target (e .words)) where
     step-turn i (means-list m z) n k l h u = split-turn l h (2 ^ trailingZeros 64 (x .marks)) (eqb (x .marks) 0) ∙ step-at z
     step-turn i (means-multiset m z) n k l h u = split-turn l h (x .marks) (eqb (x .marks) 0) ∙ step-at z
     step-turn i (means-join m z) n k l h u = split-turn l h 0 false ∙ step-at z
-    step-turn i (means-tuple c z) n k l h u = let y = u (omega arith) in apart-turn c l (omega arith) ∙ step-at z
+    step-turn i (means-tuple c z m) n k l h u = let y = u (omega arith) (omega arith) in apart-turn c m l (omega arith) ∙ step-at z
+    step-turn i (means-keep z) n k l h u = keep-turn l h ∙ step-at z
+    step-turn i (means-choice z) n k l h u = framed-turn l h ∙ step-at z
+    step-turn i (means-deny z) n k l h u = framed-turn l h ∙ step-at z
+    step-turn i (means-cut z) n k l h u = cut-turn ∙ step-at z
+    step-turn i (means-other z) n k l h u = back-turn ∙ step-at z
+    step-turn i (means-close z) n k l h u = back-turn ∙ step-at z
 
   -- ---- The next choice.
+
+  -- The lines that divide mean the instructions at their places.
+  abbrev pub Divided : (ℕ → Instr) → Type 0
+  Divided code = (j : ℕ) → 7 < getD (e .op) j 0 → Means (e .matcher) (e .vars) (lineAt e j) (getD (e .to) j 0) (code j)
 
   module _ (x : State) (t : Tables) (b : List Binding) (l : Long t) where
     -- What stands after a choice.
@@ -221,30 +254,38 @@ module _ (e : Env) (g : Target (e .words)) where
         k = trailingZeros 64 (getD (t .lefts) j 0)
 
     -- The choice at j.
-    choose-is : (j : ℕ) (i : Instr) → Means (e .matcher) (e .vars) (lineAt e j) i → 7 < getD (e .op) j 0 → getD (e .op) j 0 < 11 → j < entries → x .top ≡ suc j
-        → choose (places (e .words) g) i j (confOf (e .words) g x t b) ≡ stands (when (eqb (getD (e .op) j 0) 10) (joinOf j x t) (consOf (e .words) j x t))
-    unfolding stands choose chosen confOf slotsOf joinOf joinBy pick takeFront when lineAt
-    choose-is j i (means-end z) o u h f = absurd (omega arith)
-    choose-is j i (means-strip z) o u h f = absurd (omega arith)
-    choose-is j i (means-drop z) o u h f = absurd (omega arith)
-    choose-is j i (means-bind z) o u h f = absurd (omega arith)
-    choose-is j i (means-constant z) o u h f = absurd (omega arith)
-    choose-is j i (means-integer z) o u h f = absurd (omega arith)
-    choose-is j i (means-value k z y a) o u h f = absurd (omega arith)
-    choose-is j i (means-nil k z) o u h f = absurd (omega arith)
-    choose-is j i (means-tuple k z) o u h f = absurd (omega arith)
-    choose-is j i (means-list k z) o u h f = rw z (cons-stands j h f)
-    choose-is j i (means-multiset k z) o u h f = rw z (cons-stands j h f)
-    choose-is j i (means-join k z) g u h f =
+    choose-is : (j : ℕ) (i : Instr) → Means (e .matcher) (e .vars) (lineAt e j) (getD (e .to) j 0) i
+        → Frame (getD (e .op) j 0) (e .words) j (getD (t .ats) j 0) (getD (t .wholes) j 0) (getD (t .lefts) j 0) → x .top ≡ suc j
+        → choose (places (e .words) g) i j (confOf (e .words) g x t b) ≡ stands (choiceOf (getD (e .op) j 0) j (e .from) (e .to) (e .words) x t)
+    unfolding stands standing choose chosen resumed confOf slotsOf choiceOf joinOf joinBy resumeOf resumedAt resumedBy slotBy pick takeFront when lineAt
+    choose-is j i (means-end z) o f = let a = o .splits in absurd (omega arith)
+    choose-is j i (means-strip z) o f = let a = o .splits in absurd (omega arith)
+    choose-is j i (means-drop z) o f = let a = o .splits in absurd (omega arith)
+    choose-is j i (means-bind z) o f = let a = o .splits in absurd (omega arith)
+    choose-is j i (means-constant z) o f = let a = o .splits in absurd (omega arith)
+    choose-is j i (means-integer z) o f = let a = o .splits in absurd (omega arith)
+    choose-is j i (means-value k z y a) o f = let a = o .splits in absurd (omega arith)
+    choose-is j i (means-nil k z) o f = let a = o .splits in absurd (omega arith)
+    choose-is j i (means-list k z) o f = rw z (cons-stands j (o .place) f)
+    choose-is j i (means-multiset k z) o f = rw z (cons-stands j (o .place) f)
+    choose-is j i (means-join k z) o f =
         rw z (choice-stands (longerOf (getD (t .lefts) j 0) (getD (t .wholes) j 0 - getD (t .lefts) j 0)) (getD (t .ats) j 0) (getD (t .lefts) j 0)
-        (getD (t .wholes) j 0 - getD (t .lefts) j 0) j h f)
+        (getD (t .wholes) j 0 - getD (t .lefts) j 0) j (o .place) f)
+    choose-is j i (means-tuple k z m) o f = let a = o .whole (omega arith) in absurd (omega arith)
+    choose-is j i (means-keep z) o f = let a = o .whole (omega arith) in absurd (omega arith)
+    choose-is j i (means-choice z) o f = rw z
+    choose-is j i (means-deny z) o f = rw z
+    choose-is j i (means-cut z) o f = let a = o .chooses in absurd (omega arith)
+    choose-is j i (means-other z) o f = let a = o .chooses in absurd (omega arith)
+    choose-is j i (means-close z) o f = let a = o .chooses in absurd (omega arith)
 
-    pub pick-is : (code : ℕ → Instr) (n : ℕ) → x .top ≡ n → ((j : ℕ) → n ≡ suc j → Means (e .matcher) (e .vars) (lineAt e j) (code j)) → ((n ≡ 0 → ⊥) → (7 < getD (e .op) (n - 1) 0) × (getD (e .op) (n - 1) 0 < 11)) → n ≤ entries
-        → nextChoice (places (e .words) g) code n (confOf (e .words) g x t b) ≡ stands (pickOf (e .op) (e .words) x t)
+    pub pick-is : (code : ℕ → Instr) (n : ℕ) → x .top ≡ n → Divided code → Picks (e .op) (e .words) n (t .ats) (t .wholes) (t .lefts)
+        → nextChoice (places (e .words) g) code n (confOf (e .words) g x t b) ≡ stands (pickOf (e .op) (e .from) (e .to) (e .words) x t)
     unfolding nextChoice stands pickOf standing lived when
-    pick-is code zero f m o h = rw f
-    pick-is code (suc j) f m o h =
+    pick-is code zero f m o = rw f
+    pick-is code (suc j) f m o =
         let p : x .top - 1 ≡ j = omega arith in
         let q : suc j - 1 ≡ j = omega arith in
         let u : x .top ≡ 0 → ⊥ = λ z. omega arith in
-        rw (ne-eqb (x .top) 0 u, p) (choose-is j (code j) (m j refl) (rw q at (o (λ z. omega arith) .0)) (rw q at (o (λ z. omega arith) .1)) (omega arith) f)
+        let y : Frame (getD (e .op) j 0) (e .words) j (getD (t .ats) j 0) (getD (t .wholes) j 0) (getD (t .lefts) j 0) = rw q at (o .frame (λ z. omega arith)) in
+        rw (ne-eqb (x .top) 0 u, p) (choose-is j (code j) (m j (y .splits)) y f)

@@ -1,16 +1,17 @@
 -- The run on numbers and lists tells what document 01's run tells, at every budget and room.
-use Prim.Native.Nat.{ℕ, zero, suc, _+_, _-_, _≤_}
+use Prim.Native.Nat.{ℕ, zero, suc, _+_, _-_, _≤_, _<_}
 use native.Mathlib.Nat.{sub-zero}
 use native.Mathlib.Omega.{arith}
 use mathlib.Core.Path.{_≡_, refl, sym, ap, _∙_, subst}
 use mathlib.Core.Logic.{_⊎_, inl, inr, ⊎-elim}
-use mathlib.Core.Bool.{true, false}
+use mathlib.Core.Bool.{Bool, true, false}
 use mathlib.Core.Option.{none, some}
 use mathlib.Core.List.{List, [], _∷_, _++_}
-use lib.ListN.{length, take, drop, take-append-drop}
+use lib.ListN.{length, getD, take, drop, take-append-drop}
 use lib.Seq.{drop-drop, length-take-le}
+use lib.Dec.{ltb}
 use lib.IntN.{ℤ}
-use borrow.Author.Tests.{eq-eqb, ne-eqb}
+use borrow.Author.Tests.{ltb-true, ltb-false}
 use Rattle.rules.specs.Forms.{Matcher, Pattern, Value}
 use Rattle.rules.specs.Reading.{ok}
 use Rattle.rules.specs.Fit.{fits}
@@ -19,7 +20,9 @@ use Rattle.rules.specs.Search.{start}
 use Rattle.rules.specs.Services.{carriedOut}
 use Rattle.promises.specs.Written.{Widthsᵖ}
 use Rattle.program.specs.Points.{Instr}
-use Rattle.program.specs.Program.{program, pointAt, program-follows}
+use Rattle.program.specs.Program.{program, pointAt}
+use Rattle.program.specs.Fitted.{program-follows}
+use Rattle.program.specs.Closed.{Closed}
 use Rattle.program.specs.Length.{instrs}
 use Rattle.program.specs.Meaning.{Means}
 use Rattle.engine.specs.Held.{Data}
@@ -38,7 +41,8 @@ use Rattle.searching.specs.Valid.{Fine, Valid}
 use Rattle.searching.specs.Meaning.{slotsOf, bindsOf, confOf, standing, engineOf}
 use Rattle.searching.proofs.Keeps.{take-keeps}
 use Rattle.searching.proofs.Settles.{settle-keeps}
-use Rattle.searching.proofs.Counts.{settled-is, takes-is}
+use Rattle.searching.proofs.Counts.{settled-is, takes-is, run-over, run-more}
+use Rattle.searching.proofs.Turns.{Divided}
 use Rattle.searching.proofs.Runs.{turn-is}
 
 -- ---- Ended engines stay.
@@ -93,32 +97,32 @@ kept-next e room r h k =
 
 -- ---- The run.
 
-pub run-over : (e : Env) (n : ℕ) (r : Run) → (r .state .live ≡ 1 → ⊥) → runOf e n r ≡ r
-unfolding runOf when
-run-over e zero r h = refl
-run-over e (suc n) r h = rw (ne-eqb (r .state .live) 1 h)
+module _ (e : Env) (g : Target (e .words)) (fine : Fine e) (m : Matcher) (p : Pattern) (at₀ : ℕ) (ks : List Matcher) (fit : fits p m at₀ [] ≡ ok ks) (wide : Widthsᵖ p) (closed : Closed p)
+    (means : (pc : ℕ) → pc ≤ instrs p m → Means (e .matcher) (e .vars) (lineAt e pc) (getD (e .to) pc 0) (program m p pc))
+    (after : (pc : ℕ) → instrs p m < pc → getD (e .op) pc 0 ≡ 0) where
+  -- A line that divides is one of the program's.
+  divides : Divided e g (program m p)
+  divides j h = go (ltb (instrs p m) j) (ltb-true _ _) (ltb-false _ _)
+    where
+      go : (b : Bool) → (b ≡ true → instrs p m < j) → (b ≡ false → j ≤ instrs p m) → Means (e .matcher) (e .vars) (lineAt e j) (getD (e .to) j 0) (program m p j)
+      go true f k = let z = after j (f refl) in absurd (omega arith)
+      go false f k = means j (k refl)
 
-pub run-more : (e : Env) (n : ℕ) (r : Run) → r .state .live ≡ 1 → runOf e (suc n) r ≡ runOf e n (settled e (takeOf e r))
-unfolding runOf when
-run-more e n r l = rw (eq-eqb (r .state .live) 1 l)
-
-module _ (e : Env) (g : Target (e .words)) (fine : Fine e) (m : Matcher) (p : Pattern) (at₀ : ℕ) (ks : List Matcher) (fit : fits p m at₀ [] ≡ ok ks) (wide : Widthsᵖ p)
-    (means : (pc : ℕ) → pc ≤ instrs p m → Means (e .matcher) (e .vars) (lineAt e pc) (program m p pc)) where
   -- Taken up, a state leaves a run that is valid and still stands for what waits.
   pub record Stands (room : List ℤ) (r : Run) : Type 0 where
     pub valid : Valid e r
     pub phase : Phase (r .state .live)
     pub kept : Kept room r
     pub machine : Machine
-    pub same : Same (places (e .words) g) (program m p) (pointAt m p) (program-follows m p at₀ ks fit wide) (engineOf (e .words) g r) machine
+    pub same : Same (places (e .words) g) (program m p) (pointAt m p) (program-follows m p at₀ ks fit wide closed) (engineOf (e .words) g r) machine
 
   one-turn : (room : List ℤ) (r : Run) → Stands room r → r .state .live ≡ 1
       → turn (places (e .words) g) (program m p) (engineOf (e .words) g r) ≡ engineOf (e .words) g (settled e (takeOf e r))
   unfolding engineOf standing when confOf
   one-turn room r s l =
-      let w = same-waiting (places (e .words) g) (program m p) (pointAt m p) (program-follows m p at₀ ks fit wide) (s .same) (rw l) in
+      let w = same-waiting (places (e .words) g) (program m p) (pointAt m p) (program-follows m p at₀ ks fit wide closed) (s .same) (rw l) in
       let b = place-bound (places (e .words) g) m p (subst (λ o. Rep (places (e .words) g) (program m p) (pointAt m p) o (s .machine .waiting)) stood w) in
-      turn-is e g fine (program m p) (r .state) (r .tables) (r .binds) (r .room) (s .valid) l (λ j h. means j (let k = b .0 in omega arith)) (b .1)
+      turn-is e g fine (program m p) (r .state) (r .tables) (r .binds) (r .room) (s .valid) l (means (r .state .pc) (b .0)) divides
     where
       stood : standing (e .words) g (r .state) (r .tables) (r .binds) ≡ some (confOf (e .words) g (r .state) (r .tables) (r .binds))
       stood = rw l
@@ -130,8 +134,8 @@ module _ (e : Env) (g : Target (e .words)) (fine : Fine e) (m : Matcher) (p : Pa
     phase = phase-next e r (s .valid .room);
     kept = kept-next e room r (s .valid .room) (s .kept);
     machine = once (s .machine);
-    same = subst (λ k. Same (places (e .words) g) (program m p) (pointAt m p) (program-follows m p at₀ ks fit wide) k (once (s .machine))) (one-turn room r s l)
-        (drive.same-turn (places (e .words) g) (program m p) (pointAt m p) (program-follows m p at₀ ks fit wide) (s .same));
+    same = subst (λ k. Same (places (e .words) g) (program m p) (pointAt m p) (program-follows m p at₀ ks fit wide closed) k (once (s .machine))) (one-turn room r s l)
+        (drive.same-turn (places (e .words) g) (program m p) (pointAt m p) (program-follows m p at₀ ks fit wide closed) (s .same));
   }
 
   ended-stays : (r : Run) → (r .state .live ≡ 0) ⊎ (r .state .live ≡ 3)
@@ -211,8 +215,8 @@ module _ (e : Env) (g : Target (e .words)) (fine : Fine e) (m : Matcher) (p : Pa
       phase = inr (inl refl);
       kept = record { long = refl; after = refl };
       machine = opened (start m p v) (length room);
-      same = subst (λ k. Same (places (e .words) g) (program m p) (pointAt m p) (program-follows m p at₀ ks fit wide) k (opened (start m p v) (length room))) first-engine
-          (fresh-same (places (e .words) g) m p v (binding at₁ marks) is at₀ ks fit wide (slotsOf (e .words) g t) (bindsOf (e .words) g b) (length room));
+      same = subst (λ k. Same (places (e .words) g) (program m p) (pointAt m p) (program-follows m p at₀ ks fit wide closed) k (opened (start m p v) (length room))) first-engine
+          (fresh-same (places (e .words) g) m p v (binding at₁ marks) is at₀ ks fit wide closed (slotsOf (e .words) g t) (bindsOf (e .words) g b) (length room));
     }
 
     pub search-runs : (budget : ℕ)
@@ -222,4 +226,4 @@ module _ (e : Env) (g : Target (e .words)) (fine : Fine e) (m : Matcher) (p : Pa
         ∙ ap (λ k. carriedOut (reports (places (e .words) g) k) room)
         (run-is budget room (run (opening at₁ marks) t b room) first-stands ∙ ap (turns (places (e .words) g) (program m p) budget) (sym first-engine))
         ∙ ap (λ r. carriedOut r room)
-        (machine-runs (places (e .words) g) m p v (binding at₁ marks) is at₀ ks fit wide (slotsOf (e .words) g t) (bindsOf (e .words) g b) budget (length room))
+        (machine-runs (places (e .words) g) m p v (binding at₁ marks) is at₀ ks fit wide closed (slotsOf (e .words) g t) (bindsOf (e .words) g b) budget (length room))

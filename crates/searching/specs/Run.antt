@@ -20,6 +20,7 @@ use Rattle.stepping.specs.Steps.{when, Tables, Turned, counted, dropped, stepOf
 pub record Env : Type 0 where
   pub op : List ℕ
   pub from : List ℕ
+  pub to : List ℕ
   pub arg : List ℕ
   pub mat : List ℕ
   pub con : List ℤ
@@ -27,8 +28,8 @@ pub record Env : Type 0 where
   pub words : List ℤ
   pub vars : ℕ
 
-abbrev pub env : List ℕ → List ℕ → List ℕ → List ℕ → List ℤ → List ℤ → List ℤ → ℕ → Env
-env op from arg mat con mt s n = record { op = op; from = from; arg = arg; mat = mat; con = con; matcher = mt; words = s; vars = n }
+abbrev pub env : (op from to arg mat : List ℕ) → (con matcher words : List ℤ) → (vars : ℕ) → Env
+env op from to arg mat con mt s n = record { op = op; from = from; to = to; arg = arg; mat = mat; con = con; matcher = mt; words = s; vars = n }
 
 pub record Run : Type 0 where
   pub state : State
@@ -97,29 +98,29 @@ takeEnd e r = afterEnd (endOf (e .words) (e .vars) (r .state) (r .binds) (r .roo
 
 unfoldable pub takeBind : Env → Run → Run
 takeBind e r =
-    run (dropped (e .from) (r .tables .ats) (r .tables .backs) (counted (r .state))) (r .tables)
+    run (dropped (e .from) (e .to) (r .tables .ats) (r .tables .backs) (counted (r .state))) (r .tables)
     (set (r .binds) (getD (e .arg) (r .state .pc) 0) (record { at = r .state .at; marks = r .state .marks })) (r .room)
 
 unfoldable pub takeStep : Env → Run → Run
 unfolding asked afterTurn
-takeStep e r = afterTurn (stepOf (e .op) (e .from) (e .con) (e .words) (asked e r) (r .state) (r .tables)) (r .binds) (r .room)
+takeStep e r = afterTurn (stepOf (e .op) (e .from) (e .to) (e .con) (e .words) (asked e r) (r .state) (r .tables)) (r .binds) (r .room)
 
 unfoldable pub takeOf : Env → Run → Run
 unfolding when takeEnd takeBind takeStep
 takeOf e r = when (eqb (getD (e .op) (r .state .pc) 0) 0) (takeEnd e r) (when (eqb (getD (e .op) (r .state .pc) 0) 3) (takeBind e r) (takeStep e r))
 
 -- The row, or a step; what tag 3 asks and the binding come before it.
-unfoldable pub taken : ℕ → Bool → List ℕ → List ℕ → List ℤ → List ℤ → ℕ → Run → Run
+unfoldable pub taken : (o : ℕ) → Bool → (op from to : List ℕ) → (con words : List ℤ) → (vars : ℕ) → Run → Run
 unfolding when endOf afterEnd afterTurn
-taken o q op from con s n r =
+taken o q op from to con s n r =
     when (eqb o 0) (afterEnd (endOf s n (r .state) (r .binds) (r .room)) (r .tables) (r .binds))
-    (afterTurn (stepOf op from con s q (r .state) (r .tables)) (r .binds) (r .room))
+    (afterTurn (stepOf op from to con s q (r .state) (r .tables)) (r .binds) (r .room))
 
 -- ---- The run.
 
 unfoldable pub settled : Env → Run → Run
 unfolding when afterTurn
-settled e r = when (eqb (r .state .live) 2) (afterTurn (pickOf (e .op) (e .words) (r .state) (r .tables)) (r .binds) (r .room)) r
+settled e r = when (eqb (r .state .live) 2) (afterTurn (pickOf (e .op) (e .from) (e .to) (e .words) (r .state) (r .tables)) (r .binds) (r .room)) r
 
 unfoldable pub runOf : Env → ℕ → Run → Run
 unfolding when settled takeOf

@@ -12,6 +12,7 @@ use Rattle.rules.specs.Search.{start}
 use Rattle.rules.specs.Services.{Rule, Matched, carriedOut}
 use Rattle.promises.specs.Written.{Widthsᵖ}
 use Rattle.words.specs.Words.{entries}
+use Rattle.program.specs.Closed.{Closed}
 use Rattle.program.specs.Lines.{columns}
 use Rattle.program.specs.Columns.{Holds}
 use Rattle.holding.specs.Held.{wholeAt}
@@ -33,6 +34,6 @@ begun e room = run (opening 0 (wholeAt (e .words) 0)) (tables (zeros entries) (z
 
 pub record Searched (e : Env) (budget : ℕ) (room : List ℤ) (out : Matched) : Type 0 where
   pub is : out ≡ told (runOf e budget (begun e room))
-  pub as-defined : (r : Rule) (v : Value) (ks : List Matcher) → Holds (e .matcher) r (e .vars) (columns (e .op) (e .from) (e .arg) (e .mat) (e .con))
-      → fits (r .pattern) (r .matcher) 0 [] ≡ ok ks → Widthsᵖ (r .pattern) → readTarget (e .words) ≡ ok v → fitsValue (r .matcher) v 0 ≡ ok tt
+  pub as-defined : (r : Rule) (v : Value) (ks : List Matcher) → Holds (e .matcher) r (e .vars) (columns (e .op) (e .from) (e .arg) (e .mat) (e .con)) (e .to)
+      → fits (r .pattern) (r .matcher) 0 [] ≡ ok ks → Widthsᵖ (r .pattern) → Closed (r .pattern) → readTarget (e .words) ≡ ok v → fitsValue (r .matcher) v 0 ≡ ok tt
       → out ≡ carriedOut (search.run budget (start (r .matcher) (r .pattern) v ∷ []) (length room)) room

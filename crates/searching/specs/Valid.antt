@@ -14,15 +14,16 @@ use Rattle.stepping.specs.declared.State.{State}
 use Rattle.stepping.specs.Steps.{Tables, Steps, Picks}
 use Rattle.searching.specs.Run.{Env, Run}
 
--- The program: slots and variables are in range, and its last line is an end. A tuple's parts wait at its own place and at those after it that are
+-- The program: slots, places and variables are in range, and its last line is an end. A tuple's parts wait at its own place and at those after it that are
 -- reserved, where no choice is made; and the program goes on after them.
 pub record Fine (e : Env) : Type 0 where
   pub last : getD (e .op) (entries - 1) 0 ≡ 0
   pub slots : (i : ℕ) → i < entries → getD (e .from) i 0 < entries
+  pub places : (i : ℕ) → i < entries → getD (e .to) i 0 < entries
   pub numbers : (i : ℕ) → i < entries → getD (e .arg) i 0 < 16
   pub few : e .vars ≤ 16
-  pub parts : (i : ℕ) → i < entries → 10 < getD (e .op) i 0 → i + (getD (e .op) i 0 - 10) < entries
-  pub reserved : (i k : ℕ) → 0 < k → 11 + k ≤ getD (e .op) i 0 → getD (e .op) (i + k) 0 ≡ 1
+  pub parts : (i : ℕ) → i < entries → 10 < getD (e .op) i 0 → getD (e .op) i 0 < 14 → i + (getD (e .op) i 0 - 10) < entries
+  pub reserved : (i k : ℕ) → 0 < k → 11 + k ≤ getD (e .op) i 0 → getD (e .op) i 0 ≤ 13 → getD (e .op) (i + k) 0 ≡ 1
 
 -- The tables have a slot for each instruction.
 pub record Long (t : Tables) : Type 0 where
@@ -37,15 +38,15 @@ pub record Open (op : List ℕ) (s : List ℤ) (top : ℕ) (t : Tables) : Type 0
   pub last : Picks op s top (t .ats) (t .wholes) (t .lefts)
   pub below : (i : ℕ) → i < entries → Picks op s (getD (t .lows) i 0) (t .ats) (t .wholes) (t .lefts)
 
--- What waits in a slot is held. While the next choice is to be taken, the last open frame's slot is about to be written.
-pub record Waits (s : List ℤ) (live top : ℕ) (t : Tables) : Type 0 where
-  pub held : (j : ℕ) → j < entries → (live ≡ 2 → top ≡ suc j → ⊥) → Held s (getD (t .ats) j 0) (getD (t .backs) j 0)
+-- What waits in a slot is held. While the next choice is to be taken, the last open frame's slot is about to be written, if it is a cons or a join.
+pub record Waits (op : List ℕ) (s : List ℤ) (live top : ℕ) (t : Tables) : Type 0 where
+  pub held : (j : ℕ) → j < entries → (live ≡ 2 → top ≡ suc j → getD op j 0 < 11 → ⊥) → Held s (getD (t .ats) j 0) (getD (t .backs) j 0)
 
 pub record Valid (e : Env) (r : Run) : Type 0 where
   pub place : r .state .pc < entries
   pub held : Held (e .words) (r .state .at) (r .state .marks)
   pub frames : Open (e .op) (e .words) (r .state .top) (r .tables)
-  pub waits : Waits (e .words) (r .state .live) (r .state .top) (r .tables)
+  pub waits : Waits (e .op) (e .words) (r .state .live) (r .state .top) (r .tables)
   pub binds : Bound (e .words) (r .binds) 16
   pub room : r .state .words ≤ length (r .room)
   pub counts : r .state .rows ≤ r .state .steps

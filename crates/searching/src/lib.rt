@@ -1,4 +1,6 @@
 // Document 01, section 4: "a run takes up states until none remain or the budget is used". The bindings are sixteen structs by value, beside the state.
+pub mod taking;
+
 use equality::equal;
 use equality::is_sum;
 use holding::places::ends_of;
@@ -6,9 +8,8 @@ use holding::places::places_of;
 use holding::places::whole;
 use rows::Binding;
 use rows::bind;
-use rows::put_row;
-use rows::row_size;
 use stepping::State;
+use taking::take;
 use words::ENTRIES;
 ghost use mathlib.Core.Path.{_≡_};
 ghost use Prim.Native.Nat.{_-_, _<_};
@@ -16,8 +17,8 @@ ghost use lib.ListN.{length};
 ghost use Rattle.program.specs.Lines.{columns};
 ghost use Rattle.holding.specs.Places.{Target};
 ghost use Rattle.stepping.specs.Steps.{tables};
-ghost use Rattle.searching.specs.Run.{env, run, ended, endOf, taken, runOf, answerOf, matched};
-ghost use Rattle.searching.specs.Valid.{Given, Rows, Takes, Fine, Valid};
+ghost use Rattle.searching.specs.Run.{env, run, runOf, answerOf, matched};
+ghost use Rattle.searching.specs.Valid.{Given, Fine, Valid};
 ghost use Rattle.searching.specs.Searched.{Searched};
 
 // A number of a line, as an index.
@@ -25,76 +26,6 @@ fn index(x: u8) -> usize
     ensures { λ r. ⌜ r ≡ x ⌝ }
 {
     x as usize
-}
-
-// The row of a state with no atom left, if it fits.
-fn finish(
-    mut x: State,
-    b: [Binding; 16],
-    n: usize,
-    s: &[i32],
-    ends: &[u16; 512],
-    base: &[u16; 512],
-    places: &[u16; 512],
-    room: &mut [i32],
-) -> State
-    requires { ⌜ Given (now s) (now ends) (now base) (now places) ⌝ ∗ ⌜ Rows (now s) b n x (now room) ⌝ }
-    ensures { λ r. ⌜ ended r (now (room .exit)) ≡ endOf (now (s .entry)) n x b (now (room .entry)) ⌝ }
-{
-    let size = row_size(s, ends, base, places, b, n);
-    let w = x.words;
-    x.steps = x.steps + 1;
-    if room.len() - w < size {
-        x.live = 3;
-        return x;
-    }
-    x.words = put_row(s, ends, base, places, b, n, room, w);
-    x.rows = x.rows + 1;
-    x.live = 2;
-    x
-}
-
-// A state is taken up: its row, or a step.
-fn take(
-    x: State,
-    o: u8,
-    q: bool,
-    b: [Binding; 16],
-    n: usize,
-    s: &[i32],
-    ends: &[u16; 512],
-    base: &[u16; 512],
-    places: &[u16; 512],
-    op: &[u8; ENTRIES],
-    from: &[u16; ENTRIES],
-    con: &[i32; ENTRIES],
-    ats: &mut [u16; ENTRIES],
-    wholes: &mut [u64; ENTRIES],
-    lefts: &mut [u64; ENTRIES],
-    lows: &mut [u16; ENTRIES],
-    backs: &mut [u64; ENTRIES],
-    room: &mut [i32],
-) -> State
-    requires { ⌜ Given (now s) (now ends) (now base) (now places) ⌝ ∗ ⌜ Takes o (now s) (now op) (now from) b n x (now room) ⌝ }
-    ensures { λ r. ⌜ run r (tables (now (ats .exit)) (now (wholes .exit)) (now (lefts .exit)) (now (lows .exit)) (now (backs .exit))) b (now (room .exit)) ≡ taken o q (now (op .entry)) (now (from .entry)) (now (con .entry)) (now (s .entry)) n (run x (tables (now (ats .entry)) (now (wholes .entry)) (now (lefts .entry)) (now (lows .entry)) (now (backs .entry))) b (now (room .entry))) ⌝ }
-{
-    if o == 0 {
-        return finish(x, b, n, s, ends, base, places, room);
-    }
-    x.step(
-        q,
-        s,
-        base,
-        places,
-        op,
-        from,
-        con,
-        ats,
-        wholes,
-        lefts,
-        lows,
-        backs,
-    )
 }
 
 pub struct Found {
@@ -115,6 +46,7 @@ pub fn advance(
     places: &[u16; 512],
     op: &[u8; ENTRIES],
     from: &[u16; ENTRIES],
+    to: &[u16; ENTRIES],
     arg: &[u8; ENTRIES],
     mat: &[u8; ENTRIES],
     con: &[i32; ENTRIES],
@@ -125,8 +57,8 @@ pub fn advance(
     backs: &mut [u64; ENTRIES],
     room: &mut [i32],
 ) -> Found
-    requires { ⌜ Given (now s) (now ends) (now base) (now places) ⌝ ∗ ⌜ Fine (env (now op) (now from) (now arg) (now mat) (now con) (now mt) (now s) n) ⌝ ∗ ⌜ Valid (env (now op) (now from) (now arg) (now mat) (now con) (now mt) (now s) n) (run first (tables (now ats) (now wholes) (now lefts) (now lows) (now backs)) given (now room)) ⌝ }
-    ensures { λ r. ⌜ run (r .state) (tables (now (ats .exit)) (now (wholes .exit)) (now (lefts .exit)) (now (lows .exit)) (now (backs .exit))) (r .binds) (now (room .exit)) ≡ runOf (env (now (op .entry)) (now (from .entry)) (now (arg .entry)) (now (mat .entry)) (now (con .entry)) (now (mt .entry)) (now (s .entry)) n) (budget - first .steps) (run first (tables (now (ats .entry)) (now (wholes .entry)) (now (lefts .entry)) (now (lows .entry)) (now (backs .entry))) given (now (room .entry))) ⌝ }
+    requires { ⌜ Given (now s) (now ends) (now base) (now places) ⌝ ∗ ⌜ Fine (env (now op) (now from) (now to) (now arg) (now mat) (now con) (now mt) (now s) n) ⌝ ∗ ⌜ Valid (env (now op) (now from) (now to) (now arg) (now mat) (now con) (now mt) (now s) n) (run first (tables (now ats) (now wholes) (now lefts) (now lows) (now backs)) given (now room)) ⌝ }
+    ensures { λ r. ⌜ run (r .state) (tables (now (ats .exit)) (now (wholes .exit)) (now (lefts .exit)) (now (lows .exit)) (now (backs .exit))) (r .binds) (now (room .exit)) ≡ runOf (env (now (op .entry)) (now (from .entry)) (now (to .entry)) (now (arg .entry)) (now (mat .entry)) (now (con .entry)) (now (mt .entry)) (now (s .entry)) n) (budget - first .steps) (run first (tables (now (ats .entry)) (now (wholes .entry)) (now (lefts .entry)) (now (lows .entry)) (now (backs .entry))) given (now (room .entry))) ⌝ }
 {
     let mut x = first;
     let mut b = given;
@@ -167,6 +99,7 @@ pub fn advance(
             places,
             op,
             from,
+            to,
             con,
             ats,
             wholes,
@@ -175,7 +108,19 @@ pub fn advance(
             backs,
             room,
         );
-        x = x.settle(s, base, places, op, ats, wholes, lefts, lows, backs);
+        x = x.settle(
+            s,
+            base,
+            places,
+            op,
+            from,
+            to,
+            ats,
+            wholes,
+            lefts,
+            lows,
+            backs,
+        );
     }
     Found { state: x, binds: b }
 }
@@ -208,13 +153,14 @@ pub fn search(
     s: &[i32],
     op: &[u8; ENTRIES],
     from: &[u16; ENTRIES],
+    to: &[u16; ENTRIES],
     arg: &[u8; ENTRIES],
     mat: &[u8; ENTRIES],
     con: &[i32; ENTRIES],
     room: &mut [i32],
 ) -> Report
-    requires { ⌜ Target (now s) ⌝ ∗ ⌜ 0 < length (now s) ⌝ ∗ ⌜ Fine (env (now op) (now from) (now arg) (now mat) (now con) (now mt) (now s) n) ⌝ }
-    ensures { λ r. ⌜ Searched (env (now (op .entry)) (now (from .entry)) (now (arg .entry)) (now (mat .entry)) (now (con .entry)) (now (mt .entry)) (now (s .entry)) n) budget (now (room .entry)) (matched (r .answer) (r .rows) (r .steps) (r .words) (now (room .exit))) ⌝ }
+    requires { ⌜ Target (now s) ⌝ ∗ ⌜ 0 < length (now s) ⌝ ∗ ⌜ Fine (env (now op) (now from) (now to) (now arg) (now mat) (now con) (now mt) (now s) n) ⌝ }
+    ensures { λ r. ⌜ Searched (env (now (op .entry)) (now (from .entry)) (now (to .entry)) (now (arg .entry)) (now (mat .entry)) (now (con .entry)) (now (mt .entry)) (now (s .entry)) n) budget (now (room .entry)) (matched (r .answer) (r .rows) (r .steps) (r .words) (now (room .exit))) ⌝ }
 {
     let mut ends = [0u16; 512];
     let mut base = [0u16; 512];
@@ -249,6 +195,7 @@ pub fn search(
         &places,
         op,
         from,
+        to,
         arg,
         mat,
         con,

@@ -1,5 +1,2 @@
-pub mod Sums
-pub mod Costs
-pub mod Counted
 pub mod Rules
 pub mod Matches

@@ -12,7 +12,8 @@ use Rattle.rules.specs.Services as paper
 use Rattle.promises.specs.Faults.{rule-accepted, Sane, sane-exactly}
 use Rattle.words.specs.Words.{entries}
 use Rattle.program.specs.Accepted.{matcher-short, pattern-short}
-use Rattle.program.specs.Lines.{columns, linesOf, variablesIn, laid}
+use Rattle.program.specs.Lines.{columns, linesOf, laid}
+use Rattle.program.specs.Link.{opsIn, bindingsIn, tosBy, placed}
 use Rattle.program.specs.Columns.{Holds, compiled-zeros}
 use Rattle.holding.specs.Places.{Target}
 use Rattle.searching.specs.Run.{env}
@@ -80,13 +81,14 @@ pub ready-some : (ms ps ts : List ℤ) → Ready ms ps ts → 0 < length ts
 ready-some ms ps ts g = accepted-some ms ps ts (g .rule) (g .value) (ready-sane g)
 
 -- The compiled rule, in arrays that held zeros.
-module _ (ms ps ts : List ℤ) (n : ℕ) (op from arg mat : List ℕ) (con : List ℤ) (g : Ready ms ps ts) (vars : n ≡ variablesIn (linesOf ms ps))
-    (is : columns op from arg mat con ≡ laid 0 (linesOf ms ps) (columns (replicate entries 0) (replicate entries 0) (replicate entries 0) (replicate entries 0) (replicate entries (pos 0)))) where
-  holds : Holds ms (g .rule) n (columns op from arg mat con)
-  holds = compiled-zeros ms ps (g .rule) (g .rule-is) n (columns op from arg mat con) vars is
+module _ (ms ps ts : List ℤ) (n : ℕ) (op from to arg mat : List ℕ) (con : List ℤ) (g : Ready ms ps ts) (vars : n ≡ bindingsIn (opsIn op 0 (length (linesOf ms ps))))
+    (is : columns op from arg mat con ≡ laid 0 (linesOf ms ps) (columns (replicate entries 0) (replicate entries 0) (replicate entries 0) (replicate entries 0) (replicate entries (pos 0))))
+    (tos : to ≡ placed 0 (tosBy (opsIn op 0 (length (linesOf ms ps)))) (replicate entries 0)) where
+  holds : Holds ms (g .rule) n (columns op from arg mat con) to
+  holds = compiled-zeros ms ps (g .rule) (g .rule-is) n (columns op from arg mat con) to vars is tos
 
-  pub ready-fine : Fine (env op from arg mat con ms ts n)
-  ready-fine = accepted-fine ms ts (g .rule) n op from arg mat con holds
+  pub ready-fine : Fine (env op from to arg mat con ms ts n)
+  ready-fine = accepted-fine ms ts (g .rule) n op from to arg mat con holds
 
-  pub ready-match : (budget : ℕ) (room : List ℤ) (out : paper.Matched) → Searched (env op from arg mat con ms ts n) budget room out → out ≡ match ms ps ts budget room
-  ready-match budget room out s = accepted-match ms ts (g .rule) n op from arg mat con holds ps (g .value) (ready-sane g) budget room out s
+  pub ready-match : (budget : ℕ) (room : List ℤ) (out : paper.Matched) → Searched (env op from to arg mat con ms ts n) budget room out → out ≡ match ms ps ts budget room
+  ready-match budget room out s = accepted-match ms ts (g .rule) n op from to arg mat con holds ps (g .value) (ready-sane g) budget room out s

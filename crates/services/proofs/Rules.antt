@@ -3,7 +3,7 @@ use Prim.Native.Nat.{ℕ, zero, suc, _^_, _≤_, _<_}
 use native.Mathlib.Omega.{arith}
 use mathlib.Core.Path.{_≡_, refl, sym, ap, _∙_}
 use mathlib.Core.Bool.{Bool, true, false, cond}
-use mathlib.Core.List.{List}
+use mathlib.Core.List.{List, []}
 use lib.Dec.{ltb, leb}
 use lib.ListN.{length, replicate}
 use lib.IntN.{ℤ, pos, negsuc}
@@ -15,16 +15,17 @@ use Rattle.promises.specs.Tests.{leb-true, leb-false}
 use Rattle.words.specs.Words.{tagZ}
 use Rattle.words.specs.Words.{entries}
 use Rattle.program.specs.Accepted.{matcher-short, pattern-short}
-use Rattle.program.specs.Lines.{Columns, columns, linesOf, variablesIn, laid}
+use Rattle.program.specs.Lines.{columns, linesOf, laid}
+use Rattle.program.specs.Link.{opsIn, bindingsIn, tosBy, placed}
 use Rattle.program.specs.Columns.{compiled-zeros}
 use Rattle.judging.specs.Judgements.{judgement}
 use Rattle.judging.specs.declared.Judgement.{Judgement}
 use Rattle.judging.specs.declared.Judgement.the-variants.{Accepted, Refused}
-use Rattle.services.specs.Tally.{sumFrom, within}
+use Rattle.tallying.specs.Tally.{sumFrom, within}
 use Rattle.services.specs.Reviews.{Sound, sound, countUnder, reviewed}
-use Rattle.services.specs.declared.tally.Tally.{Tally}
-use Rattle.services.specs.declared.tally.Tally.the-variants.{Count, TooBig}
-use Rattle.services.proofs.Counted.{counted-is}
+use Rattle.tallying.specs.declared.Tally.{Tally}
+use Rattle.tallying.specs.declared.Tally.the-variants.{Count, TooBig}
+use Rattle.tallying.proofs.Counted.{counted-is}
 
 -- ---- A rule that was accepted.
 
@@ -43,14 +44,16 @@ pub pattern-few : (ms ps : List ℤ) → Sound (ruleOf ms ps) → length ps ≤ 
 pattern-few ms ps s = let r = sound-is s in pattern-short ms ps (r .0) (r .1)
 
 -- The sum over its compiled lines is its count.
-pub count-is : (ms ps : List ℤ) (most vars : ℕ) (op from arg mat : List ℕ) (con : List ℤ) (x : Tally) → Sound (ruleOf ms ps) → vars ≡ variablesIn (linesOf ms ps)
+pub count-is : (ms ps : List ℤ) (most : ℕ) (op from arg mat : List ℕ) (con : List ℤ) (x : Tally) → Sound (ruleOf ms ps)
     → columns op from arg mat con ≡ laid 0 (linesOf ms ps) (columns (replicate entries 0) (replicate entries 0) (replicate entries 0) (replicate entries 0) (replicate entries (pos 0)))
-    → x ≡ within (sumFrom most op 1 0 0 entries) → x ≡ countUnder most (ruleOf ms ps)
+    → x ≡ within (sumFrom most op 1 [] 0 0 entries) → x ≡ countUnder most (ruleOf ms ps)
 unfolding countUnder
-count-is ms ps most vars op from arg mat con x s v e q =
+count-is ms ps most op from arg mat con x s e q =
     let r = sound-is s in
-    let h = compiled-zeros ms ps (r .0) (r .1) vars (columns op from arg mat con) v e in
-    q ∙ ap within (counted-is ms ps (r .0) vars (columns op from arg mat con) most (r .1) h) ∙ ap (countUnder most) (sym (r .1))
+    let ops = opsIn op 0 (length (linesOf ms ps)) in
+    let to = placed 0 (tosBy ops) (replicate entries 0) in
+    let h = compiled-zeros ms ps (r .0) (r .1) (bindingsIn ops) (columns op from arg mat con) to refl e refl in
+    q ∙ ap within (counted-is ms ps (r .0) (bindingsIn ops) (columns op from arg mat con) to most (r .1) h) ∙ ap (countUnder most) (sym (r .1))
 
 -- ---- Tests 9 and 10.
 

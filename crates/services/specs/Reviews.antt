@@ -4,9 +4,9 @@ use mathlib.Core.Path.{_≡_}
 use Rattle.rules.specs.Review.{formula}
 use Rattle.rules.specs.Services.{Judged, accepted, refused, Rule}
 use Rattle.rules.specs.Services as paper
-use Rattle.services.specs.Tally.{within}
-use Rattle.services.specs.declared.tally.Tally.{Tally}
-use Rattle.services.specs.declared.tally.Tally.the-variants.{TooBig}
+use Rattle.tallying.specs.Tally.{within}
+use Rattle.tallying.specs.declared.Tally.{Tally}
+use Rattle.tallying.specs.declared.Tally.the-variants.{TooBig}
 use Rattle.services.specs.declared.review.Reviewed.{Reviewed}
 
 -- Document 01's three numbers.

@@ -1,4 +1,3 @@
 // The services of document 01.
 pub mod matching;
 pub mod review;
-pub mod tally;

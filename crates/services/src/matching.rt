@@ -33,6 +33,7 @@ fn carry_out(
     let mut arg = [0u8; ENTRIES];
     let mut mat = [0u8; ENTRIES];
     let mut con = [0i32; ENTRIES];
+    let mut to = [0u16; ENTRIES];
     let n = compile(
         matcher,
         pattern,
@@ -41,6 +42,7 @@ fn carry_out(
         &mut arg,
         &mut mat,
         &mut con,
+        &mut to,
     );
     let r = search(
         budget,
@@ -49,6 +51,7 @@ fn carry_out(
         target,
         &op,
         &from,
+        &to,
         &arg,
         &mat,
         &con,

@@ -1,9 +1,9 @@
 // The service review: the worst count of steps of a rule, for a largest collection.
-use super::tally::Tally;
-use super::tally::tallied;
 use judging::Judgement;
 use judging::rule_refused;
 use program::compile;
+use tallying::Tally;
+use tallying::tallied;
 use words::ENTRIES;
 use words::tag_of;
 ghost use mathlib.Core.Path.{_≡_};
@@ -38,6 +38,7 @@ fn count_of(matcher: &[i32], pattern: &[i32], cap: u64) -> Tally
     let mut arg = [0u8; ENTRIES];
     let mut mat = [0u8; ENTRIES];
     let mut con = [0i32; ENTRIES];
+    let mut to = [0u16; ENTRIES];
     compile(
         matcher,
         pattern,
@@ -46,6 +47,7 @@ fn count_of(matcher: &[i32], pattern: &[i32], cap: u64) -> Tally
         &mut arg,
         &mut mat,
         &mut con,
+        &mut to,
     );
     tallied(&op, cap)
 }

@@ -2,7 +2,7 @@
 use mathlib.Core.Path.{_≡_, refl, sym, _∙_, ap}
 use mathlib.Core.Bool.{Bool, true, false}
 use mathlib.Core.List.{List}
-use Prim.Native.Nat.{ℕ, suc, _+_, _-_, _^_, _<_, _≤_}
+use Prim.Native.Nat.{ℕ, suc, _+_, _-_, _*_, _^_, _<_, _≤_}
 use native.Mathlib.Omega.{arith}
 use borrow.Author.Needs.{needs}
 use borrow.Author.Tests.{eq-eqb, ne-eqb, lt-ltb, le-ltb, eqb-true, eqb-false}
@@ -11,6 +11,8 @@ use lib.Dec.{eqb, ltb}
 use lib.IntN.{ℤ}
 use lib.Count.{trailingZeros}
 use lib.Pow.{pow-mono}
+use mir.Syntax.{w64}
+use mir.Val.{Fits}
 use Rattle.words.specs.Words.{entries}
 use Rattle.marks.specs.Marks.{clear}
 use Rattle.marks.proofs.Places.{low-lt, low-digit, digit-below}
@@ -21,8 +23,8 @@ use Rattle.holding.proofs.Held.{marks-count, held-64}
 use Rattle.holding.proofs.Bits.{same-bits}
 use Rattle.stepping.specs.declared.State.{State}
 use Rattle.stepping.specs.Steps.{when, Tables, tables, turned, counted, moved, lived, dropped, pushed, pushedIn, noneOf, opensOf, splitOf}
-use Rattle.stepping.specs.Steps.{stored, isWide, partMarks, apartAt, apartAts, apartBacks, apartOf, divideOf, Steps, Divides, Aparts}
-use Rattle.stepping.specs.Steps.{topped, topBy, topLeft, nowLeft, joinOf, joinBy, consOf, consBy, longerOf, Joins, Conses, Picks, PicksIf}
+use Rattle.stepping.specs.Steps.{stored, isWide, partMarks, apartAt, apartAts, apartBacks, apartOf, keptAt, keptIn, framedAt, framedIn, cutTo, sidesOf, divideOf, Steps, Divides, Aparts, Sides}
+use Rattle.stepping.specs.Steps.{topped, topBy, topLeft, nowLeft, joinOf, joinBy, consOf, consBy, longerOf, slotBy, resumedBy, resumedAt, resumeOf, choiceOf, pickOf, Joins, Conses, Resumes, Slots, Picks, PicksIf}
 
 -- ---- One or the other.
 
@@ -68,10 +70,10 @@ pub ruleset word-rules = (same-bits, needs)
 pub slot-in : (f : ℕ) (from : List ℕ) (i : ℕ) → f ≡ getD from i 0 → getD from i 0 < entries → f < entries
 slot-in f from i e h = rw e h
 
-pub drop-is : (x : State) (from ats backs : List ℕ) (f p : ℕ) → f ≡ getD from (x .pc) 0 → p ≡ getD ats f 0
-    → moved x (x .pc + 1) p (getD backs f 0) ≡ dropped from ats backs x
+pub drop-is : (x : State) (from to ats backs : List ℕ) (f n p : ℕ) → f ≡ getD from (x .pc) 0 → n ≡ getD to (x .pc) 0 → p ≡ getD ats f 0
+    → moved x n p (getD backs f 0) ≡ dropped from to ats backs x
 unfolding dropped
-drop-is x from ats backs f p e h = rw (h, e)
+drop-is x from to ats backs f n p e g h = rw (h, g, e)
 
 pub ruleset drop-rules = (slot-in, drop-is, needs)
 
@@ -224,25 +226,64 @@ module _ (s : List ℤ) (n k : ℕ) (x : State) (b : Bool) (h : b ≡ isWide s (
 
 pub ruleset apart-rules = (few-wait, wide-some, wide-keeps, wide-first, apart-at, apart-ats, apart-backs, apart-none, apart-ats-none, apart-backs-none, needs)
 
--- ---- A cons, a join or a tuple.
+-- ---- And, or, not.
 
-pub divide-apart : (s : List ℤ) (o : ℕ) (x r : State) (p w e l k p′ k′ : List ℕ) → 10 < o → r ≡ apartAt s (o - 10) x → p′ ≡ apartAts s (o - 10) x p
-    → k′ ≡ apartBacks s (o - 10) x k → turned r (tables p′ w e l k′) ≡ divideOf s o x (tables p w e l k)
+pub ruleset both-rules = (set-at, needs)
+
+pub cut-is : (x : State) (from lows : List ℕ) (j n : ℕ) → j ≡ getD from (x .pc) 0 → n ≡ getD lows j 0 → lived (topped x n) 2 ≡ cutTo from lows x
+unfolding cutTo lived topped
+cut-is x from lows j n e h = rw (h, e)
+
+pub ruleset cut-rules = (slot-in, cut-is, needs)
+
+module _ (o : ℕ) (from : List ℕ) (x : State) (p w e l k : List ℕ) where
+  pub sides-both : (r : State) (p′ k′ : List ℕ) → o ≡ 14 → r ≡ keptAt x → p′ ≡ set p (x .pc) (x .at) → k′ ≡ set k (x .pc) (x .marks)
+      → turned r (tables p′ w e l k′) ≡ sidesOf o from x (tables p w e l k)
+  unfolding sidesOf keptIn
+  sides-both r p′ k′ z a b c = when-eq _ _ _ o 14 z (rw (a, b, c))
+
+  pub sides-frame : (r : State) (p′ l′ k′ : List ℕ) → (o ≡ 14 → ⊥) → o < 17 → r ≡ framedAt x → p′ ≡ set p (x .pc) (x .at) → l′ ≡ set l (x .pc) (x .top)
+      → k′ ≡ set k (x .pc) (x .marks) → turned r (tables p′ w e l′ k′) ≡ sidesOf o from x (tables p w e l k)
+  unfolding sidesOf framedIn
+  sides-frame r p′ l′ k′ n h a b c d = when-ne _ _ _ o 14 n (when-lt _ _ _ o 17 h (rw (a, b, c, d)))
+
+  pub sides-cut : (r : State) → (o ≡ 14 → ⊥) → 17 ≤ o → o ≡ 17 → r ≡ cutTo from l x → turned r (tables p w e l k) ≡ sidesOf o from x (tables p w e l k)
+  unfolding sidesOf
+  sides-cut r n h z a = when-ne _ _ _ o 14 n (when-le _ _ _ o 17 h (when-eq _ _ _ o 17 z (rw a)))
+
+  pub sides-none : (o ≡ 14 → ⊥) → 17 ≤ o → (o ≡ 17 → ⊥) → turned (lived x 2) (tables p w e l k) ≡ sidesOf o from x (tables p w e l k)
+  unfolding sidesOf
+  sides-none n h z = when-ne _ _ _ o 14 n (when-le _ _ _ o 17 h (when-ne _ _ _ o 17 z refl))
+
+pub ruleset sides-rules = (sides-both, sides-frame, sides-cut, sides-none, needs)
+
+-- ---- A cons, a join, a tuple; and, or, not.
+
+pub divide-apart : (s : List ℤ) (o : ℕ) (from : List ℕ) (x r : State) (p w e l k p′ k′ : List ℕ) → 10 < o → o < 14 → r ≡ apartAt s (o - 10) x
+    → p′ ≡ apartAts s (o - 10) x p → k′ ≡ apartBacks s (o - 10) x k → turned r (tables p′ w e l k′) ≡ divideOf s o from x (tables p w e l k)
 unfolding divideOf apartOf
-divide-apart s o x r p w e l k p′ k′ h a b c = when-lt _ _ _ 10 o h (rw (a, b, c))
+divide-apart s o from x r p w e l k p′ k′ h g a b c = when-lt _ _ _ 10 o h (when-lt _ _ _ o 14 g (rw (a, b, c)))
 
-pub divide-split : (s : List ℤ) (o : ℕ) (x r : State) (t u : Tables) → o ≤ 10 → turned r u ≡ splitOf o x t → turned r u ≡ divideOf s o x t
+pub divide-sides : (s : List ℤ) (o : ℕ) (from : List ℕ) (x r : State) (t u : Tables) → 10 < o → 14 ≤ o → turned r u ≡ sidesOf o from x t
+    → turned r u ≡ divideOf s o from x t
 unfolding divideOf
-divide-split s o x r t u h e = when-le _ _ _ 10 o h e
+divide-sides s o from x r t u h g e = when-lt _ _ _ 10 o h (when-le _ _ _ o 14 g e)
 
-pub apart-asks : (s : List ℤ) (o : ℕ) (x : State) → Divides s o x → 10 < o → Aparts s o x
-apart-asks s o x d h = record { tuple = h; tag = d .tag; place = d .parts h }
+pub divide-split : (s : List ℤ) (o : ℕ) (from : List ℕ) (x r : State) (t u : Tables) → o ≤ 10 → turned r u ≡ splitOf o x t → turned r u ≡ divideOf s o from x t
+unfolding divideOf
+divide-split s o from x r t u h e = when-le _ _ _ 10 o h e
 
-pub ruleset divide-rules = (divide-apart, divide-split, apart-asks, cases)
+pub apart-asks : (s : List ℤ) (o : ℕ) (from : List ℕ) (x : State) → Divides s o from x → 10 < o → o < 14 → Aparts s o x
+apart-asks s o from x d h g = record { tuple = h; tag = d .tag; place = d .parts h g }
 
-pub step-divides : (s : List ℤ) (op from : List ℕ) (x : State) → Steps s op from x → Divides s (getD op (x .pc) 0) (counted x)
+pub sides-asks : (s : List ℤ) (o : ℕ) (from : List ℕ) (x : State) → Divides s o from x → Sides from x
+sides-asks s o from x d = record { place = d .place; next = d .next; small = d .small; frame = d .frame }
+
+pub ruleset divide-rules = (divide-apart, divide-sides, divide-split, apart-asks, sides-asks, cases)
+
+pub step-divides : (s : List ℤ) (op from : List ℕ) (x : State) → Steps s op from x → Divides s (getD op (x .pc) 0) from (counted x)
 unfolding counted
-step-divides s op from x h = record { place = h .place; tag = h .tag; small = h .small; frame = h .frame; parts = h .parts }
+step-divides s op from x h = record { place = h .place; next = h .next; tag = h .tag; small = h .small; frame = h .frame; parts = h .parts }
 
 pub ruleset step-rules = (step-divides, cases)
 
@@ -286,6 +327,39 @@ pub join-is : (j p more top : ℕ) (x : State) (ats wholes lefts lows backs left
 unfolding joinOf joinBy
 join-is j p more top x ats wholes lefts lows backs lefts′ p₀ p₁ p₂ p₃ = rw (topped-left more j top lows (moved x (j + 1) p (getD lefts j 0)) p₂, p₃, p₁, p₀)
 
+-- An or or a not.
+
+pub slot-own : (o j : ℕ) (from : List ℕ) → o ≡ 15 → j ≡ slotBy o j from
+unfolding slotBy
+slot-own o j from e = when-eq _ _ _ o 15 e refl
+
+pub slot-named : (o j n : ℕ) (from : List ℕ) → (o ≡ 15 → ⊥) → n ≡ getD from j 0 → n ≡ slotBy o j from
+unfolding slotBy
+slot-named o j n from e h = when-ne _ _ _ o 15 e h
+
+pub ruleset slot-rules = (slot-own, slot-named, needs)
+
+pub resume-slot : (o j i : ℕ) (from : List ℕ) → Resumes from j → i ≡ slotBy o j from → i < entries
+unfolding slotBy when
+resume-slot o j i from r e = rw e (go (eqb o 15))
+  where
+    go : (b : Bool) → when b j (getD from j 0) < entries
+    go true = r .place
+    go false = r .next
+
+pub resume-mul : (o j i : ℕ) (from : List ℕ) → Resumes from j → i ≡ slotBy o j from → Fits w64 (i * 2)
+resume-mul o j i from r e = let h = resume-slot o j i from r e in record { fits = omega arith }
+
+pub resume-mul-8 : (o j i : ℕ) (from : List ℕ) → Resumes from j → i ≡ slotBy o j from → Fits w64 (i * 8)
+resume-mul-8 o j i from r e = let h = resume-slot o j i from r e in record { fits = omega arith }
+
+pub resume-is : (o j i a p l : ℕ) (from to ats lows backs : List ℕ) (x : State) → i ≡ slotBy o j from → a ≡ getD to j 0 → p ≡ getD ats i 0 → l ≡ getD lows j 0
+    → topped (moved x a p (getD backs i 0)) l ≡ resumedAt o j from to ats lows backs x
+unfolding resumedAt resumedBy moved topped
+resume-is o j i a p l from to ats lows backs x e f g h = rw (h, g, f, e)
+
+pub ruleset resume-rules = (resume-slot, resume-mul, resume-mul-8, resume-is, needs)
+
 module _ (op : List ℕ) (s : List ℤ) (top : ℕ) (ats wholes lefts : List ℕ) (g : Target s) (p : Picks op s top ats wholes lefts) (n : top ≡ 0 → ⊥) where
   pub pick-place : top - 1 < entries
   pick-place = (p .frame n) .place
@@ -293,10 +367,29 @@ module _ (op : List ℕ) (s : List ℤ) (top : ℕ) (ats wholes lefts : List ℕ
   pub pick-join : getD op (top - 1) 0 ≡ 10 → Joins wholes lefts (top - 1)
   pick-join e =
       let f = p .frame n in
-      record { place = f .place; within = f .within e; word = held-64 s (getD ats (top - 1) 0) (getD wholes (top - 1) 0) g (f .held) }
+      record { place = f .place; within = f .within e; word = held-64 s (getD ats (top - 1) 0) (getD wholes (top - 1) 0) g (f .held (omega arith)) }
 
-  pub pick-cons : (getD op (top - 1) 0 ≡ 10 → ⊥) → Conses s ats lefts (top - 1)
-  pick-cons e = let f = p .frame n in record { place = f .place; tag = f .held .tag; some = f .some e; there = f .there e }
+  pub pick-cons : getD op (top - 1) 0 ≤ 9 → Conses s ats lefts (top - 1)
+  pick-cons e = let f = p .frame n in record { place = f .place; tag = f .held (omega arith) .tag; some = f .some (omega arith); there = f .there (omega arith) }
+
+  pub pick-resumes : (from : List ℕ) → Slots from → Resumes from (top - 1)
+  pick-resumes from h = record { place = pick-place; next = h .there (top - 1) pick-place }
+
+module _ (op from to : List ℕ) (s : List ℤ) (x y : State) (n : x .top ≡ 0 → ⊥) (t u : Tables) where
+  pub picked-join : 9 < getD op (x .top - 1) 0 → getD op (x .top - 1) 0 ≡ 10 → turned y u ≡ joinOf (x .top - 1) x t → turned y u ≡ pickOf op from to s x t
+  unfolding pickOf choiceOf
+  picked-join h z e = when-ne _ _ _ (x .top) 0 n (when-lt _ _ _ 9 (getD op (x .top - 1) 0) h (when-eq _ _ _ (getD op (x .top - 1) 0) 10 z e))
+
+  pub picked-cons : getD op (x .top - 1) 0 ≤ 9 → turned y u ≡ consOf s (x .top - 1) x t → turned y u ≡ pickOf op from to s x t
+  unfolding pickOf choiceOf
+  picked-cons h e = when-ne _ _ _ (x .top) 0 n (when-le _ _ _ 9 (getD op (x .top - 1) 0) h e)
+
+pub picked-other : (op from to : List ℕ) (s : List ℤ) (x y : State) (n : x .top ≡ 0 → ⊥) (a w c l b : List ℕ)
+    → 9 < getD op (x .top - 1) 0 → (getD op (x .top - 1) 0 ≡ 10 → ⊥) → y ≡ resumedAt (getD op (x .top - 1) 0) (x .top - 1) from to a l b x
+    → turned y (tables a w c l b) ≡ pickOf op from to s x (tables a w c l b)
+unfolding pickOf choiceOf resumeOf
+picked-other op from to s x y n a w c l b h z e =
+    when-ne _ _ _ (x .top) 0 n (when-lt _ _ _ 9 (getD op (x .top - 1) 0) h (when-ne _ _ _ (getD op (x .top - 1) 0) 10 z (rw e)))
 
 pub ruleset cons-rules = (cons-there, cons-64, cons-at, cons-tag, cons-is, needs)
 
@@ -304,7 +397,7 @@ pub ruleset join-rules = (join-is, needs)
 
 pub ruleset split-rules = (split-is, cases)
 
-pub ruleset pick-rules = (pick-place, pick-join, pick-cons, cases)
+pub ruleset pick-rules = (pick-place, pick-join, pick-cons, pick-resumes, picked-join, picked-cons, picked-other, cases)
 
 pub settle-picks : (live : ℕ) (op : List ℕ) (s : List ℤ) (top : ℕ) (ats wholes lefts : List ℕ) → PicksIf live op s top ats wholes lefts → live ≡ 2
     → Picks op s top ats wholes lefts

@@ -54,9 +54,9 @@ unfoldable pub topped : State → ℕ → State
 topped x n = record { pc = x .pc; at = x .at; marks = x .marks; top = n; live = x .live; rows = x .rows; steps = x .steps; words = x .words }
 
 -- The atom is dropped: the next one in prefix order, whose value waits in a slot.
-unfoldable pub dropped : List ℕ → List ℕ → List ℕ → State → State
+unfoldable pub dropped : (from to ats backs : List ℕ) → State → State
 unfolding moved
-dropped from ats backs x = moved x (x .pc + 1) (getD ats (getD from (x .pc) 0) 0) (getD backs (getD from (x .pc) 0) 0)
+dropped from to ats backs x = moved x (getD to (x .pc) 0) (getD ats (getD from (x .pc) 0) 0) (getD backs (getD from (x .pc) 0) 0)
 
 -- A frame is opened at pc, with the choices c.
 unfoldable pub pushed : State → State
@@ -117,21 +117,48 @@ unfoldable pub apartOf : List ℤ → ℕ → State → Tables → Turned
 unfolding apartAt apartAts apartBacks
 apartOf s n x t = turned (apartAt s n x) (tables (apartAts s n x (t .ats)) (t .wholes) (t .lefts) (t .lows) (apartBacks s n x (t .backs)))
 
+-- And: the value waits at pc for the second part; the first is next, on the same value.
+unfoldable pub keptAt : State → State
+unfolding moved
+keptAt x = moved x (x .pc + 1) (x .at) (x .marks)
+
+unfoldable pub keptIn : State → Tables → Tables
+keptIn x t = tables (set (t .ats) (x .pc) (x .at)) (t .wholes) (t .lefts) (t .lows) (set (t .backs) (x .pc) (x .marks))
+
+-- Or, not: a frame is opened at pc, with the value; what is inside is next, on the same value.
+unfoldable pub framedAt : State → State
+framedAt x = record { pc = x .pc + 1; at = x .at; marks = x .marks; top = x .pc + 1; live = 1; rows = x .rows; steps = x .steps; words = x .words }
+
+unfoldable pub framedIn : State → Tables → Tables
+framedIn x t = tables (set (t .ats) (x .pc) (x .at)) (t .wholes) (t .lefts) (set (t .lows) (x .pc) (x .top)) (set (t .backs) (x .pc) (x .marks))
+
+-- The search inside a not has a row: the not's frame, at the place `from`, and those above it are no longer open, and no state stands.
+unfoldable pub cutTo : (from lows : List ℕ) → State → State
+cutTo from lows x =
+    record { pc = x .pc; at = x .at; marks = x .marks; top = getD lows (getD from (x .pc) 0) 0; live = 2; rows = x .rows; steps = x .steps; words = x .words }
+
+-- 14 and, 15 or, 16 not, 17 the end of the search inside a not; 18 and 19, within an or, where no state stands.
+unfoldable pub sidesOf : (o : ℕ) → (from : List ℕ) → State → Tables → Turned
+unfolding when keptAt keptIn framedAt framedIn cutTo lived
+sidesOf o from x t =
+    when (eqb o 14) (turned (keptAt x) (keptIn x t))
+    (when (ltb o 17) (turned (framedAt x) (framedIn x t)) (when (eqb o 17) (turned (cutTo from (t .lows) x) t) (turned (lived x 2) t)))
+
 -- 11 to 13: a tuple of two to four parts, of which one to three wait.
-unfoldable pub divideOf : List ℤ → ℕ → State → Tables → Turned
-unfolding when apartOf splitOf
-divideOf s o x t = when (ltb 10 o) (apartOf s (o - 10) x t) (splitOf o x t)
+unfoldable pub divideOf : List ℤ → (o : ℕ) → (from : List ℕ) → State → Tables → Turned
+unfolding when apartOf sidesOf splitOf
+divideOf s o from x t = when (ltb 10 o) (when (ltb o 14) (apartOf s (o - 10) x t) (sidesOf o from x t)) (splitOf o x t)
 
-unfoldable pub stepBy : ℕ → List ℕ → List ℤ → List ℤ → Bool → State → Tables → Turned
+unfoldable pub stepBy : (o : ℕ) → (from to : List ℕ) → List ℤ → List ℤ → Bool → State → Tables → Turned
 unfolding when moved divideOf passesOf dropped lived
-stepBy o from con s q x t =
+stepBy o from to con s q x t =
     when (eqb o 1) (turned (moved x (x .pc + 1) (x .at) (x .marks)) t)
-    (when (ltb 7 o) (divideOf s o x t)
-    (when (passesOf o q s (x .at) (x .marks) (getD con (x .pc) (pos 0))) (turned (dropped from (t .ats) (t .backs) x) t) (turned (lived x 2) t)))
+    (when (ltb 7 o) (divideOf s o from x t)
+    (when (passesOf o q s (x .at) (x .marks) (getD con (x .pc) (pos 0))) (turned (dropped from to (t .ats) (t .backs) x) t) (turned (lived x 2) t)))
 
-unfoldable pub stepOf : List ℕ → List ℕ → List ℤ → List ℤ → Bool → State → Tables → Turned
+unfoldable pub stepOf : (op from to : List ℕ) → List ℤ → List ℤ → Bool → State → Tables → Turned
 unfolding stepBy counted
-stepOf op from con s q x t = stepBy (getD op (x .pc) 0) from con s q (counted x) t
+stepOf op from to con s q x t = stepBy (getD op (x .pc) 0) from to con s q (counted x) t
 
 -- ---- The next choice.
 
@@ -174,16 +201,35 @@ unfolding consBy
 consOf s j x t =
     consBy s j (trailingZeros 64 (getD (t .lefts) j 0)) (elementAt s (getD (t .ats) j 0) (trailingZeros 64 (getD (t .lefts) j 0))) x t
 
-unfoldable pub pickOf : List ℕ → List ℤ → State → Tables → Turned
-unfolding when lived joinOf consOf
-pickOf op s x t =
-    when (eqb (x .top) 0) (turned (lived x 0) t)
-    (when (eqb (getD op (x .top - 1) 0) 10) (joinOf (x .top - 1) x t) (consOf s (x .top - 1) x t))
+-- The frame of an or or a not at j is no longer open: the second side, on the or's own value; or what follows the not, on the value that waits for it.
+unfoldable pub slotBy : (o j : ℕ) → (from : List ℕ) → ℕ
+unfolding when
+slotBy o j from = when (eqb o 15) j (getD from j 0)
+
+unfoldable pub resumedBy : (j i : ℕ) → (to ats lows backs : List ℕ) → State → State
+resumedBy j i to ats lows backs x =
+    record { pc = getD to j 0; at = getD ats i 0; marks = getD backs i 0; top = getD lows j 0; live = 1; rows = x .rows; steps = x .steps; words = x .words }
+
+unfoldable pub resumedAt : (o j : ℕ) → (from to ats lows backs : List ℕ) → State → State
+unfolding slotBy resumedBy
+resumedAt o j from to ats lows backs x = resumedBy j (slotBy o j from) to ats lows backs x
+
+unfoldable pub resumeOf : (o j : ℕ) → (from to : List ℕ) → State → Tables → Turned
+unfolding resumedAt
+resumeOf o j from to x t = turned (resumedAt o j from to (t .ats) (t .lows) (t .backs) x) t
+
+unfoldable pub choiceOf : (o j : ℕ) → (from to : List ℕ) → List ℤ → State → Tables → Turned
+unfolding when joinOf resumeOf consOf
+choiceOf o j from to s x t = when (ltb 9 o) (when (eqb o 10) (joinOf j x t) (resumeOf o j from to x t)) (consOf s j x t)
+
+unfoldable pub pickOf : (op from to : List ℕ) → List ℤ → State → Tables → Turned
+unfolding when lived choiceOf
+pickOf op from to s x t = when (eqb (x .top) 0) (turned (lived x 0) t) (choiceOf (getD op (x .top - 1) 0) (x .top - 1) from to s x t)
 
 -- The next choice is taken where no state stands.
-unfoldable pub settleOf : List ℕ → List ℤ → State → Tables → Turned
+unfoldable pub settleOf : (op from to : List ℕ) → List ℤ → State → Tables → Turned
 unfolding when pickOf
-settleOf op s x t = when (eqb (x .live) 2) (pickOf op s x t) (turned x t)
+settleOf op from to s x t = when (eqb (x .live) 2) (pickOf op from to s x t) (turned x t)
 
 -- ---- What they ask.
 
@@ -197,20 +243,27 @@ pub record Steps (s : List ℤ) (op from : List ℕ) (x : State) : Type 0 where
   pub small : x .at < 65536
   pub frame : x .top ≤ entries
   pub count : x .steps + 1 < 2 ^ 64
-  pub parts : 10 < getD op (x .pc) 0 → x .pc + (getD op (x .pc) 0 - 10) < entries
+  pub parts : 10 < getD op (x .pc) 0 → getD op (x .pc) 0 < 14 → x .pc + (getD op (x .pc) 0 - 10) < entries
 
--- The same of an instruction o that divides, and of a tuple's.
-pub record Divides (s : List ℤ) (o : ℕ) (x : State) : Type 0 where
+-- The same of an instruction o that divides, of a tuple's, and of and, or, not.
+pub record Divides (s : List ℤ) (o : ℕ) (from : List ℕ) (x : State) : Type 0 where
   pub place : x .pc < entries
+  pub next : getD from (x .pc) 0 < entries
   pub tag : Tag s (x .at)
   pub small : x .at < 65536
   pub frame : x .top ≤ entries
-  pub parts : 10 < o → x .pc + (o - 10) < entries
+  pub parts : 10 < o → o < 14 → x .pc + (o - 10) < entries
 
 pub record Aparts (s : List ℤ) (o : ℕ) (x : State) : Type 0 where
   pub tuple : 10 < o
   pub tag : Tag s (x .at)
   pub place : x .pc + (o - 10) < entries
+
+pub record Sides (from : List ℕ) (x : State) : Type 0 where
+  pub place : x .pc < entries
+  pub next : getD from (x .pc) 0 < entries
+  pub small : x .at < 65536
+  pub frame : x .top ≤ entries
 
 -- The front of the join at j is within its marks.
 pub record Joins (wholes lefts : List ℕ) (j : ℕ) : Type 0 where
@@ -225,15 +278,26 @@ pub record Conses (s : List ℤ) (ats lefts : List ℕ) (j : ℕ) : Type 0 where
   pub some : 0 < getD lefts j 0
   pub there : getD lefts j 0 < 2 ^ marksAt s (getD ats j 0)
 
--- A frame at j from which the next choice can be taken: its instruction o is a cons or a join, it holds (at, m), and the choices left are c.
+-- The slot that the line at j names is there.
+pub record Resumes (from : List ℕ) (j : ℕ) : Type 0 where
+  pub place : j < entries
+  pub next : getD from j 0 < entries
+
+-- Every slot that a line names is there.
+pub record Slots (from : List ℕ) : Type 0 where
+  pub there : (i : ℕ) → i < entries → getD from i 0 < entries
+
+-- A frame at j from which the next choice can be taken: its instruction o is a cons or a join, it holds (at, m), and the choices left are c; or it is an
+-- or or a not, whose value waits.
 pub record Frame (o : ℕ) (s : List ℤ) (j at m c : ℕ) : Type 0 where
   pub place : j < entries
   pub splits : 7 < o
-  pub chooses : o < 11
-  pub held : Held s at m
+  pub chooses : o < 17
+  pub whole : 10 < o → 14 < o
+  pub held : o < 11 → Held s at m
   pub within : o ≡ 10 → c ≤ m
-  pub some : (o ≡ 10 → ⊥) → 0 < c
-  pub there : (o ≡ 10 → ⊥) → c < 2 ^ marksAt s at
+  pub some : o < 10 → 0 < c
+  pub there : o < 10 → c < 2 ^ marksAt s at
 
 -- The last open frame, if there is one.
 pub record Picks (op : List ℕ) (s : List ℤ) (top : ℕ) (ats wholes lefts : List ℕ) : Type 0 where

@@ -1,20 +1,17 @@
 // Document 01, section 4: the search state, a struct of numbers by value, whose step hands the next state back. What waits stands in lent tables, a
 // slot for each instruction.
+pub mod choices;
 pub mod leaves;
+pub mod sides;
 pub mod tuples;
 
 use holding::places::element;
 use holding::places::narrow;
 use holding::places::whole;
 use holding::places::wide;
-use leaves::leave;
-use leaves::longer_front;
 use leaves::nothing;
 use leaves::opens;
 use leaves::passes;
-use marks::lowest;
-use marks::rest;
-use marks::without;
 use tuples::is_wide;
 use tuples::keep;
 use tuples::later;
@@ -25,7 +22,7 @@ ghost use lib.ListN.{getD, set};
 ghost use Rattle.words.specs.Words.{entries};
 ghost use Rattle.holding.specs.Places.{Target};
 ghost use Rattle.holding.specs.Tables.{Places};
-ghost use Rattle.stepping.specs.Steps.{tables, turned, dropped, pushed, splitOf, apartAt, apartAts, apartBacks, divideOf, stepOf, joinOf, consOf, pickOf, settleOf, Steps, Divides, Aparts, Joins, Conses, Picks, PicksIf};
+ghost use Rattle.stepping.specs.Steps.{tables, turned, dropped, pushed, splitOf, apartAt, apartAts, apartBacks, divideOf, stepOf, Steps, Divides, Aparts};
 
 // live: 0 no state is left, 1 the state at pc, 2 the next state is the next choice of the last open frame, 3 a row did not fit. `at` and `marks` are the
 // value of the first atom, `top` the last open frame (0: none, j + 1: at j), `words` how many words are written.
@@ -42,13 +39,19 @@ pub struct State {
 
 impl State {
     // The atom is dropped: the next one in prefix order, whose value waits in a slot.
-    fn drop(mut self, from: &[u16; ENTRIES], ats: &[u16; ENTRIES], backs: &[u64; ENTRIES]) -> State
+    fn drop(
+        mut self,
+        from: &[u16; ENTRIES],
+        to: &[u16; ENTRIES],
+        ats: &[u16; ENTRIES],
+        backs: &[u64; ENTRIES],
+    ) -> State
         requires { ⌜ self .pc < entries ⌝ ∗ ⌜ getD (now from) (self .pc) 0 < entries ⌝ }
-        ensures { λ r. ⌜ r ≡ dropped (now (from .entry)) (now (ats .entry)) (now (backs .entry)) self ⌝ }
+        ensures { λ r. ⌜ r ≡ dropped (now (from .entry)) (now (to .entry)) (now (ats .entry)) (now (backs .entry)) self ⌝ }
     {
         let pc = self.pc;
         let f = wide(from[pc]);
-        self.pc = pc + 1;
+        self.pc = wide(to[pc]);
         self.at = wide(ats[f]);
         self.marks = backs[f];
         self.live = 1;
@@ -132,24 +135,28 @@ impl State {
         self
     }
 
-    // A cons, a join or a tuple.
+    // A cons, a join, a tuple; and, or, not.
     fn divide(
         self,
         o: u8,
         s: &[i32],
         base: &[u16; 512],
         places: &[u16; 512],
+        from: &[u16; ENTRIES],
         ats: &mut [u16; ENTRIES],
         wholes: &mut [u64; ENTRIES],
         lefts: &mut [u64; ENTRIES],
         lows: &mut [u16; ENTRIES],
         backs: &mut [u64; ENTRIES],
     ) -> State
-        requires { ⌜ Target (now s) ⌝ ∗ ⌜ Places (now s) (now base) (now places) ⌝ ∗ ⌜ Divides (now s) o self ⌝ }
-        ensures { λ r. ⌜ turned r (tables (now (ats .exit)) (now (wholes .exit)) (now (lefts .exit)) (now (lows .exit)) (now (backs .exit))) ≡ divideOf (now (s .entry)) o self (tables (now (ats .entry)) (now (wholes .entry)) (now (lefts .entry)) (now (lows .entry)) (now (backs .entry))) ⌝ }
+        requires { ⌜ Target (now s) ⌝ ∗ ⌜ Places (now s) (now base) (now places) ⌝ ∗ ⌜ Divides (now s) o (now from) self ⌝ }
+        ensures { λ r. ⌜ turned r (tables (now (ats .exit)) (now (wholes .exit)) (now (lefts .exit)) (now (lows .exit)) (now (backs .exit))) ≡ divideOf (now (s .entry)) o (now (from .entry)) self (tables (now (ats .entry)) (now (wholes .entry)) (now (lefts .entry)) (now (lows .entry)) (now (backs .entry))) ⌝ }
     {
         if 10 < o {
-            return self.apart(o, s, base, places, ats, backs);
+            if o < 14 {
+                return self.apart(o, s, base, places, ats, backs);
+            }
+            return self.sides(o, from, ats, wholes, lefts, lows, backs);
         }
         self.split(o, ats, wholes, lefts, lows, backs)
     }
@@ -163,6 +170,7 @@ impl State {
         places: &[u16; 512],
         op: &[u8; ENTRIES],
         from: &[u16; ENTRIES],
+        to: &[u16; ENTRIES],
         con: &[i32; ENTRIES],
         ats: &mut [u16; ENTRIES],
         wholes: &mut [u64; ENTRIES],
@@ -171,7 +179,7 @@ impl State {
         backs: &mut [u64; ENTRIES],
     ) -> State
         requires { ⌜ Target (now s) ⌝ ∗ ⌜ Places (now s) (now base) (now places) ⌝ ∗ ⌜ Steps (now s) (now op) (now from) self ⌝ }
-        ensures { λ r. ⌜ turned r (tables (now (ats .exit)) (now (wholes .exit)) (now (lefts .exit)) (now (lows .exit)) (now (backs .exit))) ≡ stepOf (now (op .entry)) (now (from .entry)) (now (con .entry)) (now (s .entry)) q self (tables (now (ats .entry)) (now (wholes .entry)) (now (lefts .entry)) (now (lows .entry)) (now (backs .entry))) ⌝ }
+        ensures { λ r. ⌜ turned r (tables (now (ats .exit)) (now (wholes .exit)) (now (lefts .exit)) (now (lows .exit)) (now (backs .exit))) ≡ stepOf (now (op .entry)) (now (from .entry)) (now (to .entry)) (now (con .entry)) (now (s .entry)) q self (tables (now (ats .entry)) (now (wholes .entry)) (now (lefts .entry)) (now (lows .entry)) (now (backs .entry))) ⌝ }
     {
         let pc = self.pc;
         let o = op[pc];
@@ -182,128 +190,15 @@ impl State {
             return self;
         }
         if 7 < o {
-            return self.divide(o, s, base, places, ats, wholes, lefts, lows, backs);
+            return self.divide(o, s, base, places, from, ats, wholes, lefts, lows, backs);
         }
         let at = self.at;
         let m = self.marks;
         let ok = passes(o, q, s, at, m, con, pc);
         if ok {
-            return self.drop(from, ats, backs);
+            return self.drop(from, to, ats, backs);
         }
         self.live = 2;
-        self
-    }
-
-    // The next front and back of the join at j.
-    fn join(
-        mut self,
-        j: usize,
-        ats: &[u16; ENTRIES],
-        wholes: &[u64; ENTRIES],
-        lefts: &mut [u64; ENTRIES],
-        lows: &[u16; ENTRIES],
-        backs: &mut [u64; ENTRIES],
-    ) -> State
-        requires { ⌜ Joins (now wholes) (now lefts) j ⌝ }
-        ensures { λ r. ⌜ turned r (tables (now (ats .entry)) (now (wholes .entry)) (now (lefts .exit)) (now (lows .entry)) (now (backs .exit))) ≡ joinOf j self (tables (now (ats .entry)) (now (wholes .entry)) (now (lefts .entry)) (now (lows .entry)) (now (backs .entry))) ⌝ }
-    {
-        let m = wholes[j];
-        let c = lefts[j];
-        let b = m - c;
-        backs[j] = b;
-        self.pc = j + 1;
-        self.at = wide(ats[j]);
-        self.marks = c;
-        self.live = 1;
-        let more = longer_front(c, b);
-        let top = self.top;
-        self.top = leave(top, more, j, lefts, lows);
-        self
-    }
-
-    // The next element of the cons at j.
-    fn cons(
-        mut self,
-        j: usize,
-        s: &[i32],
-        base: &[u16; 512],
-        places: &[u16; 512],
-        ats: &[u16; ENTRIES],
-        wholes: &[u64; ENTRIES],
-        lefts: &mut [u64; ENTRIES],
-        lows: &[u16; ENTRIES],
-        backs: &mut [u64; ENTRIES],
-    ) -> State
-        requires { ⌜ Target (now s) ⌝ ∗ ⌜ Places (now s) (now base) (now places) ⌝ ∗ ⌜ Conses (now s) (now ats) (now lefts) j ⌝ }
-        ensures { λ r. ⌜ turned r (tables (now (ats .entry)) (now (wholes .entry)) (now (lefts .exit)) (now (lows .entry)) (now (backs .exit))) ≡ consOf (now (s .entry)) j self (tables (now (ats .entry)) (now (wholes .entry)) (now (lefts .entry)) (now (lows .entry)) (now (backs .entry))) ⌝ }
-    {
-        let t = wide(ats[j]);
-        let m = wholes[j];
-        let c = lefts[j];
-        let k = lowest(c);
-        let e = element(s, base, places, t, k);
-        let a = whole(s, e);
-        let b = without(m, k);
-        backs[j] = b;
-        self.pc = j + 1;
-        self.at = e;
-        self.marks = a;
-        self.live = 1;
-        let more = rest(c);
-        let top = self.top;
-        self.top = leave(top, more, j, lefts, lows);
-        self
-    }
-
-    // The next choice of the last open frame.
-    pub fn pick(
-        mut self,
-        s: &[i32],
-        base: &[u16; 512],
-        places: &[u16; 512],
-        op: &[u8; ENTRIES],
-        ats: &[u16; ENTRIES],
-        wholes: &[u64; ENTRIES],
-        lefts: &mut [u64; ENTRIES],
-        lows: &[u16; ENTRIES],
-        backs: &mut [u64; ENTRIES],
-    ) -> State
-        requires { ⌜ Target (now s) ⌝ ∗ ⌜ Places (now s) (now base) (now places) ⌝ ∗ ⌜ Picks (now op) (now s) (self .top) (now ats) (now wholes) (now lefts) ⌝ }
-        ensures { λ r. ⌜ turned r (tables (now (ats .entry)) (now (wholes .entry)) (now (lefts .exit)) (now (lows .entry)) (now (backs .exit))) ≡ pickOf (now (op .entry)) (now (s .entry)) self (tables (now (ats .entry)) (now (wholes .entry)) (now (lefts .entry)) (now (lows .entry)) (now (backs .entry))) ⌝ }
-    {
-        let top = self.top;
-        if top == 0 {
-            self.live = 0;
-            return self;
-        }
-        let j = top - 1;
-        let o = op[j];
-        if o == 10 {
-            return self.join(j, ats, wholes, lefts, lows, backs);
-        }
-        self.cons(j, s, base, places, ats, wholes, lefts, lows, backs)
-    }
-
-    // The next choice is taken where no state stands.
-    pub fn settle(
-        self,
-        s: &[i32],
-        base: &[u16; 512],
-        places: &[u16; 512],
-        op: &[u8; ENTRIES],
-        ats: &[u16; ENTRIES],
-        wholes: &[u64; ENTRIES],
-        lefts: &mut [u64; ENTRIES],
-        lows: &[u16; ENTRIES],
-        backs: &mut [u64; ENTRIES],
-    ) -> State
-        requires { ⌜ Target (now s) ⌝ ∗ ⌜ Places (now s) (now base) (now places) ⌝ ∗ ⌜ PicksIf (self .live) (now op) (now s) (self .top) (now ats) (now wholes) (now lefts) ⌝ }
-        ensures { λ r. ⌜ turned r (tables (now (ats .entry)) (now (wholes .entry)) (now (lefts .exit)) (now (lows .entry)) (now (backs .exit))) ≡ settleOf (now (op .entry)) (now (s .entry)) self (tables (now (ats .entry)) (now (wholes .entry)) (now (lefts .entry)) (now (lows .entry)) (now (backs .entry))) ⌝ }
-    {
-        let live = self.live;
-        if live == 2 {
-            return self.pick(s, base, places, op, ats, wholes, lefts, lows, backs);
-        }
         self
     }
 }

@@ -1,5 +1,6 @@
 -- How many values a row has, as the code asks. Assumes nothing.
 use mathlib.Core.Path.{_≡_, refl, sym, _∙_}
+use mathlib.Core.Bool.{true}
 use mathlib.Core.List.{List}
 use Prim.Native.Nat.{ℕ}
 use native.Mathlib.Omega.{arith}
@@ -29,11 +30,11 @@ module _ (n : ℕ) (v : Verdict ℕ) (d : Counted) (q : d ≡ counted v) where
       go (ok m) e = let z : _≡_ {A = ℕ} 0 1 = cc in absurd (omega arith)
       go (fault i) e = refl
 
-pub values-are : (ps : List ℤ) (n : ℕ) (d : Counted) → d ≡ counted (readPattern ps then λ p. variables p 0 0) → d ≡ Counted.Number n → n ≡ variablesOf ps
+pub values-are : (ps : List ℤ) (n : ℕ) (d : Counted) → d ≡ counted (readPattern ps then λ p. variables p true 0 0) → d ≡ Counted.Number n → n ≡ variablesOf ps
 unfolding variablesOf
 values-are ps n d q h = number-of n _ d q h
 
-pub no-values : (ps : List ℤ) (i : ℕ) (d : Counted) → d ≡ counted (readPattern ps then λ p. variables p 0 0) → d ≡ Counted.Fault i → 0 ≡ variablesOf ps
+pub no-values : (ps : List ℤ) (i : ℕ) (d : Counted) → d ≡ counted (readPattern ps then λ p. variables p true 0 0) → d ≡ Counted.Fault i → 0 ≡ variablesOf ps
 unfolding variablesOf
 no-values ps i d q h = none-of i _ d q h
 

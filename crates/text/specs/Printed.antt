@@ -1,6 +1,7 @@
 -- Document 01, section 9: what the trial program prints, as a function of its input.
 use Prim.Native.Nat.{ℕ}
 use mathlib.Core.Option.{Option, none, some}
+use mathlib.Core.Bool.{true}
 use mathlib.Core.List.{List, [], _∷_, _++_}
 use lib.ListN.{take, replicate}
 use lib.IntN.{ℤ, pos}
@@ -19,7 +20,7 @@ orZero (fault i) = 0
 -- How many variables a pattern has: a row has so many values. (No row is found where the words are not one whole pattern with its variables in order.)
 unfoldable pub variablesOf : List ℤ → ℕ
 unfolding _then_ readPattern variables orZero
-variablesOf ps = orZero (readPattern ps then λ p. variables p 0 0)
+variablesOf ps = orZero (readPattern ps then λ p. variables p true 0 0)
 
 -- "The five numbers (answer, place, rows, steps, words written)".
 unfoldable pub firstLine : Matched → List ℕ

@@ -16,9 +16,9 @@ tagZ (negsuc n) = 2147483648
 unfoldable pub tagAt : List ℤ → ℕ → ℕ
 tagAt s at = tagZ (getD s at (negsuc 0))
 
--- The arrays of a program and the tables of its slots have an entry for each line; 256 words make at most 462 lines.
+-- The arrays of a program and the tables of its slots have an entry for each line; 256 words make at most 641 lines.
 abbrev pub entries : ℕ
-entries = 470
+entries = 650
 
 -- A sum, or that there is none.
 unfoldable pub summed : Option ℤ → Total

@@ -8,8 +8,8 @@ ghost use mir.Val.{toZ, ofZ};
 ghost use Rattle.rules.specs.Numbers.{plus};
 ghost use Rattle.words.specs.Words.{tagZ, tagAt, summed};
 
-// The entries of a program's arrays and of the tables of its slots, one for each line; 256 words make at most 462 lines.
-pub const ENTRIES: usize = 470;
+// The entries of a program's arrays and of the tables of its slots, one for each line; 256 words make at most 641 lines.
+pub const ENTRIES: usize = 650;
 
 // The sum of tag 3, where there is one.
 pub enum Total {

@@ -13,7 +13,7 @@ use lib.Dec.{eqb}
 use lib.ListN.{length, getD, take, drop, set, drop-of-length-le}
 use lib.Seq.{drop-cons, getD-drop}
 use lib.IntN.{ℤ, negsuc}
-use Rattle.rules.specs.Reading.{operand, operands, parts, wide, patternTags}
+use Rattle.rules.specs.Reading.{patternTags}
 use Rattle.words.specs.Words.{tagZ, tagAt}
 use Rattle.reading.specs.Ends.{within}
 use Rattle.matchers.specs.Places.{matcherEnd}
@@ -23,7 +23,7 @@ use Rattle.fitting.specs.Fitting.{membersAt, valueFits, byParts, firstOf
 use Rattle.reading.specs.declared.Tested.{Tested}
 use Rattle.reading.specs.declared.Tested.the-variants.{Passed, Fault}
 use Rattle.fitting.specs.declared.fit.Here.{Here}
-use Rattle.fitting.specs.declared.fit.Here.the-variants.{Misfit, Leaf, Bind, Parts, Wide}
+use Rattle.fitting.specs.declared.fit.Here.the-variants.{Misfit, Leaf, Bind, One, Parts, Wide}
 use Rattle.reading.specs.declared.table.Row.{Row}
 use Rattle.reading.specs.declared.table.Row.the-variants as row
 use Rattle.reading.proofs.Turns.{width-most}
@@ -53,6 +53,7 @@ module _ (m p : List ℤ) (at : ℕ) (h : at < length p) where
       (Fault at)
       (λ b. fitP m (stackOf a (n - 1)) under b (at + 1) (drop (at + 1) p))
       (λ b. fitP m (stackOf a (n - 1)) (under ++ (getD a (n - 1) 0 ∷ [])) b (at + 1) (drop (at + 1) p))
+      (fitP m (getD a (n - 1) 0 ∷ stackOf a (n - 1)) under 0 (at + 1) (drop (at + 1) p))
       (λ f. fitP m (f ∷ getD a (n - 1) 0 ∷ stackOf a (n - 1)) under 0 (at + 1) (drop (at + 1) p))
       (λ f k. fitP m (membersAt m k f ++ stackOf a (n - 1)) under 1 (at + 1) (drop (at + 1) p))
   unfolding fitP stackOf hereAt tagAt
@@ -110,6 +111,12 @@ module _ (m p : List ℤ) (a u : List ℕ) (n o at : ℕ) where
       unfolding byHere
       turn-leaf b f = i ∙ steps m p at h a u n o z q r e ∙ rw f
 
+      pub turn-one : r ≡ One → v ≡ fitP m (stackOf a (n - 1 + 1)) u o (at + 1) (drop (at + 1) p)
+      unfolding byHere stackOf
+      turn-one w =
+          let y : o ≡ 0 = omega arith in
+          rw (add-one (n - 1), y) (i ∙ steps m p at h a u n o z q r e ∙ rw w)
+
       pub turn-parts : (f : ℕ) → r ≡ Parts f → n - 1 + 1 < length a
           → v ≡ fitP m (stackOf (set (set a (n - 1) (getD a (n - 1) 0)) (n - 1 + 1) f) (n - 1 + 2)) u o (at + 1) (drop (at + 1) p)
       unfolding byHere
@@ -135,6 +142,7 @@ Asks : Here → Type 0
 Asks Misfit = Unit {0}
 Asks (Leaf o) = o ≤ 2
 Asks (Bind o) = o ≡ 1
+Asks One = Unit {0}
 Asks (Parts f) = Unit {0}
 Asks (Wide f k) = k ≤ 4
 
@@ -148,7 +156,8 @@ asks m i p at under = go (tagAt p at) (rowOf (tagAt m i) (tagAt p at)) refl
   where
     by-parts : (n o f : ℕ) → o ≤ 2 → Asks (byParts n o f)
     by-parts zero o f h = h
-    by-parts (suc n) o f h = tt
+    by-parts (suc zero) o f h = tt
+    by-parts (suc (suc n)) o f h = tt
 
     by-one : (t o b : ℕ) (c : Bool) → eqb t 1 ≡ c → (eqb t 1 ≡ true → o ≡ 1) → o ≤ 2 → Asks (cond c (Bind o) (byParts b o (firstOf t i)))
     by-one t o b true q h l = h q
@@ -212,7 +221,7 @@ room-left p next at o h q k l = omega arith
 pub long-after : (m : List ℤ) (a b : List ℕ) (n k f l : ℕ) → b ≡ pushed m a n k f → length a ≡ l → length b ≡ l
 long-after m a b n k f l e h = rw e (length-pushed m n a k f ∙ h)
 
-pub ruleset rules = (ret-long, starts, ret-end, ret-spare, ret-misfit, turn-skip, turn-leaf, turn-parts, turn-wide, turn-bind, leaf-le, bind-le, bind-room, wide-le, wide-stack, wide-room, wide-sum, room-left, long-after, needs)
+pub ruleset rules = (ret-long, starts, ret-end, ret-spare, ret-misfit, turn-skip, turn-leaf, turn-one, turn-parts, turn-wide, turn-bind, leaf-le, bind-le, bind-room, wide-le, wide-stack, wide-room, wide-sum, room-left, long-after, needs)
 
 -- ---- Storing the members.
 

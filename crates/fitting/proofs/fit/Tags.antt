@@ -14,7 +14,7 @@ use lib.ListN.{length, getD, getElem?, take, length-take}
 use lib.Seq.{getD-take, length-take-le}
 use lib.IntN.{ℤ, pos, negsuc}
 use Rattle.rules.specs.Numbers.{same}
-use Rattle.rules.specs.Reading.{PatternTag, alone, operand, operands, parts, wide, patternTags, matcherTags, entry}
+use Rattle.rules.specs.Reading.{PatternTag, alone, operand, operands, inner, parts, wide, patternTags, matcherTags, entry}
 use Rattle.words.specs.Words.{tagZ, tagAt}
 use Rattle.words.proofs.Signed.{within}
 use Rattle.reading.specs.Ends as ends
@@ -22,7 +22,7 @@ use Rattle.fitting.specs.Shapes.{widthFits, shapes}
 use Rattle.reading.specs.Table.{takenOf, takenIn, rowIn, rowOf}
 use Rattle.fitting.specs.Fitting.{shapesWith, valueFits, valueFitsTag, firstOf, byParts, tupleAt, asked, hereOf, hereAt}
 use Rattle.fitting.specs.declared.fit.Here.{Here}
-use Rattle.fitting.specs.declared.fit.Here.the-variants.{Misfit, Leaf, Bind, Parts, Wide}
+use Rattle.fitting.specs.declared.fit.Here.the-variants.{Misfit, Leaf, Bind, One, Parts, Wide}
 use Rattle.reading.specs.declared.table.Row.{Row}
 use Rattle.reading.specs.declared.table.Row.the-variants as row
 use Rattle.reading.proofs.Known.{past, entry-tag}
@@ -138,6 +138,7 @@ says k t = go (getElem? patternTags t)
     go (some (alone p)) = refl
     go (some (operand f)) = refl
     go (some (operands f)) = refl
+    go (some (inner f)) = refl
     go (some (parts f)) = refl
     go (some (wide f)) = refl
 
@@ -193,13 +194,18 @@ module _ (m p : List ℤ) (i at k t : ℕ) (under : List ℕ) (x : k ≡ tagAt m
       unfolding byParts
       ret-leaf h j z = sym (plain h j ∙ rw z)
 
-      pub ret-parts : (t ≡ 1 → ⊥) → (t ≡ 3 → ⊥) → (b ≡ 0 → ⊥) → (a : ℕ) → a ≡ firstOf t i → Parts a ≡ hereAt m i p at under
+      pub ret-one : (t ≡ 1 → ⊥) → (t ≡ 3 → ⊥) → b ≡ 1 → One ≡ hereAt m i p at under
       unfolding byParts
-      ret-parts h j z a l = sym (plain h j ∙ go b z ∙ rw l)
+      ret-one h j z = sym (plain h j ∙ rw z)
+
+      pub ret-parts : (t ≡ 1 → ⊥) → (t ≡ 3 → ⊥) → (b ≡ 0 → ⊥) → (b ≡ 1 → ⊥) → (a : ℕ) → a ≡ firstOf t i → Parts a ≡ hereAt m i p at under
+      unfolding byParts
+      ret-parts h j z y a l = sym (plain h j ∙ go b z y ∙ rw l)
         where
-          go : (n : ℕ) → (n ≡ 0 → ⊥) → byParts n o (firstOf t i) ≡ Parts (firstOf t i)
-          go zero w = absurd (w refl)
-          go (suc n) w = refl
+          go : (n : ℕ) → (n ≡ 0 → ⊥) → (n ≡ 1 → ⊥) → byParts n o (firstOf t i) ≡ Parts (firstOf t i)
+          go zero w u = absurd (w refl)
+          go (suc zero) w u = absurd (u refl)
+          go (suc (suc n)) w u = refl
 
       pub first-fits : length m < 2 ^ 64 → i + 1 < 18446744073709551616
       unfolding Says
@@ -221,4 +227,4 @@ module _ (m p : List ℤ) (i at k t : ℕ) (under : List ℕ) (x : k ≡ tagAt m
 pub few-under : (next : ℕ) (l : List ℕ) → next ≤ 128 → length (take next l) ≤ 2147483648
 few-under next l h = rw (length-take next l) (omega arith)
 
-pub ruleset rules = (ret-none, ret-untaken-tuple, ret-wide, tuple-fits, ret-untaken, ret-bind, ret-leaf, ret-parts, first-fits, ret-misfit, ret-value, few-under, needs)
+pub ruleset rules = (ret-none, ret-untaken-tuple, ret-wide, tuple-fits, ret-untaken, ret-bind, ret-leaf, ret-one, ret-parts, first-fits, ret-misfit, ret-value, few-under, needs)

@@ -12,7 +12,7 @@ use lib.ListN.{length, getElem?}
 use lib.IntN.{ℤ, pos, negsuc}
 use Rattle.rules.specs.Numbers.{same}
 use Rattle.rules.specs.Forms.{Matcher, something, integer, list, multiset, tupleOf, Matchers, noMatchers, _▸ᵐ_, countᵐ}
-use Rattle.rules.specs.Forms.{Pattern, wildcard, variable, constant, value, nil, cons, join, tuple, Patterns, noPatterns, _▸ᵖ_, countᵖ, span, spanAll}
+use Rattle.rules.specs.Forms.{Pattern, wildcard, variable, constant, value, nil, cons, join, tuple, both, either, never, Patterns, noPatterns, _▸ᵖ_, countᵖ, span, spanAll}
 use Rattle.rules.specs.Reading.{Verdict, ok, fault, _then_, entry, matcherTags, patternTags, readMatcher, readPattern}
 use Rattle.rules.specs.Variables.{demand}
 use Rattle.rules.specs.Fit.{takes, tagsOf, element, members, solid, isInteger, alike, comparable, fits, fitsParts}
@@ -26,7 +26,7 @@ use Rattle.fitting.specs.Fitting.{membersAt, shapesWith, valueFits, firs
 use Rattle.reading.specs.declared.Tested.{Tested}
 use Rattle.reading.specs.declared.Tested.the-variants.{Fault}
 use Rattle.fitting.specs.declared.fit.Here.{Here}
-use Rattle.fitting.specs.declared.fit.Here.the-variants.{Misfit, Leaf, Bind, Parts, Wide}
+use Rattle.fitting.specs.declared.fit.Here.the-variants.{Misfit, Leaf, Bind, One, Parts, Wide}
 use Rattle.fitting.proofs.Standing.{At, AtAll, tagOf, at-whole, at-tag, at-end, at-element, at-width, at-members, at-first, at-others}
 use Rattle.fitting.proofs.shape.Shaped.{and-false, and-true, is-width, shaped}
 
@@ -166,6 +166,7 @@ module _ (m : List ℤ) where
         (Fault p)
         (λ o. fitP m st js o (suc p) us)
         (λ o. fitP m st (js ++ (i ∷ [])) o (suc p) us)
+        (fitP m (i ∷ st) js 0 (suc p) us)
         (λ f. fitP m (f ∷ i ∷ st) js 0 (suc p) us)
         (λ f n. fitP m (membersAt m n f ++ st) js 1 (suc p) us)
 
@@ -191,16 +192,25 @@ module _ (m : List ℤ) where
   unfolding Same
   leaf js ks s st p q ws e = (js, s, rw e)
 
-  both : (a b : Pattern) → Follows a → Follows b → (i f : ℕ) (k l : Matcher) → At m i k → At m f l → (js : List ℕ) (ks : List Matcher) → Standing js ks
+  -- Two parts, and one.
+  two : (a b : Pattern) → Follows a → Follows b → (i f : ℕ) (k l : Matcher) → At m i k → At m f l → (js : List ℕ) (ks : List Matcher) → Standing js ks
       → (st : List ℕ) (p : ℕ) (ws : List ℤ)
       → Same st (p + (1 + span a + span b)) ws (fitP m (f ∷ i ∷ st) js 0 (suc p) ((patternWords a ++ patternWords b) ++ ws))
       (fits a l (p + 1) ks then λ ls. fits b k (p + 1 + span a) ls)
   unfolding Follows
-  both a b x y i f k l g h js ks s st p ws =
+  two a b x y i f k l g h js ks s st p ws =
       let e : p + 1 + span a + span b ≡ p + (1 + span a + span b) = omega arith in
       rw (append-assoc (patternWords a) (patternWords b) ws, ← add-one p, ← e)
       (same-then (i ∷ st) st (p + 1 + span a) _ (patternWords b ++ ws) ws _ (fits a l (p + 1) ks) _
       (x f l h js ks s (i ∷ st) (p + 1) (patternWords b ++ ws)) (λ js₁ ks₁ z. y i k g js₁ ks₁ z st (p + 1 + span a) ws))
+
+  one : (a : Pattern) → Follows a → (i : ℕ) (k : Matcher) → At m i k → (js : List ℕ) (ks : List Matcher) → Standing js ks
+      → (st : List ℕ) (p : ℕ) (ws : List ℤ)
+      → Same st (p + (1 + span a)) ws (fitP m (i ∷ st) js 0 (suc p) (patternWords a ++ ws)) (fits a k (p + 1) ks)
+  unfolding Follows
+  one a x i k g js ks s st p ws =
+      let e : p + 1 + span a ≡ p + (1 + span a) = omega arith in
+      rw (← add-one p, ← e) (x i k g js ks s st (p + 1) ws)
 
   more : (a : Pattern) (ps : Patterns) → Follows a → FollowsAll ps → FollowsAll (a ▸ᵖ ps)
   unfolding Follows FollowsAll patternWords fits span countᵖ countᵐ membersAt
@@ -251,12 +261,27 @@ module _ (m : List ℤ) where
         rw (stands i k a 5)
         (same-parts i js st (p + (1 + span b + span c)) p ((patternWords b ++ patternWords c) ++ ws) ws (Parts (i + 1)) (takes k 5) ks
         (λ ls. fits b (element k) (p + 1) ls then λ ns. fits c k (p + 1 + span b) ns)
-        (λ e. both b c (walked b) (walked c) i (i + 1) k (element k) a (at-element m i k a e) js ks s st p ws))
+        (λ e. two b c (walked b) (walked c) i (i + 1) k (element k) a (at-element m i k a e) js ks s st p ws))
     walked (join b c) i k a js ks s st p ws =
         rw (stands i k a 6)
         (same-parts i js st (p + (1 + span b + span c)) p ((patternWords b ++ patternWords c) ++ ws) ws (Parts i) (takes k 6) ks
         (λ ls. fits b k (p + 1) ls then λ ns. fits c k (p + 1 + span b) ns)
-        (λ e. both b c (walked b) (walked c) i i k k a a js ks s st p ws))
+        (λ e. two b c (walked b) (walked c) i i k k a a js ks s st p ws))
+    walked (both b c) i k a js ks s st p ws =
+        rw (stands i k a 8)
+        (same-parts i js st (p + (1 + span b + span c)) p ((patternWords b ++ patternWords c) ++ ws) ws (Parts i) (takes k 8) ks
+        (λ ls. fits b k (p + 1) ls then λ ns. fits c k (p + 1 + span b) ns)
+        (λ e. two b c (walked b) (walked c) i i k k a a js ks s st p ws))
+    walked (either b c) i k a js ks s st p ws =
+        rw (stands i k a 9)
+        (same-parts i js st (p + (1 + span b + span c)) p ((patternWords b ++ patternWords c) ++ ws) ws (Parts i) (takes k 9) ks
+        (λ ls. fits b k (p + 1) ls then λ ns. fits c k (p + 1 + span b) ns)
+        (λ e. two b c (walked b) (walked c) i i k k a a js ks s st p ws))
+    walked (never b) i k a js ks s st p ws =
+        rw (stands i k a 10)
+        (same-parts i js st (p + (1 + span b)) p (patternWords b ++ ws) ws One (takes k 10) ks
+        (λ ls. fits b k (p + 1) ls)
+        (λ e. one b (walked b) i k a js ks s st p ws))
     walked (tuple ps) i k a js ks s st p ws =
         rw (stands-tuple i k a (countᵖ ps))
         (same-parts i js st (p + (2 + spanAll ps)) p (pos (countᵖ ps) ∷ (patternWordsAll ps ++ ws)) ws (Wide (i + 2) (countᵖ ps))

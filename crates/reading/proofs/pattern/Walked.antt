@@ -5,7 +5,7 @@ use mathlib.Core.Option.{Option, none, some}
 use mathlib.Core.List.{List, [], _∷_}
 use Prim.Native.Nat.{ℕ, zero, suc, _+_, _≤_}
 use native.Mathlib.Nat.{add-zero}
-use native.Mathlib.Numerals.{add-two}
+use native.Mathlib.Numerals.{add-one, add-two}
 use native.Mathlib.Omega.{arith}
 use borrow.Author.Tests.{leb-true, ne-eqb}
 use lib.ListN.{length, getElem?, length-append}
@@ -13,7 +13,7 @@ use lib.Dec.{leb}
 use lib.IntN.{ℤ}
 use Rattle.rules.specs.Forms.{Pattern, Patterns, noPatterns, _▸ᵖ_}
 use Rattle.rules.specs.Reading.{Verdict, ok, fault, _then_, Got, Reader, give, _>>=_, known, word, entry, ended, whole, limited}
-use Rattle.rules.specs.Reading.{PatternTag, alone, operand, operands, parts, wide, patternTags, patternParts, width, times, pattern, readPattern}
+use Rattle.rules.specs.Reading.{PatternTag, alone, operand, operands, inner, parts, wide, patternTags, patternParts, width, times, pattern, readPattern}
 use Rattle.promises.specs.Readers.{Sound}
 use Rattle.promises.specs.ReadPattern.{pattern-sound}
 use Rattle.promises.specs.Written.{patternWords}
@@ -86,6 +86,10 @@ module _ (d : ℕ) (part : Reader Pattern) (h : Walks d part) (less : (p : ℕ) 
   walk-tag (operands f) b n p [] l = rw (ne-eqb (2 + (n + 0)) 0 (λ e. omega arith))
   walk-tag (operands f) b n p (w ∷ []) l = rw (ne-eqb (1 + (n + 0)) 0 (λ e. omega arith))
   walk-tag (operands f) b n p (w ∷ v ∷ ws) l = rw add-zero
+  walk-tag (inner f) b n p ws l =
+      rw (add-one n)
+      (h n (suc p) ws l
+      ∙ sym (after-then Fault (part (suc p) ws) (λ k. give (f (k .it)) (k .next) (k .rest)) (λ k. readsP 0 n (k .next) (k .rest))))
   walk-tag (parts f) b n p ws l = rw (add-two n) (h (suc n) (suc p) ws l ∙ go (part (suc p) ws) refl)
     where
       go : (x : Verdict (Got Pattern)) → part (suc p) ws ≡ x

@@ -6,7 +6,7 @@ use Prim.Native.Nat.{ℕ, zero, suc, _≤_}
 use native.Mathlib.Omega.{arith}
 use borrow.Author.Tests.{le-ltb, lt-leb}
 use lib.ListN.{getElem?}
-use Rattle.rules.specs.Reading.{PatternTag, alone, operand, operands, parts, wide, matcherTags, patternTags}
+use Rattle.rules.specs.Reading.{PatternTag, alone, operand, operands, inner, parts, wide, matcherTags, patternTags}
 use Rattle.reading.specs.Ends.{within}
 use Rattle.reading.specs.Table.{rowOf, takenOf, takenIn, rowIn}
 use Rattle.reading.specs.declared.table.Row.{Row}
@@ -35,19 +35,23 @@ unfolding rowOf
 row-is m b t low high l h p q r s u e = rw (e ∙ agree (λ k. within low k high) (λ k. takenOf k t) p q r s u (λ k. none-above low high k t l h) m)
 
 -- The numbers that are no tag.
-pub row-none : (m t : ℕ) → 8 ≤ t → Unknown ≡ rowOf m t
+pub row-none : (m t : ℕ) → 11 ≤ t → Unknown ≡ rowOf m t
 unfolding rowOf rowIn patternTags
 row-none m t h = rw (past patternTags t h)
 
--- A number that is none of the eight tags.
-pub above : (t : ℕ) → (t ≡ 0 → ⊥) → (t ≡ 1 → ⊥) → (t ≡ 2 → ⊥) → (t ≡ 3 → ⊥) → (t ≡ 4 → ⊥) → (t ≡ 5 → ⊥) → (t ≡ 6 → ⊥) → (t ≡ 7 → ⊥) → 8 ≤ t
-above t a b c d e f g h = let k : 4 ≤ t = four t a b c d in more t k e f g h
+-- A number that is none of the eleven tags.
+pub above : (t : ℕ) → (t ≡ 0 → ⊥) → (t ≡ 1 → ⊥) → (t ≡ 2 → ⊥) → (t ≡ 3 → ⊥) → (t ≡ 4 → ⊥) → (t ≡ 5 → ⊥) → (t ≡ 6 → ⊥) → (t ≡ 7 → ⊥)
+    → (t ≡ 8 → ⊥) → (t ≡ 9 → ⊥) → (t ≡ 10 → ⊥) → 11 ≤ t
+above t a b c d e f g h i j k = last t (more t (four t a b c d) e f g h) i j k
   where
     four : (n : ℕ) → (n ≡ 0 → ⊥) → (n ≡ 1 → ⊥) → (n ≡ 2 → ⊥) → (n ≡ 3 → ⊥) → 4 ≤ n
     four n a b c d = omega arith
 
     more : (n : ℕ) → 4 ≤ n → (n ≡ 4 → ⊥) → (n ≡ 5 → ⊥) → (n ≡ 6 → ⊥) → (n ≡ 7 → ⊥) → 8 ≤ n
     more n k e f g h = omega arith
+
+    last : (n : ℕ) → 8 ≤ n → (n ≡ 8 → ⊥) → (n ≡ 9 → ⊥) → (n ≡ 10 → ⊥) → 11 ≤ n
+    last n k e f g = omega arith
 
 -- No tag has more than two operands or, with no width, more than two parts.
 Few : Row → Type 0
@@ -64,6 +68,7 @@ few m t = go (getElem? patternTags t) (takenOf m t)
     go (some (alone p)) f = (omega arith, omega arith)
     go (some (operand g)) f = (omega arith, omega arith)
     go (some (operands g)) f = (omega arith, omega arith)
+    go (some (inner g)) f = (omega arith, omega arith)
     go (some (parts g)) f = (omega arith, omega arith)
     go (some (wide g)) f = tt
 

@@ -6,28 +6,28 @@ use native.Mathlib.Omega.{arith}
 use borrow.Author.Needs.{needs}
 use Rattle.stepping.specs.Steps.{tables}
 use Rattle.searching.specs.Run.{Env, env, Run, run, settled, takeOf, runOf}
-use Rattle.searching.proofs.Laws.{Here, here-start, here-end, here-spent, here-next, next-less, Asked, asked-3, asked-5, asked-6, asked-n, took, turn-takes, turn-picks, settled-by, Ready, ready, ready-place, ready-mul, ready-number, ready-number-mul, ready-bound, ready-sum}
+use Rattle.searching.proofs.Laws.{Here, here-start, here-end, here-spent, here-next, next-less, Asked, asked-3, asked-5, asked-6, asked-n, took, turn-takes, turn-picks, settled-by, Ready, ready, ready-place, ready-mul, ready-number, ready-number-mul, ready-bound, ready-sum, fine-slots}
 use Rattle.searching.proofs.advance.Statement.{statement}
 use Rattle.searching.proofs.advance.Tie as tie
 use Rattle.equality.proofs.equal.Reads as equal-reads
 use Rattle.equality.proofs.is_sum.Reads as is-sum-reads
 use Rattle.rows.proofs.bind.Reads as bind-reads
 use Rattle.searching.proofs.index.Reads as index-reads
-use Rattle.searching.proofs.take.Reads as take-reads
+use Rattle.searching.proofs.taking.take.Reads as take-reads
 use Rattle.stepping.proofs.State.settle.Reads as settle-reads
 
 abbrev Inv-loop : tie.InvT-loop
-Inv-loop budget n mt s ends base places op from arg mat con ats₀ wholes₀ lefts₀ lows₀ backs₀ room₀ x₀ b₀ ats wholes lefts lows backs room x b =
-    Here (env op from arg mat con mt s n) (runOf (env op from arg mat con mt s n) (budget - x₀ .steps) (run x₀ (tables ats₀ wholes₀ lefts₀ lows₀ backs₀) b₀ room₀)) budget room₀
+Inv-loop budget n mt s ends base places op from to arg mat con ats₀ wholes₀ lefts₀ lows₀ backs₀ room₀ x₀ b₀ ats wholes lefts lows backs room x b =
+    Here (env op from to arg mat con mt s n) (runOf (env op from to arg mat con mt s n) (budget - x₀ .steps) (run x₀ (tables ats₀ wholes₀ lefts₀ lows₀ backs₀) b₀ room₀)) budget room₀
     (run x (tables ats wholes lefts lows backs) b room)
 
 abbrev μ-loop : tie.MeasureT-loop
-μ-loop budget n mt s ends base places op from arg mat con ats₀ wholes₀ lefts₀ lows₀ backs₀ room₀ x₀ b₀ ats wholes lefts lows backs room x b = budget - x .steps
+μ-loop budget n mt s ends base places op from to arg mat con ats₀ wholes₀ lefts₀ lows₀ backs₀ room₀ x₀ b₀ ats wholes lefts lows backs room x b = budget - x .steps
 
 -- The program and the run at the loop's head.
 abbrev program : tie.At-loop Inv-loop μ-loop → Env
 program c =
-    env (c .before .args .op .now) (c .before .args .from .now) (c .before .args .arg .now) (c .before .args .mat .now) (c .before .args .con .now) (c .before .args .mt .now)
+    env (c .before .args .op .now) (c .before .args .from .now) (c .before .args .to .now) (c .before .args .arg .now) (c .before .args .mat .now) (c .before .args .con .now) (c .before .args .mt .now)
     (c .before .args .s .now) (c .before .args .n)
 
 abbrev current : tie.At-loop Inv-loop μ-loop → Run
@@ -111,7 +111,7 @@ settle-requires : tie.Need-settle-requires Inv-loop μ-loop
 settle-requires c κs =
     let h = stands (c .before .before .before .before .before .before .before .before .before .before .before .before .before .before .before .before .before) in
     let a = joined (c .before .before .before .before .before .before .before .before .before .before .before .before .before) in
-    (h .target, (c .before .before .before .before .before .before .before .before .before .before .before .before .before .before .before .before .before .before .before .before .before .pre .0 .placed, turn-picks _ _ _ _ _ _ _ a (h .fine) (h .target) (h .valid) (h .count) (h .live) _ _ _ _ (took _ _ _ _ _ _ _ a _ (c .before .before .before .before .before .before .take .ensures))))
+    (h .target, (c .before .before .before .before .before .before .before .before .before .before .before .before .before .before .before .before .before .before .before .before .before .pre .0 .placed, (fine-slots _ (h .fine), turn-picks _ _ _ _ _ _ _ a (h .fine) (h .target) (h .valid) (h .count) (h .live) _ _ _ _ (took _ _ _ _ _ _ _ a _ (c .before .before .before .before .before .before .take .ensures)))))
 
 loop-less : tie.Need-loop-less Inv-loop μ-loop
 loop-less c =

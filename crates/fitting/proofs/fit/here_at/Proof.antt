@@ -28,4 +28,5 @@ here-at-spec = tie.close (tie.spec
     (λ c. search rules)
     (λ c. search rules)
     (λ c. search rules)
+    (λ c. search rules)
     (λ c. search rules))

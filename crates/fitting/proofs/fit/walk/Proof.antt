@@ -6,7 +6,7 @@ use native.Mathlib.Omega.{arith}
 use lib.ListN.{length, take, drop}
 use Rattle.fitting.specs.Fitting.{fitP}
 use Rattle.fitting.proofs.fit.Stack.{stackOf}
-use Rattle.fitting.proofs.fit.Steps.{rules, turn-bind, turn-parts, turn-wide, wide-le, wide-stack}
+use Rattle.fitting.proofs.fit.Steps.{rules, turn-bind, turn-one, turn-parts, turn-wide, wide-le, wide-stack}
 use Rattle.fitting.proofs.fit.walk.Statement.{statement}
 use Rattle.fitting.proofs.fit.walk.Tie as tie
 
@@ -45,6 +45,11 @@ walk-spec = tie.close (tie.spec Inv-loop μ-loop
     (λ c. search rules)
     (λ c. search rules)
     (λ c. let w = c .before .before .before .before .before .before .before .before in (turn-bind _ _ _ (w .loop .under) _ _ _ (w .loop .next) _ (w .loop .inv .0) (c .before .before .before .before .before .before .before .loop-test .taken) (c .before .before .before .before .before .if3 .left) (c .before .before .before .before .before .before .if2 .left) _ (c .before .before .before .here-at .ensures) _ (c .before .operands2 .given .1) (omega arith), search rules, search rules, search rules, search rules, search rules, search rules))
+    (λ c. search rules)
+    (λ c. search rules)
+    (λ c. search rules)
+    (λ c. search rules)
+    (λ c. (turn-one _ _ _ _ _ _ _ _ (c .before .before .before .before .before .before .before .loop .inv .0) (c .before .before .before .before .before .before .loop-test .taken) (c .before .before .before .before .if3 .left) (c .before .before .before .before .before .if2 .left) _ (c .before .before .here-at .ensures) (c .enum-told2 .given .1), search rules, search rules, search rules, search rules, search rules, search rules))
     (λ c. search rules)
     (λ c. search rules)
     (λ c. search rules)

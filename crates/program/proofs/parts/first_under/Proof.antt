@@ -10,5 +10,6 @@ first-under-spec =
     (λ c. search under-rules)
     (λ c. search under-rules)
     (λ c. search under-rules)
-    (λ c. under-fits _ _ (c .before .if1 .left) (c .before .before .pre))
+    (λ c. search under-rules)
+    (λ c. under-fits _ _ (c .before .before .if1 .left) (c .before .if2 .left) (c .before .before .before .pre))
     (λ c. search under-rules))

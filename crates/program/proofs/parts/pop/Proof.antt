@@ -13,6 +13,8 @@ pop-spec =
     (λ c. search pop-rules)
     (λ c. search pop-rules)
     (λ c. search pop-rules)
+    (λ c. search pop-rules)
+    (λ c. search pop-rules)
     (λ c κs. search pop-rules)
     (λ c. search pop-rules)
     (λ c. search pop-rules)

@@ -3,6 +3,7 @@ use Rattle.stepping.proofs.Laws.{divide-rules}
 use Rattle.stepping.proofs.State.divide.Statement.{statement}
 use Rattle.stepping.proofs.State.divide.Tie as tie
 use Rattle.stepping.proofs.State.apart.Reads as apart-reads
+use Rattle.stepping.proofs.State.sides.Reads as sides-reads
 use Rattle.stepping.proofs.State.split.Reads as split-reads
 
 pub divide-spec : {M : Type 1} → statement M
@@ -11,5 +12,7 @@ divide-spec =
     (tie.spec
     (λ c κs. (search divide-rules, (search divide-rules, search divide-rules)))  -- apart-requires
     (λ c. search divide-rules)  -- returns
+    (λ c κs. search divide-rules)  -- sides-requires
+    (λ c. search divide-rules)  -- returns-2
     (λ c κs. search divide-rules)  -- split-requires
     (λ c. search divide-rules))

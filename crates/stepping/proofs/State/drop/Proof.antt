@@ -13,10 +13,12 @@ drop-spec =
     (λ c. search drop-rules)  -- mul-wide
     (λ c. search drop-rules)  -- element-copy-out-wide
     (λ c κs. search drop-rules)  -- wide-requires
-    (λ c. search drop-rules)  -- add-self
     (λ c. search drop-rules)  -- mul-wide-2
     (λ c. search drop-rules)  -- element-copy-out-wide-2
     (λ c κs. search drop-rules)  -- wide-requires-2
+    (λ c. search drop-rules)  -- mul-wide-3
+    (λ c. search drop-rules)  -- element-copy-out-wide-3
+    (λ c κs. search drop-rules)  -- wide-requires-3
     (λ c. search drop-rules)  -- mul-self
     (λ c. search drop-rules)  -- element-copy-out-self
     (λ c. search drop-rules))

@@ -10,6 +10,6 @@ unfolding settleOf
 settle-spec =
     tie.close
     (tie.spec
-    (λ c κs. (search settle-rules, (search settle-rules, search settle-rules)))
+    (λ c κs. (search settle-rules, (search settle-rules, (search settle-rules, search settle-rules))))
     (λ c. search settle-rules)
     (λ c. search settle-rules))

@@ -1,0 +1,24 @@
+-- The two passes together. Assumes nothing.
+use Prim.Native.Nat.{ℕ, suc, _<_, _≤_}
+use native.Mathlib.Omega.{arith}
+use mathlib.Core.Path.{_≡_, ap, _∙_}
+use mathlib.Core.List.{List}
+use borrow.Author.Needs.{needs}
+use lib.ListN.{length}
+use lib.IntN.{ℤ}
+use Rattle.words.specs.Words.{entries}
+use Rattle.program.specs.Lines.{linesOf}
+use Rattle.program.specs.Link.{opsIn, bindingsIn, tosBy, placed}
+use Rattle.program.specs.Bounds.{lines-few}
+
+-- The lines of 256 words fit.
+pub both-low : (m p : List ℤ) (last : ℕ) → length p ≤ 256 → suc last ≡ length (linesOf m p) → last < entries
+both-low m p last l e = let a = lines-few m p l in omega arith
+
+pub both-vars : (op : List ℕ) (last n r : ℕ) → suc last ≡ n → r ≡ bindingsIn (opsIn op 0 (suc last)) → r ≡ bindingsIn (opsIn op 0 n)
+both-vars op last n r e h = h ∙ ap (λ k. bindingsIn (opsIn op 0 k)) e
+
+pub both-tos : (op to to' : List ℕ) (last n : ℕ) → suc last ≡ n → to' ≡ placed 0 (tosBy (opsIn op 0 (suc last))) to → to' ≡ placed 0 (tosBy (opsIn op 0 n)) to
+both-tos op to to' last n e h = h ∙ ap (λ k. placed 0 (tosBy (opsIn op 0 k)) to) e
+
+pub ruleset both-rules = (both-low, both-vars, both-tos, needs)

@@ -1,0 +1,78 @@
+// The first pass: a line for each state that a run can take up there, the places of ors and nots at which none is, and the end.
+use super::ends::close;
+use super::ends::other;
+use super::lines::divide;
+use super::lines::leaf;
+use super::lines::put;
+use super::parts::behind_by;
+use super::parts::first_under;
+use super::parts::from_by;
+use super::parts::pop;
+use super::parts::second_under;
+use super::parts::slot_by;
+use super::parts::wide;
+use super::tags::op_of;
+use super::tags::operands;
+use super::tags::reserved;
+use words::ENTRIES;
+use words::tag_at;
+ghost use mathlib.Core.Path.{_≡_};
+ghost use Prim.Native.Nat.{suc, _<_, _≤_};
+ghost use lib.ListN.{length};
+ghost use Rattle.program.specs.Lines.{linesOf, columns, laid};
+
+// The rule's lines from the first entry on: the place of the last.
+pub fn lay(
+    m: &[i32],
+    p: &[i32],
+    op: &mut [u8; ENTRIES],
+    from: &mut [u16; ENTRIES],
+    arg: &mut [u8; ENTRIES],
+    mat: &mut [u8; ENTRIES],
+    con: &mut [i32; ENTRIES],
+) -> usize
+    requires { do ⌜ (← ⟦m.len()⟧) ≤ 64 ⌝ ∗ ⌜ (← ⟦p.len()⟧) ≤ 256 ⌝ }
+    ensures { λ r. ⌜ suc r ≡ length (linesOf (now (m .entry)) (now (p .entry))) ⌝ ∗ ⌜ columns (now (op .exit)) (now (from .exit)) (now (arg .exit)) (now (mat .exit)) (now (con .exit)) ≡ laid 0 (linesOf (now (m .entry)) (now (p .entry))) (columns (now (op .entry)) (now (from .entry)) (now (arg .entry)) (now (mat .entry)) (now (con .entry))) ⌝ }
+{
+    let mut under = [0u8; 257];
+    let mut slots = [0u16; 257];
+    let mut behind = [0u8; 257];
+    let mut depth: usize = 0;
+    let mut i: u8 = 0;
+    let mut pc: usize = 0;
+    let mut at: usize = 0;
+    while at < p.len() {
+        let t = tag_at(p, at);
+        let k = tag_at(m, wide(i));
+        let o = op_of(t, k);
+        let f = slots[depth];
+        at += 1;
+        if 7 < o {
+            let e = reserved(p, at, o);
+            let j = first_under(o, i);
+            let u = second_under(m, o, i);
+            depth += 1;
+            under[depth] = u;
+            slots[depth] = slot_by(o, pc, f);
+            behind[depth] = behind_by(o, e);
+            pc = divide(o, e, from_by(o, f), i, pc, op, from, arg, mat, con);
+            i = j;
+            at += operands(o);
+        } else {
+            pc = leaf(p, at, k, o, i, f, pc, op, from, arg, mat, con);
+            let d = close(depth, pc, &slots, &behind, op, from, arg, mat, con);
+            pc += depth - d;
+            depth = d;
+            if depth == 0 {
+                put(pc, 0, 0, 0, 0, 0, op, from, arg, mat, con);
+                return pc;
+            }
+            i = under[depth];
+            pc = other(behind[depth], pc, op, from, arg, mat, con);
+            depth = pop(m, depth, &mut under, &mut slots, &mut behind);
+            at += operands(o);
+        }
+    }
+    put(pc, 0, 0, 0, 0, 0, op, from, arg, mat, con);
+    pc
+}

@@ -1,0 +1,76 @@
+-- Document 02, No. 3: a not in the order of the states. Its own state is taken up; then those of the search inside it, up to its first row, which write
+-- nothing; and then one state follows if p has no way from the bindings held, else none.
+use Prim.Native.Nat.{ℕ}
+use mathlib.Core.Path.{_≡_, refl, sym, ap, _∙_}
+use mathlib.Core.Bool.{Bool, false}
+use mathlib.Core.List.{List, [], _∷_, _++_, flatMap, List·Memᴰ·head, List·Memᴰ·not-nil}
+use Rattle.rules.specs.Forms.{Matcher, Pattern, never, Value}
+use Rattle.rules.specs.Equality.{Bindings}
+use Rattle.rules.specs.Search.{Atom, atom, cut, State, state}
+use Rattle.rules.specs.Ways.{Way, Follows}
+use Rattle.rules.specs.Following.{Solution, solve}
+use Rattle.rules.specs.Lists.{Mem}
+use Rattle.rules.specs.Twin.{sound, complete}
+use Rattle.promises.specs.Trace.{Taken, passed, found, Met, taken, ended, pass, inside, visit, visitAll, met, close, trace, met-cons, met-first}
+use Rattle.promises.specs.Solve.{founds, stops, stops-visit, no-cons, not-ended}
+
+-- ---- What is met inside, without an end and with one.
+
+after-none : (ms ns : List Met) (ss : List State) → stops ms ≡ [] → close (met (inside ms ns) ss) ≡ close ms ++ close (met ns ss)
+unfolding stops inside close
+after-none [] ns ss h = refl
+after-none (taken passed ∷ ms) ns ss h = ap close (met-cons passed (inside ms ns) ss) ∙ ap {B = List Taken} (λ r. passed ∷ r) (after-none ms ns ss h)
+after-none (taken (found e) ∷ ms) ns ss h = no-cons h
+after-none (ended ∷ ms) ns ss h = no-cons h
+
+after-end : (ms ns us : List Met) (ss : List State) → stops ms ≡ ended ∷ us → close (met (inside ms ns) ss) ≡ close ms ++ close (met [] ss)
+unfolding stops inside close
+after-end [] ns us ss h = no-cons (sym h)
+after-end (taken passed ∷ ms) ns us ss h = ap close (met-cons passed (inside ms ns) ss) ∙ ap {B = List Taken} (λ r. passed ∷ r) (after-end ms ns us ss h)
+after-end (taken (found e) ∷ ms) ns us ss h = not-ended h
+after-end (ended ∷ ms) ns us ss h = ap close (met-cons passed [] ss)
+
+no-row : (ms : List Met) (ss : List Solution) → stops ms ≡ flatMap (λ s. ended ∷ []) ss → founds (close ms) ≡ []
+unfolding stops close founds flatMap
+no-row [] ss h = refl
+no-row (taken passed ∷ ms) ss h = no-row ms ss h
+no-row (taken (found e) ∷ ms) [] h = no-cons h
+no-row (taken (found e) ∷ ms) (s ∷ ss) h = not-ended h
+no-row (ended ∷ ms) ss h = refl
+
+module _ (p : Pattern) (m : Matcher) (v : Value) (e : Bindings) where
+  -- The state with which the search inside begins, alone: it ends at its first row.
+  abbrev pub inner : State
+  inner = state false (atom p m v ∷ cut ∷ []) e
+
+  abbrev meets : List Met
+  meets = visit p m v e (λ d. ended ∷ [])
+
+  pub inner-writes-nothing : founds (trace (inner ∷ [])) ≡ []
+  unfolding trace met visitAll stops
+  inner-writes-nothing = no-row meets (solve p m v e) (stops-visit p m v e (λ d. ended ∷ []))
+
+  module _ (g : Bool) (older : List Atom) (ss : List State) where
+    here : trace (state g (atom (never p) m v ∷ older) e ∷ ss) ≡ passed ∷ close (met (inside meets (visitAll older e)) ss)
+    unfolding trace visitAll visit close
+    here = ap close (met-first g (atom (never p) m v ∷ older) e ss ∙ met-cons passed (inside meets (visitAll older e)) ss)
+
+    pub not-holds : ((w : Way) (d : Bindings) → Follows p m v e w d → ⊥)
+        → trace (state g (atom (never p) m v ∷ older) e ∷ ss) ≡ passed ∷ (trace (inner ∷ []) ++ trace (state false older e ∷ ss))
+    unfolding trace met visitAll stops flatMap
+    not-holds h = here ∙ ap {B = List Taken} (λ r. passed ∷ r) (after-none meets (visitAll older e) ss (go (solve p m v e) (stops-visit p m v e (λ d. ended ∷ []))
+        (λ s i. h (s .way) (s .bound) (sound p m v e s i))))
+      where
+        go : (rs : List Solution) → stops meets ≡ flatMap (λ s. ended ∷ []) rs → ((s : Solution) → Mem s rs → ⊥) → stops meets ≡ []
+        go [] q n = q
+        go (s ∷ rs) q n = absurd (n s (List·Memᴰ·head refl))
+
+    pub not-fails : (w : Way) (d : Bindings) → Follows p m v e w d
+        → trace (state g (atom (never p) m v ∷ older) e ∷ ss) ≡ passed ∷ (trace (inner ∷ []) ++ trace ss)
+    unfolding trace met visitAll stops flatMap
+    not-fails w d f = here ∙ ap {B = List Taken} (λ r. passed ∷ r) (go (solve p m v e) (stops-visit p m v e (λ c. ended ∷ [])) (complete p m v e w d f))
+      where
+        go : (rs : List Solution) → stops meets ≡ flatMap (λ s. ended ∷ []) rs → Mem (record { way = w; bound = d }) rs
+            → close (met (inside meets (visitAll older e)) ss) ≡ close meets ++ close (met [] ss)
+        go [] q i = absurd (List·Memᴰ·not-nil i)
+        go (s ∷ rs) q i = after-end meets (visitAll older e) _ ss q

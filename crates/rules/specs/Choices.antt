@@ -1,0 +1,192 @@
+-- The choices at a cons or a join: those that section 5 names by their number are the states that follow in section 4, numbered from 0.
+use Prim.Native.Nat.{ℕ, zero, suc}
+use native.Mathlib.Nat.{suc-ne-zero}
+use mathlib.Core.Path.{_≡_, refl, sym, ap, ap₂, _∙_, subst}
+use mathlib.Core.Logic.{⊎-elim}
+use mathlib.Core.Bool.{Bool, true, false}
+use mathlib.Core.Option.{Option, none, some}
+use mathlib.Core.List.{List, [], _∷_, map, List·Memᴰ·head, List·Memᴰ·tail, List·Memᴰ·not-nil, List·Memᴰ·cases-cons, List·Memᴰ·eq-of-singleton, Memᴰ·map, Memᴰ·of-map}
+use lib.ListN.{getElem?}
+use lib.Dec.{T, leb, leb→le, le→leb, leb·zero, leb·suc-zero, leb·suc-suc}
+use Rattle.rules.specs.Forms.{Matcher, something, integer, list, multiset, tupleOf, Value, int, collection, tupled, Values, empty, _▸_, count}
+use Rattle.rules.specs.Equality.{Pick, picks, behind}
+use Rattle.rules.specs.Search.{Cut, cuts, longer, Halves, consHalves, joinHalves}
+use Rattle.rules.specs.Ways.{Way, at, without, front, back, ConsBy, JoinBy}
+use Rattle.rules.specs.Lists.{Mem}
+use Rattle.rules.specs.Following.{Numbered, up, numbered, isMultiset, mark}
+
+true-path : (b : Bool) → T b → b ≡ true
+true-path true t = refl
+true-path false t = absurd t
+
+abbrev halves : Value → Value → Halves
+halves a b = record { first = a; second = b }
+
+-- ---- An entry of a list by its number.
+
+unfoldable optMap : {A B : Type 0} → (A → B) → Option A → Option B
+optMap f none = none
+optMap f (some a) = some (f a)
+
+getElem-map : {A B : Type 0} (f : A → B) (xs : List A) (k : ℕ) → getElem? (map f xs) k ≡ optMap f (getElem? xs k)
+unfolding optMap
+getElem-map f [] k = refl
+getElem-map f (x ∷ xs) zero = refl
+getElem-map f (x ∷ xs) (suc k) = getElem-map f xs k
+
+unfoldable picked : Option Value → Values → Option Pick
+picked none r = none
+picked (some x) r = some (record { one = x; others = r })
+
+behind-picked : (v : Value) (o : Option Value) (r : Values) → optMap (behind v) (picked o r) ≡ picked o (v ▸ r)
+unfolding optMap picked behind
+behind-picked v none r = refl
+behind-picked v (some x) r = refl
+
+picks-nth : (vs : Values) (k : ℕ) → getElem? (picks vs) k ≡ picked (at vs k) (without vs k)
+unfolding picks picked at without
+picks-nth empty k = refl
+picks-nth (v ▸ vs) zero = refl
+picks-nth (v ▸ vs) (suc k) = getElem-map (behind v) (picks vs) k ∙ ap (optMap (behind v)) (picks-nth vs k) ∙ behind-picked v (at vs k) (without vs k)
+
+unfoldable cutAt : Bool → Values → Values → Option Cut
+cutAt true f b = some (record { front = f; back = b })
+cutAt false f b = none
+
+longer-cut : (v : Value) (t : Bool) (f b : Values) → optMap (longer v) (cutAt t f b) ≡ cutAt t (v ▸ f) b
+unfolding optMap cutAt longer
+longer-cut v true f b = refl
+longer-cut v false f b = refl
+
+cuts-nth : (vs : Values) (k : ℕ) → getElem? (cuts vs) k ≡ cutAt (leb k (count vs)) (front vs k) (back vs k)
+unfolding cuts cutAt count front back
+cuts-nth empty zero = refl
+cuts-nth empty (suc k) = rw (leb·suc-zero k)
+cuts-nth (v ▸ vs) zero = rw (leb·zero (suc (count vs)))
+cuts-nth (v ▸ vs) (suc k) =
+    getElem-map (longer v) (cuts vs) k ∙ ap (optMap (longer v)) (cuts-nth vs k) ∙ longer-cut v (leb k (count vs)) (front vs k) (back vs k)
+    ∙ ap (λ t. cutAt t (v ▸ front vs k) (back vs k)) (sym (leb·suc-suc k (count vs)))
+
+unfoldable pickHalves : Pick → Halves
+pickHalves p = halves (p .one) (collection (p .others))
+
+unfoldable cutHalves : Cut → Halves
+cutHalves c = halves (collection (c .front)) (collection (c .back))
+
+pick-nth : (vs : Values) (k : ℕ) → getElem? (map pickHalves (picks vs)) k ≡ optMap pickHalves (picked (at vs k) (without vs k))
+pick-nth vs k = getElem-map pickHalves (picks vs) k ∙ ap (optMap pickHalves) (picks-nth vs k)
+
+cut-nth : (vs : Values) (k : ℕ) → getElem? (map cutHalves (cuts vs)) k ≡ optMap cutHalves (cutAt (leb k (count vs)) (front vs k) (back vs k))
+cut-nth vs k = getElem-map cutHalves (cuts vs) k ∙ ap (optMap cutHalves) (cuts-nth vs k)
+
+-- ---- The numbered ones are the entries.
+
+numbered-nth : (hs : List Halves) (c : Numbered) → Mem c (numbered hs) → getElem? hs (c .no) ≡ some (c .halves)
+unfolding numbered up
+numbered-nth [] c m = absurd (List·Memᴰ·not-nil m)
+numbered-nth (h ∷ hs) c m = ⊎-elim
+    (λ e. subst (λ (d : Numbered). getElem? (h ∷ hs) (d .no) ≡ some (d .halves)) (sym e) refl)
+    (λ k. let r = Memᴰ·of-map up (numbered hs) k in
+    subst (λ (d : Numbered). getElem? (h ∷ hs) (d .no) ≡ some (d .halves)) (r .2) (numbered-nth hs (r .0) (r .1)))
+    (List·Memᴰ·cases-cons m)
+
+nth-numbered : (hs : List Halves) (k : ℕ) (h : Halves) → getElem? hs k ≡ some h → Mem (record { no = k; halves = h }) (numbered hs)
+unfolding numbered up
+nth-numbered [] k h e = let z : _≡_ {A = ℕ} 0 1 = cc in absurd (suc-ne-zero 0 (sym z))
+nth-numbered (g ∷ hs) zero h e = let z : h ≡ g = cc in List·Memᴰ·head (ap (λ (x : Halves). let c : Numbered = record { no = 0; halves = x } in c) z)
+nth-numbered (g ∷ hs) (suc k) h e = List·Memᴰ·tail (Memᴰ·map up (nth-numbered hs k h e))
+
+pub in-numbered : (hs : List Halves) (c : Numbered) → Mem c (numbered hs) → Mem (c .halves) hs
+unfolding numbered up
+in-numbered [] c m = absurd (List·Memᴰ·not-nil m)
+in-numbered (h ∷ hs) c m = ⊎-elim
+    (λ e. List·Memᴰ·head (ap (λ (x : Numbered). x .halves) e))
+    (λ k. let r = Memᴰ·of-map up (numbered hs) k in
+    List·Memᴰ·tail (subst (λ (x : Numbered). Mem (x .halves) hs) (r .2) (in-numbered hs (r .0) (r .1))))
+    (List·Memᴰ·cases-cons m)
+
+-- ---- What can be chosen is numbered, and what is numbered can be chosen.
+
+picked-some : (o : Option Value) (r : Values) (h : Halves) → optMap pickHalves (picked o r) ≡ some h → (o ≡ some (h .first)) × (h .second ≡ collection r)
+unfolding optMap picked pickHalves
+picked-some none r h e = let z : _≡_ {A = ℕ} 0 1 = cc in absurd (suc-ne-zero 0 (sym z))
+picked-some (some x) r h e = let z : halves x (collection r) ≡ h = cc in (ap (λ (y : Halves). some (y .first)) z, sym (ap (λ (y : Halves). y .second) z))
+
+cut-some : (t : Bool) (f b : Values) (h : Halves) → optMap cutHalves (cutAt t f b) ≡ some h → T t × (h .first ≡ collection f) × (h .second ≡ collection b)
+unfolding optMap cutAt cutHalves
+cut-some true f b h e =
+    let z : halves (collection f) (collection b) ≡ h = cc in (tt, sym (ap (λ (y : Halves). y .first) z), sym (ap (λ (y : Halves). y .second) z))
+cut-some false f b h e = let z : _≡_ {A = ℕ} 0 1 = cc in absurd (suc-ne-zero 0 (sym z))
+
+-- The choice `here` that divides a value into x and y is one of the numbered; with `false` no choice is put into the way.
+pub record Made (b : Bool) (hs : List Halves) (here : Way) (x y : Value) : Type 0 where
+  pub c : Numbered
+  pub member : Mem c (numbered hs)
+  pub way : mark b (c .no) ≡ here
+  pub is : c .halves ≡ halves x y
+
+pub cons-sound : (m : Matcher) (v : Value) (c : Numbered) → Mem c (numbered (consHalves m v))
+    → ConsBy m v (mark (isMultiset m) (c .no)) (c .halves .first) (c .halves .second)
+unfolding consHalves numbered isMultiset mark ConsBy pickHalves
+cons-sound something v c i = absurd (List·Memᴰ·not-nil i)
+cons-sound integer v c i = absurd (List·Memᴰ·not-nil i)
+cons-sound (list m) (int x) c i = absurd (List·Memᴰ·not-nil i)
+cons-sound (list m) (collection empty) c i = absurd (List·Memᴰ·not-nil i)
+cons-sound (list m) (collection (v ▸ vs)) c i =
+    let e = List·Memᴰ·eq-of-singleton i in (refl, ap (λ (y : Numbered). y .halves .first) e, ap (λ (y : Numbered). y .halves .second) e)
+cons-sound (list m) (tupled vs) c i = absurd (List·Memᴰ·not-nil i)
+cons-sound (multiset m) (int x) c i = absurd (List·Memᴰ·not-nil i)
+cons-sound (multiset m) (collection vs) c i =
+    let r = picked-some (at vs (c .no)) (without vs (c .no)) (c .halves) (sym (pick-nth vs (c .no)) ∙ numbered-nth (map pickHalves (picks vs)) c i) in
+    (c .no, refl, r .0, r .1)
+cons-sound (multiset m) (tupled vs) c i = absurd (List·Memᴰ·not-nil i)
+cons-sound (tupleOf ms) v c i = absurd (List·Memᴰ·not-nil i)
+
+pub cons-complete : (m : Matcher) (v : Value) (here : Way) (a b : Value) → ConsBy m v here a b → Made (isMultiset m) (consHalves m v) here a b
+unfolding consHalves numbered isMultiset mark ConsBy pickHalves optMap picked
+cons-complete something v here a b h = absurd h
+cons-complete integer v here a b h = absurd h
+cons-complete (list m) (int x) here a b h = absurd h
+cons-complete (list m) (collection empty) here a b h = absurd h
+cons-complete (list m) (collection (x ▸ xs)) here a b h = record {
+  c = record { no = 0; halves = halves x (collection xs) };
+  member = List·Memᴰ·head refl;
+  way = sym (h .0);
+  is = sym (ap₂ halves (h .1) (h .2));
+}
+cons-complete (list m) (tupled vs) here a b h = absurd h
+cons-complete (multiset m) (int x) here a b h = absurd h
+cons-complete (multiset m) (collection vs) here a b h =
+    let e : getElem? (map pickHalves (picks vs)) (h .0) ≡ some (halves a (collection (without vs (h .0)))) =
+    pick-nth vs (h .0) ∙ ap (λ o. optMap pickHalves (picked o (without vs (h .0)))) (h .2) in
+    record {
+      c = record { no = h .0; halves = halves a (collection (without vs (h .0))) };
+      member = nth-numbered (map pickHalves (picks vs)) (h .0) _ e;
+      way = sym (h .1);
+      is = ap (halves a) (sym (h .3));
+    }
+cons-complete (multiset m) (tupled vs) here a b h = absurd h
+cons-complete (tupleOf ms) v here a b h = absurd h
+
+pub join-sound : (v : Value) (c : Numbered) → Mem c (numbered (joinHalves v)) → JoinBy v (mark true (c .no)) (c .halves .first) (c .halves .second)
+unfolding joinHalves numbered mark JoinBy cutHalves
+join-sound (int x) c i = absurd (List·Memᴰ·not-nil i)
+join-sound (collection vs) c i =
+    let r = cut-some (leb (c .no) (count vs)) (front vs (c .no)) (back vs (c .no)) (c .halves)
+    (sym (cut-nth vs (c .no)) ∙ numbered-nth (map cutHalves (cuts vs)) c i) in
+    (c .no, refl, leb→le (c .no) (count vs) (r .0), r .1, r .2)
+join-sound (tupled vs) c i = absurd (List·Memᴰ·not-nil i)
+
+pub join-complete : (v : Value) (here : Way) (a b : Value) → JoinBy v here a b → Made true (joinHalves v) here a b
+unfolding joinHalves numbered mark JoinBy cutHalves optMap cutAt
+join-complete (int x) here a b h = absurd h
+join-complete (collection vs) here a b h =
+    let e : getElem? (map cutHalves (cuts vs)) (h .0) ≡ some (halves (collection (front vs (h .0))) (collection (back vs (h .0)))) =
+    cut-nth vs (h .0) ∙ ap (λ t. optMap cutHalves (cutAt t (front vs (h .0)) (back vs (h .0)))) (true-path (leb (h .0) (count vs)) (le→leb (h .0) (count vs) (h .2))) in
+    record {
+      c = record { no = h .0; halves = halves (collection (front vs (h .0))) (collection (back vs (h .0))) };
+      member = nth-numbered (map cutHalves (cuts vs)) (h .0) _ e;
+      way = sym (h .1);
+      is = ap₂ halves (sym (h .3)) (sym (h .4));
+    }
+join-complete (tupled vs) here a b h = absurd h

@@ -1,0 +1,26 @@
+-- `stepping::State::resume` meets its contract. Assumes nothing.
+use Rattle.stepping.specs.Steps.{moved, topped}
+use Rattle.stepping.proofs.Laws.{resume-rules}
+use Rattle.stepping.proofs.State.resume.Statement.{statement}
+use Rattle.stepping.proofs.State.resume.Tie as tie
+use Rattle.holding.proofs.places.wide.Reads as wide-reads
+use Rattle.stepping.proofs.sides.slot_of.Reads as slot-of-reads
+
+pub resume-spec : {M : Type 1} → statement M
+unfolding moved topped
+resume-spec =
+    tie.close
+    (tie.spec
+    (λ c κs. search resume-rules)  -- slot-of-requires
+    (λ c. search resume-rules)  -- mul
+    (λ c. search resume-rules)  -- copy
+    (λ c κs. search resume-rules)  -- wide-requires
+    (λ c. search resume-rules)  -- mul
+    (λ c. search resume-rules)  -- copy
+    (λ c κs. search resume-rules)  -- wide-requires-2
+    (λ c. search resume-rules)  -- mul
+    (λ c. search resume-rules)  -- copy
+    (λ c. search resume-rules)  -- mul
+    (λ c. search resume-rules)  -- copy
+    (λ c κs. search resume-rules)  -- wide-requires-3
+    (λ c. search resume-rules))

@@ -1,0 +1,5 @@
+-- The sum over the lines is review's formula, and the code finds it.
+pub mod Costs
+pub mod Counted
+pub mod Pile
+pub mod Sums
