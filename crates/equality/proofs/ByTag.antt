@@ -1,4 +1,4 @@
--- Equality of held values by the tag of the matcher and the tags of the values, as the code asks. Assumes nothing.
+-- A question by the tag of the matcher and the tags of the values, as the code asks. Assumes nothing.
 use mathlib.Core.Path.{_≡_, refl, sym, _∙_, ap}
 use mathlib.Core.Bool.{Bool, false}
 use mathlib.Core.List.{List}
@@ -16,10 +16,14 @@ use Rattle.matchers.specs.Places.{matcherAt}
 use Rattle.matchers.proofs.Matchers.{matcher-0, matcher-1, matcher-2, matcher-3, matcher-4, matcher-high}
 use Rattle.holding.specs.Places.{valueAt, elements, Target}
 use Rattle.holding.specs.Held.{Held, heldAt, left}
+use Rattle.equality.specs.declared.Level.{Level}
 use Rattle.equality.specs.Equality.{equalAt, leftInOrder, leftPaired, tuplesEqual}
+use Rattle.equality.specs.Levels.{levelOf, comesTo, Opens}
 use Rattle.holding.proofs.Elements.{tagOf, by-tag, second, tag-small, tuple-at}
 use Rattle.holding.proofs.Held.{held-int, held-collection, held-tuple, held-tag}
-use Rattle.equality.proofs.Matchers.{matcher-next, matcher-less, matcher-width}
+use Rattle.equality.proofs.Matchers.{matcher-next, matcher-width}
+use Rattle.equality.proofs.Marks.{marks-held}
+use Rattle.equality.proofs.Levels.{comes-2, comes-3, settled-opens, level-opens, opens-as}
 
 -- The tag of the values that a matcher compares; 3, which no value has, under something.
 abbrev pub wants : Matcher → ℕ
@@ -112,13 +116,16 @@ module _ (mt s : List ℤ) (i a am b bm k ta tb : ℕ) (g : Target s) (v : Held 
     pub tuple-bad-b : (tb ≡ 2 → ⊥) → false ≡ equalAt mt i s a am b bm
     tuple-bad-b f = bad-second 2 (ap wants (matcher-4 mt i k e z)) f
 
-    pub tuple-equal : (r : Bool) → ta ≡ 2 → tb ≡ 2 → r ≡ tuplesEqual mt (i + 1) s a b → r ≡ equalAt mt i s a am b bm
+    tuple-equal : ta ≡ 2 → tb ≡ 2 → tuplesEqual mt (i + 1) s a b ≡ equalAt mt i s a am b bm
     unfolding equalAt equal tuplesEqual
-    tuple-equal r x y j =
+    tuple-equal x y =
         let h : i + 1 + 1 ≡ i + 2 = omega arith in
         let A : heldAt s a am ≡ tupled (elements (valueAt s a)) = held-tuple s a am g (v .tag) (sym p ∙ x) ∙ tuple-at s a g (v .tag) (sym p ∙ x) in
         let B : heldAt s b bm ≡ tupled (elements (valueAt s b)) = held-tuple s b bm g (w .tag) (sym q ∙ y) ∙ tuple-at s b g (w .tag) (sym q ∙ y) in
-        j ∙ rw (matcher-4 mt i k e z, A, B, h)
+        rw (matcher-4 mt i k e z, A, B, h)
+
+    pub tuple-opens : (r : Level) → ta ≡ 2 → tb ≡ 2 → Opens mt s a r (tuplesEqual mt (i + 1) s a b) → Opens mt s a r (equalAt mt i s a am b bm)
+    tuple-opens r x y o = opens-as mt s a r _ _ o (tuple-equal x y)
 
   module _ (f : k ≡ 0 → ⊥) (h : k ≤ 4) (n : k ≡ 1 → ⊥) (o : k ≡ 4 → ⊥) where
     by-kind : (P : Type 0) → (k ≡ 2 → P) → (k ≡ 3 → P) → P
@@ -142,15 +149,23 @@ module _ (mt s : List ℤ) (i a am b bm k ta tb : ℕ) (g : Target s) (v : Held 
     bad-b x = bad-second 1 wants-one x
 
     module _ (x : ta ≡ 1) (y : tb ≡ 1) where
-      pub list-equal : (r : Bool) → k ≡ 2 → r ≡ leftInOrder mt (i + 1) s a am b bm → r ≡ equalAt mt i s a am b bm
+      list-equal : k ≡ 2 → leftInOrder mt (i + 1) s a am b bm ≡ equalAt mt i s a am b bm
       unfolding equalAt equal leftInOrder
-      list-equal r z j = j ∙ rw (matcher-2 mt i k e z, held-collection s a am g (v .tag) (sym p ∙ x), held-collection s b bm g (w .tag) (sym q ∙ y))
+      list-equal z = rw (matcher-2 mt i k e z, held-collection s a am g (v .tag) (sym p ∙ x), held-collection s b bm g (w .tag) (sym q ∙ y))
 
-      pub multiset-equal : (r : Bool) → (k ≡ 2 → ⊥) → r ≡ leftPaired mt (i + 1) s a am b bm → r ≡ equalAt mt i s a am b bm
+      multiset-equal : k ≡ 3 → leftPaired mt (i + 1) s a am b bm ≡ equalAt mt i s a am b bm
       unfolding equalAt leftPaired
-      multiset-equal r z j = j ∙ by-kind _ (λ c. absurd (z c))
-          (λ c. rw (matcher-3 mt i k e c, held-collection s a am g (v .tag) (sym p ∙ x), held-collection s b bm g (w .tag) (sym q ∙ y))
-          (sym (multisets-greedy (matcherAt mt (i + 1)) (left s a am) (left s b bm))))
+      multiset-equal z = rw (matcher-3 mt i k e z, held-collection s a am g (v .tag) (sym p ∙ x), held-collection s b bm g (w .tag) (sym q ∙ y))
+          (sym (multisets-greedy (matcherAt mt (i + 1)) (left s a am) (left s b bm)))
+
+      both-comes : comesTo mt s (levelOf k (i + 1) a am b bm) ≡ equalAt mt i s a am b bm
+      unfolding levelOf
+      both-comes = by-kind _
+          (λ z. comes-2 (levelOf k (i + 1) a am b bm) mt s g (marks-held s b bm w) (λ u. omega arith) (λ u. omega arith) ∙ list-equal z)
+          (λ z. comes-3 (levelOf k (i + 1) a am b bm) mt s g (marks-held s b bm w) z refl (marks-held s a am v) ∙ multiset-equal z)
+
+      pub both-opens : (r : Level) → r ≡ levelOf k (i + 1) a am b bm → Opens mt s a r (equalAt mt i s a am b bm)
+      both-opens r u = level-opens mt s k (i + 1) a am b bm _ r (marks-held s a am v) (marks-held s b bm w) u both-comes
 
 -- What the calls ask.
 pub held-number : (s : List ℤ) (a am : ℕ) → Target s → Held s a am → tagAt s a < 2147483648
@@ -159,6 +174,6 @@ held-number s a am g w = tag-small s a g (w .tag)
 pub held-second : (s : List ℤ) (a am : ℕ) → Target s → Held s a am → a + 1 < length s
 held-second s a am g w = second s a g (w .tag)
 
-pub ruleset equal-rules = (equal-0, equal-high, int-bad-a, int-bad-b, int-equal, tuple-bad-a, tuple-bad-b, tuple-equal, bad-a, bad-b, list-equal, multiset-equal, matcher-next, matcher-less, matcher-width, held-number, held-second, held-tag, needs)
+pub ruleset opened-rules = (equal-0, equal-high, int-bad-a, int-bad-b, int-equal, tuple-bad-a, tuple-bad-b, tuple-opens, bad-a, bad-b, both-opens, settled-opens, matcher-next, matcher-width, held-number, held-second, held-tag, needs)
 
-pub ruleset call-rules = (matcher-less, matcher-width, held-tag, needs)
+pub ruleset tuples-call = (matcher-width, held-tag, needs)

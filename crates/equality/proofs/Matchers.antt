@@ -16,9 +16,6 @@ module _ (mt : List ℤ) (i k : ℕ) (e : k ≡ tagAt mt i) (h : k ≤ 4) where
   pub matcher-next : length mt < 2 ^ 64 → Fits w64 (i + 1)
   matcher-next l = record { fits = omega (arith, matcher-inside mt i k e h) }
 
-  pub matcher-less : (d : ℕ) → 4 * (length mt - i) ≡ d → 4 * (length mt - (i + 1)) + 3 < d
-  matcher-less d z = omega (arith, matcher-inside mt i k e h)
-
   pub matcher-width : i + 1 ≤ length mt
   matcher-width = omega (arith, matcher-inside mt i k e h)
 

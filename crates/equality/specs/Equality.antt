@@ -1,5 +1,5 @@
 -- Document 01, section 4, tag 3: equality of held values under a matcher, as the code goes about it.
-use Prim.Native.Nat.{ℕ, _+_, _-_}
+use Prim.Native.Nat.{ℕ, _+_}
 use mathlib.Core.Bool.{Bool, true, false, cond}
 use mathlib.Core.Option.{Option, none, some}
 use mathlib.Core.List.{List, [], _∷_}
@@ -12,7 +12,7 @@ use Rattle.promises.specs.Pairing.{greedy}
 use Rattle.marks.specs.Marked.{nth}
 use Rattle.marks.specs.Marks.{positions}
 use Rattle.matchers.specs.Places.{widthAt, matcherAt, matchersAt}
-use Rattle.holding.specs.Places.{lasts, valueAt, elements}
+use Rattle.holding.specs.Places.{valueAt, elements}
 use Rattle.holding.specs.Held.{heldAt, left}
 
 -- Two held values under the matcher at an index of its words; two whole values.
@@ -37,11 +37,6 @@ leftPaired mt i s a x b y = greedy (equal (matcherAt mt i)) (left s a x) (left s
 unfoldable pub tuplesEqual : List ℤ → ℕ → List ℤ → ℕ → ℕ → Bool
 unfolding widthAt matchersAt
 tuplesEqual mt i s a b = equalParts (matchersAt mt (widthAt mt i) (i + 1)) (elements (valueAt s a)) (elements (valueAt s b))
-
--- Part k and those after it, of n; the matcher of part k is at an index.
-unfoldable pub partsEqual : List ℤ → ℕ → List ℤ → (a b n k : ℕ) → Bool
-unfolding matchersAt lasts elements
-partsEqual mt i s a b n k = equalParts (matchersAt mt (n - k) i) (lasts k (elements (valueAt s a))) (lasts k (elements (valueAt s b)))
 
 -- The first of these places whose element passes; 64 where none does.
 unfoldable pub firstIn : (Value → Bool) → Values → List ℕ → ℕ

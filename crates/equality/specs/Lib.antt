@@ -1,2 +1,3 @@
 -- Equality of held values.
 pub mod Equality
+pub mod Levels

@@ -1,8 +1,10 @@
-// Document 01, section 4, tag 3: equality of two held values under a matcher, recursive by its levels; multisets by marking off, tuples part by part.
+// Document 01, section 4, tag 3: equality of two held values under a matcher. Nested collections and tuples are compared in one loop, which keeps its
+// place in a table of eight levels; multisets by marking off, tuples part by part.
 use holding::places::count_at;
 use holding::places::element;
 use holding::places::number_at;
 use holding::places::whole;
+use marks::full;
 use marks::lowest;
 use marks::rest;
 use marks::without;
@@ -12,14 +14,15 @@ use words::Total;
 use words::sum;
 use words::tag_at;
 ghost use mathlib.Core.Path.{_≡_};
-ghost use Prim.Native.Nat.{_+_, _<_, _≤_};
+ghost use Prim.Native.Nat.{_+_, _^_, _<_, _≤_};
 ghost use lib.ListN.{length, getD};
 ghost use lib.IntN.{pos};
 ghost use Rattle.rules.specs.Numbers.{same};
-ghost use Rattle.holding.specs.Places.{countAt, Target, Tag};
+ghost use Rattle.holding.specs.Places.{Target, Tag};
 ghost use Rattle.holding.specs.Tables.{Places};
 ghost use Rattle.holding.specs.Held.{Held};
-ghost use Rattle.equality.specs.Equality.{equalAt, wholesEqual, leftInOrder, leftPaired, tuplesEqual, partsEqual, firstEqual, isSum};
+ghost use Rattle.equality.specs.Equality.{equalAt, tuplesEqual, isSum};
+ghost use Rattle.equality.specs.Levels.{endedOf, outcomeOf, levelOf, onwardOf, settledOf, takenOf, questionOf, firstOf, Open, Opens};
 
 // Whether two words are equal.
 fn alike(x: i32, y: i32) -> bool
@@ -56,6 +59,178 @@ fn same_number(s: &[i32], a: usize, b: usize) -> bool
     s[a + 1] == s[b + 1]
 }
 
+// A level: two collections or two tuples, of which the elements or parts marked x and y are still to be compared. kind: 2 in order, 3 marking off, 4 part
+// by part. The next question is the lowest of x and the lowest of z, under the matcher at `at`; z are the marks of y that are still to try for it.
+// Nothing is left to ask where x or z is none: the level's answer is whether neither x nor y is left.
+pub struct Level {
+    pub kind: u32,
+    pub at: usize,
+    pub a: usize,
+    pub x: u64,
+    pub b: usize,
+    pub y: u64,
+    pub z: u64,
+}
+
+// Whether nothing is left to ask, and then the answer.
+fn ended(x: u64, z: u64) -> bool
+    ensures { λ r. ⌜ r ≡ endedOf x z ⌝ }
+{
+    if x == 0 {
+        return true;
+    }
+    z == 0
+}
+
+fn outcome(x: u64, y: u64) -> bool
+    ensures { λ r. ⌜ r ≡ outcomeOf x y ⌝ }
+{
+    if x == 0 {
+        return y == 0;
+    }
+    false
+}
+
+// A level with all of y to try.
+fn begun(kind: u32, at: usize, a: usize, x: u64, b: usize, y: u64) -> Level
+    ensures { λ r. ⌜ r ≡ levelOf kind at a x b y ⌝ }
+{
+    Level {
+        kind: kind,
+        at: at,
+        a: a,
+        x: x,
+        b: b,
+        y: y,
+        z: y,
+    }
+}
+
+// A level that has its answer.
+fn settled(a: usize, b: usize, yes: bool) -> Level
+    ensures { λ r. ⌜ r ≡ settledOf a b yes ⌝ }
+{
+    if yes {
+        return begun(2, 0, a, 0, b, 0);
+    }
+    begun(2, 0, a, 0, b, 1)
+}
+
+// Two tuples; the width of their matcher stands at i.
+fn tuples(mt: &[i32], i: usize, s: &[i32], a: usize, b: usize) -> Level
+    requires { ⌜ Target (now s) ⌝ ∗ ⌜ Tag (now s) a ⌝ ∗ ⌜ Tag (now s) b ⌝ ∗ ⌜ i ≤ length (now mt) ⌝ }
+    ensures { λ r. ⌜ Opens (now (mt .entry)) (now (s .entry)) a r (tuplesEqual (now (mt .entry)) i (now (s .entry)) a b) ⌝ }
+{
+    let w = width_at(mt, i);
+    let n = count_at(s, a);
+    let m = count_at(s, b);
+    if n != m {
+        return settled(a, b, false);
+    }
+    if wide_count(n) != w {
+        return settled(a, b, false);
+    }
+    let x = full(n);
+    begun(4, i + 1, a, x, b, x)
+}
+
+// The question whether two held values are equal under the matcher whose words start at i.
+fn opened(mt: &[i32], i: usize, s: &[i32], a: usize, am: u64, b: usize, bm: u64) -> Level
+    requires { ⌜ Target (now s) ⌝ ∗ ⌜ Held (now s) a am ⌝ ∗ ⌜ Held (now s) b bm ⌝ }
+    ensures { λ r. ⌜ Opens (now (mt .entry)) (now (s .entry)) a r (equalAt (now (mt .entry)) i (now (s .entry)) a am b bm) ⌝ }
+{
+    let k = tag_at(mt, i);
+    if k == 0 {
+        return settled(a, b, false);
+    }
+    if 4 < k {
+        return settled(a, b, false);
+    }
+    let ta = number_at(s, a);
+    let tb = number_at(s, b);
+    if k == 1 {
+        if ta != 0 {
+            return settled(a, b, false);
+        }
+        if tb != 0 {
+            return settled(a, b, false);
+        }
+        let same = same_number(s, a, b);
+        return settled(a, b, same);
+    }
+    if k == 4 {
+        if ta != 2 {
+            return settled(a, b, false);
+        }
+        if tb != 2 {
+            return settled(a, b, false);
+        }
+        return tuples(mt, i + 1, s, a, b);
+    }
+    if ta != 1 {
+        return settled(a, b, false);
+    }
+    if tb != 1 {
+        return settled(a, b, false);
+    }
+    begun(k, i + 1, a, am, b, bm)
+}
+
+// The matcher of what is compared next: the same, or that of the next part.
+fn onward(mt: &[i32], kind: u32, at: usize) -> usize
+    ensures { λ r. ⌜ r ≡ onwardOf (now (mt .entry)) kind at ⌝ }
+{
+    if kind == 4 {
+        return matcher_end(mt, at);
+    }
+    at
+}
+
+// The level with the answer to its question: the two are taken away; or, where they are unlike, there may be others to try.
+fn taken(mt: &[i32], l: Level, yes: bool) -> Level
+    requires { ⌜ (0 < l .x) × (0 < l .z) × (l .z < 2 ^ 64) ⌝ }
+    ensures { λ r. ⌜ r ≡ takenOf (now (mt .entry)) l yes ⌝ }
+{
+    let kind = l.kind;
+    let at = l.at;
+    let a = l.a;
+    let x = l.x;
+    let b = l.b;
+    let y = l.y;
+    let z = l.z;
+    if yes {
+        let next = onward(mt, kind, at);
+        let left = without(y, lowest(z));
+        return begun(kind, next, a, rest(x), b, left);
+    }
+    if kind == 3 {
+        return Level {
+            kind: kind,
+            at: at,
+            a: a,
+            x: x,
+            b: b,
+            y: y,
+            z: rest(z),
+        };
+    }
+    settled(a, b, false)
+}
+
+// The level's question.
+fn asked(mt: &[i32], s: &[i32], base: &[u16; 512], places: &[u16; 512], l: Level) -> Level
+    requires { ⌜ Target (now s) ⌝ ∗ ⌜ Places (now s) (now base) (now places) ⌝ ∗ ⌜ Open (now s) l ⌝ ∗ ⌜ (0 < l .x) × (0 < l .z) ⌝ }
+    ensures { λ r. ⌜ Opens (now (mt .entry)) (now (s .entry)) (firstOf (now (s .entry)) l) r (questionOf (now (mt .entry)) (now (s .entry)) l) ⌝ }
+{
+    let j = lowest(l.x);
+    let k = lowest(l.z);
+    let e = element(s, base, places, l.a, j);
+    let f = element(s, base, places, l.b, k);
+    let x = whole(s, e);
+    let y = whole(s, f);
+    opened(mt, l.at, s, e, x, f, y)
+}
+
 // Two held values under the matcher whose words start at i.
 pub fn equal(
     mt: &[i32],
@@ -71,205 +246,22 @@ pub fn equal(
     requires { ⌜ Target (now s) ⌝ ∗ ⌜ Places (now s) (now base) (now places) ⌝ ∗ ⌜ Held (now s) a am ⌝ ∗ ⌜ Held (now s) b bm ⌝ }
     ensures { λ r. ⌜ r ≡ equalAt (now (mt .entry)) i (now (s .entry)) a am b bm ⌝ }
 {
-    let k = tag_at(mt, i);
-    if k == 0 {
-        return false;
-    }
-    if 4 < k {
-        return false;
-    }
-    let ta = number_at(s, a);
-    let tb = number_at(s, b);
-    if k == 1 {
-        if ta != 0 {
-            return false;
+    let mut l = opened(mt, i, s, a, am, b, bm);
+    let mut levels = [l; 8];
+    let mut depth: usize = 0;
+    loop {
+        let done = ended(l.x, l.z);
+        if done {
+            let yes = outcome(l.x, l.y);
+            if depth == 0 {
+                return yes;
+            }
+            depth -= 1;
+            l = taken(mt, levels[depth], yes);
+        } else {
+            levels[depth] = l;
+            depth += 1;
+            l = asked(mt, s, base, places, l);
         }
-        if tb != 0 {
-            return false;
-        }
-        return same_number(s, a, b);
     }
-    if k == 4 {
-        if ta != 2 {
-            return false;
-        }
-        if tb != 2 {
-            return false;
-        }
-        return equal_tuples(mt, i + 1, s, base, places, a, b);
-    }
-    if ta != 1 {
-        return false;
-    }
-    if tb != 1 {
-        return false;
-    }
-    if k == 2 {
-        return in_order(mt, i + 1, s, base, places, a, am, b, bm);
-    }
-    paired_off(mt, i + 1, s, base, places, a, am, b, bm)
-}
-
-// Two whole values.
-fn equal_wholes(
-    mt: &[i32],
-    i: usize,
-    s: &[i32],
-    base: &[u16; 512],
-    places: &[u16; 512],
-    a: usize,
-    b: usize,
-) -> bool
-    requires { ⌜ Target (now s) ⌝ ∗ ⌜ Places (now s) (now base) (now places) ⌝ ∗ ⌜ Tag (now s) a ⌝ ∗ ⌜ Tag (now s) b ⌝ }
-    ensures { λ r. ⌜ r ≡ wholesEqual (now (mt .entry)) i (now (s .entry)) a b ⌝ }
-{
-    let x = whole(s, a);
-    let y = whole(s, b);
-    equal(mt, i, s, base, places, a, x, b, y)
-}
-
-// The elements that are left of two collections, one by one in order.
-fn in_order(
-    mt: &[i32],
-    i: usize,
-    s: &[i32],
-    base: &[u16; 512],
-    places: &[u16; 512],
-    a: usize,
-    am: u64,
-    b: usize,
-    bm: u64,
-) -> bool
-    requires { ⌜ Target (now s) ⌝ ∗ ⌜ Places (now s) (now base) (now places) ⌝ ∗ ⌜ Held (now s) a am ⌝ ∗ ⌜ Held (now s) b bm ⌝ }
-    ensures { λ r. ⌜ r ≡ leftInOrder (now (mt .entry)) i (now (s .entry)) a am b bm ⌝ }
-{
-    let mut x = am;
-    let mut y = bm;
-    while 0 < x {
-        if y == 0 {
-            return false;
-        }
-        let j = lowest(x);
-        let k = lowest(y);
-        let e = element(s, base, places, a, j);
-        let f = element(s, base, places, b, k);
-        let same = equal_wholes(mt, i, s, base, places, e, f);
-        if !same {
-            return false;
-        }
-        x = rest(x);
-        y = rest(y);
-    }
-    y == 0
-}
-
-// The place of the first element that is left and equals the value at a; 64 where there is none.
-fn first_equal(
-    mt: &[i32],
-    i: usize,
-    s: &[i32],
-    base: &[u16; 512],
-    places: &[u16; 512],
-    a: usize,
-    b: usize,
-    bm: u64,
-) -> u32
-    requires { ⌜ Target (now s) ⌝ ∗ ⌜ Places (now s) (now base) (now places) ⌝ ∗ ⌜ Tag (now s) a ⌝ ∗ ⌜ Held (now s) b bm ⌝ }
-    ensures { λ r. ⌜ r ≡ firstEqual (now (mt .entry)) i (now (s .entry)) a b bm ⌝ }
-{
-    let mut y = bm;
-    while 0 < y {
-        let k = lowest(y);
-        let f = element(s, base, places, b, k);
-        let same = equal_wholes(mt, i, s, base, places, a, f);
-        if same {
-            return k;
-        }
-        y = rest(y);
-    }
-    64
-}
-
-// The elements that are left of two collections, each marked off with the first equal one.
-fn paired_off(
-    mt: &[i32],
-    i: usize,
-    s: &[i32],
-    base: &[u16; 512],
-    places: &[u16; 512],
-    a: usize,
-    am: u64,
-    b: usize,
-    bm: u64,
-) -> bool
-    requires { ⌜ Target (now s) ⌝ ∗ ⌜ Places (now s) (now base) (now places) ⌝ ∗ ⌜ Held (now s) a am ⌝ ∗ ⌜ Held (now s) b bm ⌝ }
-    ensures { λ r. ⌜ r ≡ leftPaired (now (mt .entry)) i (now (s .entry)) a am b bm ⌝ }
-{
-    let mut x = am;
-    let mut y = bm;
-    while 0 < x {
-        let j = lowest(x);
-        let e = element(s, base, places, a, j);
-        let k = first_equal(mt, i, s, base, places, e, b, y);
-        if k == 64 {
-            return false;
-        }
-        x = rest(x);
-        y = without(y, k);
-    }
-    y == 0
-}
-
-// Two tuples; the width of their matcher stands at i.
-fn equal_tuples(
-    mt: &[i32],
-    i: usize,
-    s: &[i32],
-    base: &[u16; 512],
-    places: &[u16; 512],
-    a: usize,
-    b: usize,
-) -> bool
-    requires { ⌜ Target (now s) ⌝ ∗ ⌜ Places (now s) (now base) (now places) ⌝ ∗ ⌜ Tag (now s) a ⌝ ∗ ⌜ Tag (now s) b ⌝ ∗ ⌜ i ≤ length (now mt) ⌝ }
-    ensures { λ r. ⌜ r ≡ tuplesEqual (now (mt .entry)) i (now (s .entry)) a b ⌝ }
-{
-    let w = width_at(mt, i);
-    let n = count_at(s, a);
-    let m = count_at(s, b);
-    if n != m {
-        return false;
-    }
-    if wide_count(n) != w {
-        return false;
-    }
-    equal_parts(mt, i + 1, s, base, places, a, b, n)
-}
-
-// The n parts of two tuples one by one, each under its own matcher; the first of these starts at i.
-fn equal_parts(
-    mt: &[i32],
-    i: usize,
-    s: &[i32],
-    base: &[u16; 512],
-    places: &[u16; 512],
-    a: usize,
-    b: usize,
-    n: u32,
-) -> bool
-    requires { ⌜ Target (now s) ⌝ ∗ ⌜ Places (now s) (now base) (now places) ⌝ ∗ ⌜ Tag (now s) a ⌝ ∗ ⌜ Tag (now s) b ⌝ ∗ ⌜ (n ≡ countAt (now s) a) × (n ≡ countAt (now s) b) ⌝ }
-    ensures { λ r. ⌜ r ≡ partsEqual (now (mt .entry)) i (now (s .entry)) a b n 0 ⌝ }
-{
-    let mut at = i;
-    let mut k: u32 = 0;
-    while k < n {
-        let e = element(s, base, places, a, k);
-        let f = element(s, base, places, b, k);
-        let same = equal_wholes(mt, at, s, base, places, e, f);
-        if !same {
-            return false;
-        }
-        at = matcher_end(mt, at);
-        k += 1;
-    }
-    true
 }

@@ -9,12 +9,12 @@ use lib.Seq.{getD-drop}
 use lib.IntN.{ℤ, pos, negsuc}
 use Rattle.rules.specs.Forms.{Value, int, collection, tupled, Values, empty, _▸_, count, words, wordsAll}
 use Rattle.rules.specs.Reading.{ok, readTarget}
-use Rattle.promises.specs.Written.{largest, Widths, length-words}
+use Rattle.promises.specs.Written.{deepest, deepestOf, largest, Widths, length-words}
 use Rattle.promises.specs.ReadTarget.{target-read}
 use Rattle.words.specs.Words.{tagZ, tagAt}
 use Rattle.holding.specs.Places.{forest, headOf, valueAt, countBy, countAt, Target, Tag}
 use Rattle.holding.specs.Held.{Held, heldAt, wholeAt}
-use Rattle.holding.proofs.Forest.{widest, widestOf, widest-64, forest-flat, tail-flat, two-words}
+use Rattle.holding.proofs.Forest.{widest, widestOf, widest-64, forest-flat, tail-flat, tail-deep, two-words}
 use Rattle.holding.proofs.Held.{whole-held, whole-value}
 
 first-of : (s : List ℤ) (at : ℕ) (x : ℤ) (l : List ℤ) → drop at s ≡ x ∷ l → getD s at (negsuc 0) ≡ x
@@ -43,15 +43,29 @@ one-widest : (v : Value) → largest v ≤ 64 → Widths v → widestOf (v ▸ e
 unfolding widestOf
 one-widest v h w = omega (arith, widest-64 v h w)
 
+one-deep : (v : Value) → deepest v ≤ 8 → deepestOf (v ▸ empty) ≤ 8
+unfolding deepestOf
+one-deep v h = omega arith
+
+head-deep : (d : ℕ) (us : Values) → deepestOf us ≤ d → deepest (headOf us) ≤ d
+unfolding deepest deepestOf
+head-deep d empty h = omega arith
+head-deep d (u ▸ us) h = omega arith
+
 one-forest : (v : Value) → forest (words v) ≡ v ▸ empty
 one-forest v = ap forest (one-value v) ∙ forest-flat (v ▸ empty)
 
-pub target-words : (v : Value) → largest v ≤ 64 → Widths v → length (words v) ≤ 1024 → Target (words v)
-target-words v h k l = record {
+deep-here : (v : Value) (at : ℕ) → at % 2 ≡ 0 → deepest v ≤ 8 → deepest (valueAt (words v) at) ≤ 8
+unfolding valueAt
+deep-here v at e h = rw (one-value v) (head-deep 8 (forest (drop at (wordsAll (v ▸ empty)))) (tail-deep 8 at e (v ▸ empty) (one-deep v h)))
+
+pub target-words : (v : Value) → largest v ≤ 64 → deepest v ≤ 8 → Widths v → length (words v) ≤ 1024 → Target (words v)
+target-words v h m k l = record {
   whole = one-value v ∙ ap wordsAll (sym (one-forest v));
   small = λ at w.
       let r = tail-flat 64 at (w .even) (v ▸ empty) (one-widest v h k) in
       count-here (words v) at (r .0) (ap (drop at) (one-value v) ∙ r .1) (r .2) (w .inside);
+  deep = λ at w. deep-here v at (w .even) m;
   short = l;
 }
 
@@ -67,7 +81,7 @@ module _ (ts : List ℤ) (v : Value) (e : readTarget ts ≡ ok v) where
   read-words = target-read ts v .0 e .0
 
   pub read-target : Target ts
-  read-target = let r = target-read ts v .0 e in subst Target (sym read-words) (target-words v (r .2) (r .4) (rw read-words at (r .1)))
+  read-target = let r = target-read ts v .0 e in subst Target (sym read-words) (target-words v (r .2) (r .3) (r .4) (rw read-words at (r .1)))
 
   pub read-tag : Tag ts 0
   read-tag = subst (λ (l : List ℤ). Tag l 0) (sym read-words) (tag-words v)

@@ -7,7 +7,7 @@ use lib.ListN.{length, drop, length-append, length-drop}
 use lib.Seq.{drop-drop, drop-append-seam}
 use lib.IntN.{ℤ}
 use Rattle.rules.specs.Forms.{Value, int, collection, tupled, Values, empty, _▸_, count, words, wordsAll, size, sizeAll}
-use Rattle.promises.specs.Written.{largest, largestOf, IsWidth, Widths, WidthsAll, length-words, length-words-all}
+use Rattle.promises.specs.Written.{deepest, deepestOf, largest, largestOf, IsWidth, Widths, WidthsAll, length-words, length-words-all}
 use Rattle.holding.specs.Places.{firsts, lasts, forest, headOf, valueAt, Target, Tag, Standing, hops}
 
 -- Values one after the other.
@@ -114,6 +114,23 @@ tail-flat b (suc (suc at)) e (tupled vs ▸ fs) h =
 pub forest-flat : (us : Values) → forest (wordsAll us) ≡ us
 unfolding forest
 forest-flat us = ap forest (sym (append-nil (wordsAll us))) ∙ forest-all us [] ∙ follow-nil us
+
+-- Nor deeper.
+deep-follow : (d : ℕ) (vs us : Values) → deepestOf vs ≤ d → deepestOf us ≤ d → deepestOf (follow vs us) ≤ d
+unfolding follow deepestOf
+deep-follow d empty us h l = l
+deep-follow d (v ▸ vs) us h l = let r = deep-follow d vs us (omega arith) l in omega arith
+
+pub tail-deep : (d at : ℕ) → at % 2 ≡ 0 → (fs : Values) → deepestOf fs ≤ d → deepestOf (forest (drop at (wordsAll fs))) ≤ d
+unfolding words wordsAll deepest deepestOf forest
+tail-deep d zero e fs h = rw (forest-flat fs) h
+tail-deep d (suc zero) e fs h = absurd (omega arith)
+tail-deep d (suc (suc at)) e empty h = omega arith
+tail-deep d (suc (suc at)) e (int x ▸ fs) h = tail-deep d at (omega arith) fs (omega arith)
+tail-deep d (suc (suc at)) e (collection vs ▸ fs) h =
+    rw (← words-follow vs fs) (tail-deep d at (omega arith) (follow vs fs) (deep-follow d vs fs (omega arith) (omega arith)))
+tail-deep d (suc (suc at)) e (tupled vs ▸ fs) h =
+    rw (← words-follow vs fs) (tail-deep d at (omega arith) (follow vs fs) (deep-follow d vs fs (omega arith) (omega arith)))
 
 pub flat-at : (s : List ℤ) (at : ℕ) → Target s → at % 2 ≡ 0 → drop at s ≡ wordsAll (forest (drop at s))
 flat-at s at g e =

@@ -6,6 +6,7 @@ use mathlib.Core.List.{List, [], _∷_}
 use lib.ListN.{length, drop}
 use lib.IntN.{ℤ, pos}
 use Rattle.rules.specs.Forms.{Value, int, collection, tupled, Values, empty, _▸_, count, wordsAll, sizeAll}
+use Rattle.promises.specs.Written.{deepest}
 use Rattle.words.specs.Words.{tagZ, tagAt}
 
 -- The first n values, and those after them.
@@ -66,10 +67,12 @@ pub record Tag (s : List ℤ) (at : ℕ) : Type 0 where
   pub even : at % 2 ≡ 0
   pub inside : at < length s
 
--- A target's words are those of values, one after the other; a collection has at most 64 elements, and a tuple no more parts; at most 1,024 words.
+-- A target's words are those of values, one after the other; a collection has at most 64 elements, and a tuple no more parts; collections and tuples
+-- stand at most 8 deep; at most 1,024 words.
 pub record Target (s : List ℤ) : Type 0 where
   pub whole : s ≡ wordsAll (forest s)
   pub small : (at : ℕ) → Tag s at → countAt s at ≤ 64
+  pub deep : (at : ℕ) → Tag s at → deepest (valueAt s at) ≤ 8
   pub short : length s ≤ 1024
 
 -- k values stand one after the other from e on, and where they end.
