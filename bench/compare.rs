@@ -9,9 +9,9 @@ const GUARD: usize = 8;
 pub struct Tally {
     pub inputs: u64,
     pub differ: u64,
-    pub answers: [u64; 11],
-    pub tuples: [u64; 11],
-    pub choices: [u64; 11],
+    pub answers: [u64; 12],
+    pub tuples: [u64; 12],
+    pub choices: [u64; 12],
 }
 
 struct Seen<T> {
@@ -97,7 +97,7 @@ impl Tally {
 }
 
 pub fn random(services: &Services, inputs: u64, seed: u64) -> Tally {
-    let mut tally = Tally { inputs: 0, differ: 0, answers: [0; 11], tuples: [0; 11], choices: [0; 11] };
+    let mut tally = Tally { inputs: 0, differ: 0, answers: [0; 12], tuples: [0; 12], choices: [0; 12] };
     let mut r = Random(seed);
     while tally.inputs < inputs {
         tally.one(&mut r, services);

@@ -45,7 +45,7 @@ fn run_comparison(inputs: u64, seed: u64) -> bool {
     println!("{}: {} slices too short for the numbers, answer 24, nothing written", TESTED.name, library::short());
     let tally = compare::random(&TESTED, inputs, seed);
     println!("{} against the reference: {} random inputs, {} differ", TESTED.name, tally.inputs, tally.differ);
-    println!("  by answer, 0 to 10: {:?}", tally.answers);
+    println!("  by answer, 0 to 11: {:?}", tally.answers);
     println!("  of these under tuples: {:?}", tally.tuples);
     println!("  of these with and, or, not: {:?}", tally.choices);
     tally.differ == 0

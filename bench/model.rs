@@ -1,4 +1,4 @@
-//! Document 01, with tuples, sums, and, or, not of document 02, written out sentence by sentence over trees and lists of states: slow, and unlike the reference in every way, to check that one by.
+//! Document 01, with the requests No. 1, 2, 3 and 5 of document 02, written out sentence by sentence over trees and lists of states: slow, and unlike the reference in every way, to check that one by.
 
 use crate::reference::{Matched, Reviewed};
 
@@ -506,11 +506,24 @@ fn weight(p: &Pattern, m: &Matcher, cap: Capped) -> (Capped, Capped) {
     }
 }
 
+/// Document 02, No. 5: whether a pattern has a tag that can fail.
+fn can_fail(p: &Pattern) -> bool {
+    match &p.form {
+        Form::Wildcard | Form::Variable(_) => false,
+        Form::Constant(_) | Form::Value(..) | Form::Nil | Form::Cons(..) | Form::Not(_) => true,
+        Form::Join(a, b) | Form::And(a, b) | Form::Or(a, b) => can_fail(a) || can_fail(b),
+        Form::Tuple(ps) => ps.iter().any(can_fail),
+    }
+}
+
 pub fn review(matcher: &[i32], pattern: &[i32], cap: i32) -> Reviewed {
     let (m, p) = match rule(matcher, pattern) {
         Ok(rule) => rule,
         Err((answer, place)) => return [answer, place as u64, 0],
     };
+    if !can_fail(&p) {
+        return [11, 0, 0];
+    }
     if !(0..=64).contains(&cap) {
         return [9, 0, 0];
     }

@@ -1,4 +1,4 @@
-//! Document 01, with tuples, sums, and, or, not of document 02, by plain recursion on the words, as a good Rust engineer would write it: no tree, no heap.
+//! Document 01, with the requests No. 1, 2, 3 and 5 of document 02, by plain recursion on the words, as a good Rust engineer would write it: no tree, no heap.
 //! It knows nothing of the library and nothing of the proofs.
 
 /// Match's five numbers: answer, place, rows, steps, words written.
@@ -778,10 +778,25 @@ impl Weighing<'_> {
     }
 }
 
+/// Whether a whole pattern has none of the tags 2, 3, 4, 5 and none of 10: tag after tag, past the operands.
+fn always_true(pattern: &[i32]) -> bool {
+    let mut at = 0;
+    while let Some(&tag) = pattern.get(at) {
+        if matches!(tag, CONSTANT | VALUE | NIL | CONS | NOT) {
+            return false;
+        }
+        at += 1 + operands(tag);
+    }
+    true
+}
+
 pub fn review(matcher: &[i32], pattern: &[i32], cap: i32) -> Reviewed {
     let mut rule = Rule { matcher_ends: [0; 64], ends: [0; 256] };
     if let Err((answer, place)) = read_rule(matcher, pattern, &mut rule) {
         return [answer, place, 0];
+    }
+    if always_true(pattern) {
+        return [11, 0, 0];
     }
     if !(0..=64).contains(&cap) {
         return [9, 0, 0];

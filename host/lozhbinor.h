@@ -35,18 +35,19 @@ extern "C" {
 
 /* The answers. */
 enum {
-    LOZHBINOR_DONE = 0,     /* every row found is in the room; 0 rows: none exists */
-    LOZHBINOR_MATCHER = 1,  /* over 64 words, or not one whole matcher in the limits */
-    LOZHBINOR_PATTERN = 2,  /* over 256 words, or not one whole pattern */
-    LOZHBINOR_VARIABLE = 3, /* a variable is out of order, or inside an or or a not */
-    LOZHBINOR_MISFIT = 4,   /* the pattern does not fit the matcher */
-    LOZHBINOR_TARGET = 5,   /* over 1,024 words, or not one whole target in the limits */
-    LOZHBINOR_UNFIT = 6,    /* the target does not fit the matcher */
-    LOZHBINOR_BUDGET = 7,   /* the budget is used up and states remain */
-    LOZHBINOR_FULL = 8,     /* a row did not fit into the room */
-    LOZHBINOR_CAP = 9,      /* review: the cap is outside 0 to 64 */
-    LOZHBINOR_TOO_BIG = 10, /* review: the count passes 4,294,967,295 */
-    LOZHBINOR_SHORT = 24    /* `numbers` is too short; nothing was written */
+    LOZHBINOR_DONE = 0,         /* every row found is in the room; 0 rows: none exists */
+    LOZHBINOR_MATCHER = 1,      /* over 64 words, or not one whole matcher in the limits */
+    LOZHBINOR_PATTERN = 2,      /* over 256 words, or not one whole pattern */
+    LOZHBINOR_VARIABLE = 3,     /* a variable is out of order, or inside an or or a not */
+    LOZHBINOR_MISFIT = 4,       /* the pattern does not fit the matcher */
+    LOZHBINOR_TARGET = 5,       /* over 1,024 words, or not one whole target in the limits */
+    LOZHBINOR_UNFIT = 6,        /* the target does not fit the matcher */
+    LOZHBINOR_BUDGET = 7,       /* the budget is used up and states remain */
+    LOZHBINOR_FULL = 8,         /* a row did not fit into the room */
+    LOZHBINOR_CAP = 9,          /* review: the cap is outside 0 to 64 */
+    LOZHBINOR_TOO_BIG = 10,     /* review: the count passes 4,294,967,295 */
+    LOZHBINOR_ALWAYS_TRUE = 11, /* review: no tag of the pattern can fail; before 9 and 10 */
+    LOZHBINOR_SHORT = 24        /* `numbers` is too short; nothing was written */
 };
 
 /* The numbers of match, in this order: answer, place, rows, steps, words. */
@@ -72,7 +73,8 @@ uint32_t lozhbinor_match(const int32_t *matcher, size_t matcher_words,
                          uint8_t *numbers, size_t numbers_bytes);
 
 /* The worst count of steps of a rule where no collection has more than `cap`
- * elements: a match with that budget is never stopped by it. */
+ * elements: a match with that budget is never stopped by it. A rule that
+ * everybody passes is turned away with 11. */
 uint32_t lozhbinor_review(const int32_t *matcher, size_t matcher_words,
                           const int32_t *pattern, size_t pattern_words,
                           int32_t cap,

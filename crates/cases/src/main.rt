@@ -26,15 +26,19 @@ fn main() {
     let k = trial::play(b"choices-valid-more.txt", j);
     let l = trial::play(b"choices-damaged.txt", k);
     let m = trial::play(b"choices-limits.txt", l);
-    let n = trial::play(b"rules.txt", m);
-    let o = published::play(b"published.txt", n);
-    let p = review::play(b"review.txt", o);
-    let q = review::play(b"tuples-review.txt", p);
-    let r = review::play(b"sums-review.txt", q);
-    let s = review::play(b"choices-review.txt", r);
-    let t = review::play(b"rules-review.txt", s);
-    io::print_decimal(STDOUT_FILENO, t.cases);
+    let n = trial::play(b"always-valid.txt", m);
+    let o = trial::play(b"always-damaged.txt", n);
+    let p = trial::play(b"always-limits.txt", o);
+    let q = trial::play(b"rules.txt", p);
+    let r = published::play(b"published.txt", q);
+    let s = review::play(b"review.txt", r);
+    let t = review::play(b"tuples-review.txt", s);
+    let u = review::play(b"sums-review.txt", t);
+    let v = review::play(b"choices-review.txt", u);
+    let w = review::play(b"always-review.txt", v);
+    let x = review::play(b"rules-review.txt", w);
+    io::print_decimal(STDOUT_FILENO, x.cases);
     io::write_all(STDOUT_FILENO, b" cases, ");
-    io::print_decimal(STDOUT_FILENO, t.differ);
+    io::print_decimal(STDOUT_FILENO, x.differ);
     io::write_all(STDOUT_FILENO, b" differ\n");
 }

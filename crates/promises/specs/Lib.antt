@@ -19,6 +19,7 @@ pub mod Parts
 pub mod Budget
 pub mod Numbering
 pub mod Suited
+pub mod Everybody
 pub mod Bound
 pub mod Room
 pub mod Faults

@@ -1,7 +1,7 @@
--- What document 01 demands, with tuples, sums, and, or, not of document 02, as theorems about its definitions. Each is stated here and proved elsewhere; what it assumes
+-- What document 01 demands, with the requests No. 1, 2, 3 and 5 of document 02, as theorems about its definitions. Each is stated here and proved elsewhere; what it assumes
 -- stands before its arrows, and nothing else is assumed. The words that the statements use are defined in Trace (trace, order, seen), Solve (founds), Nots (inner), Listing
 -- (Listing), Budget (rowsOf, report, Full, Outcome), Matching (states, ways, rowsOfWays), Written (the words, the numbers and the widths
--- of the forms), Faults, Reviewing (Review, TooBig, countOf) and Pairing (greedy).
+-- of the forms), Faults, Reviewing (Review, TooBig, AlwaysTrue, countOf) and Pairing (greedy).
 use Prim.Native.Nat.{ℕ, suc, _*_, _≤_, _<_}
 use mathlib.Core.Path.{_≡_, sym, _∙_}
 use mathlib.Core.Bool.{Bool, true, false}
@@ -15,6 +15,7 @@ use Rattle.rules.specs.Numbers.{same, inRange}
 use Rattle.rules.specs.Forms.{Matcher, integer, Pattern, never, Value, Values, int, collection, tupled, empty, _▸_, multiset, words}
 use Rattle.rules.specs.Reading.{ok, entry, readMatcher, readPattern, readTarget}
 use Rattle.rules.specs.Variables.{variables}
+use Rattle.rules.specs.Fit.{fitsValue}
 use Rattle.rules.specs.Equality.{Bindings, equal, isValue}
 use Rattle.rules.specs.Search.{Atom, atom, State, state, run, start}
 use Rattle.rules.specs.Ways.{Way, Follows, Good}
@@ -33,8 +34,8 @@ use Rattle.promises.specs.ReadMatcher.{matcher-read, matcher-once}
 use Rattle.promises.specs.ReadPattern.{pattern-read, pattern-once}
 use Rattle.promises.specs.ReadTarget.{target-read, target-once}
 use Rattle.promises.specs.Faults.{Fault, Judgement, Sane, sane-exactly, rule-accepted, match-turned, match-judged, refused-exactly, fault-once, not-both}
-use Rattle.promises.specs.Reviewing.{Review, TooBig, countOf, review-judged, count-is, answer-10}
-use Rattle.promises.specs.Matching.{states, ways, rowsOfWays, outcome, result, answer-0, answer-7, answer-8, full-stands, first-ways, all-ways, no-row, way-binds}
+use Rattle.promises.specs.Reviewing.{Review, TooBig, AlwaysTrue, countOf, review-judged, count-is, answer-10, answer-11, everybody}
+use Rattle.promises.specs.Matching.{states, ways, rowsOfWays, outcome, result, answer-0, answer-7, answer-8, full-stands, first-ways, all-ways, no-row, some-row, way-binds}
 use Rattle.promises.specs.Matching.{steps-bounded, rows-bounded, room-enough, tags-counted}
 
 -- ---- Determined: two results that a contract allows agree in every number and every word of the room.
@@ -142,7 +143,7 @@ module _ (ms ps ts : List ℤ) (budget : ℕ) (room : List ℤ) (r : Rule) (v : 
   pub done-exactly : it .answer ≡ 0 ↔ (length (states r v) ≤ budget) × (Full budget free (states r v) → ⊥)
   done-exactly = answer-0 ms ps ts budget room r v sane
 
--- ---- Review: one of a refusal, a cap outside 0 to 64, too big, or the formula.
+-- ---- Review: one of a refusal, always true, a cap outside 0 to 64, too big, or the formula.
 
 pub review-gives : (ms ps : List ℤ) (most : ℤ) → Review ms ps most (review ms ps most)
 review-gives = review-judged
@@ -150,9 +151,24 @@ review-gives = review-judged
 pub too-big-exactly : (ms ps : List ℤ) (most : ℤ) → (review ms ps most) .answer ≡ 10 ↔ TooBig ms ps most
 too-big-exactly = answer-10
 
+pub always-true-exactly : (ms ps : List ℤ) (most : ℤ) → (review ms ps most) .answer ≡ 11 ↔ AlwaysTrue ms ps
+always-true-exactly = answer-11
+
 pub count-is-formula : (ms ps : List ℤ) (most : ℕ) (r : Rule) → ruleOf ms ps ≡ accepted r → (review ms ps (pos most)) .answer ≡ 0
     → (review ms ps (pos most)) .count ≡ countOf most r
 count-is-formula ms ps most r e a = count-is ms ps most r (rule-accepted ms ps r .0 e) a
+
+-- ---- Rules that everybody passes: a pattern that review turns away with 11 has a good way on every value that fits its matcher, whatever its words.
+
+pub everybody-passes : (ms ps : List ℤ) (most : ℤ) (r : Rule) → ruleOf ms ps ≡ accepted r → (review ms ps most) .answer ≡ 11
+    → (v : Value) → fitsValue (r .matcher) v 0 ≡ ok tt → (w : Way) × (e : Bindings) × Good (r .matcher) (r .pattern) v w e
+everybody-passes ms ps most r e = everybody ms ps most r (rule-accepted ms ps r .0 e)
+
+-- So match finds a row on every target that is not refused.
+pub everybody-has-a-row : (ms ps ts : List ℤ) (most : ℤ) (budget : ℕ) (room : List ℤ) (r : Rule) (v : Value)
+    → ruleOf ms ps ≡ accepted r → targetOf (r .matcher) ts ≡ accepted v → (review ms ps most) .answer ≡ 11
+    → (match ms ps ts budget room) .answer ≡ 0 → 1 ≤ (match ms ps ts budget room) .rows
+everybody-has-a-row ms ps ts most budget room r v rule target = some-row ms ps ts budget room r v (sane ms ps ts budget room r v rule target) most
 
 -- The variables are those that the test of section 2 counts, at most 16.
 pub variables-counted : (ms ps : List ℤ) (r : Rule) → ruleOf ms ps ≡ accepted r

@@ -15,7 +15,7 @@ use Rattle.rules.specs.Equality.{Bindings}
 use Rattle.rules.specs.Search.{row, Run, run, start}
 use Rattle.rules.specs.Ways.{Way, Good}
 use Rattle.rules.specs.Review.{factor}
-use Rattle.rules.specs.Services.{Rule, Matched, carriedOut, match}
+use Rattle.rules.specs.Services.{Rule, Matched, carriedOut, match, review}
 use Rattle.promises.specs.Written.{variableTags, largest, length-words}
 use Rattle.rules.specs.Lists.{Mem, flatMap-map}
 use Rattle.promises.specs.Trace.{Taken, trace, walk, run-walks}
@@ -29,7 +29,7 @@ use Rattle.promises.specs.Bound.{steps-bound, rows-bound}
 use Rattle.promises.specs.Numbering.{variables-found}
 use Rattle.promises.specs.Room.{follows-binds, rows-words}
 use Rattle.promises.specs.ReadTarget.{target-read}
-use Rattle.promises.specs.Reviewing.{countOf}
+use Rattle.promises.specs.Reviewing.{countOf, everybody}
 use Rattle.promises.specs.Faults.{Sane, WellFormed, match-ran}
 
 -- The states of the search in the order in which they are taken up; and the good ways, in dictionary order.
@@ -141,6 +141,14 @@ module _ (ms ps ts : List ℤ) (budget : ℕ) (room : List ℤ) (r : Rule) (v : 
         let a = answer-0 .1 (h .0, λ f. let k = full-rows budget (length room) (states r v) f .0 in let l = founds-ways r v in omega arith) in
         (a, all-ways a ∙ z),
   )
+
+  -- A row for everybody.
+  pub some-row : (most : ℤ) → (review ms ps most) .answer ≡ 11 → it .answer ≡ 0 → 1 ≤ it .rows
+  some-row most a d = go (it .rows) refl
+    where
+      go : (n : ℕ) → it .rows ≡ n → 1 ≤ n
+      go zero q = let g = everybody ms ps most r (sane .rule) a v (sane .target .fit) in absurd (no-row .0 (d, q) .1 (g .0) (g .1) (g .2))
+      go (suc n) q = omega arith
 
   -- ---- What fits.
 

@@ -1,15 +1,24 @@
--- What review gives: the first fault of the rule, a cap outside 0 to 64, too big, or the count.
+-- What review gives: the first fault of the rule, always true, a cap outside 0 to 64, too big, or the count.
 use Prim.Native.Nat.{ℕ, _^_, _≤_, _<_}
 use native.Mathlib.Omega.{arith}
 use native.Mathlib.Decide.{decLe}
-use mathlib.Core.Path.{_≡_, refl, sym, ap, ap₂, _∙_}
+use mathlib.Core.Path.{_≡_, refl, sym, ap, ap₂, _∙_, subst}
 use mathlib.Core.Logic.{_↔_}
-use mathlib.Core.Bool.{true, false}
-use mathlib.Core.List.{List}
+use mathlib.Core.Bool.{Bool, true, false}
+use mathlib.Core.List.{List, []}
+use lib.Dec.{T}
 use lib.IntN.{ℤ, pos, negsuc, pos-ne-negsuc}
+use Rattle.rules.specs.Forms.{Value}
+use Rattle.rules.specs.Reading.{ok}
+use Rattle.rules.specs.Fit.{fitsValue}
+use Rattle.rules.specs.Equality.{Bindings}
+use Rattle.rules.specs.Ways.{Way, Good}
 use Rattle.rules.specs.Review.{formula}
-use Rattle.rules.specs.Services.{Judged, accepted, refused, Rule, ruleOf, Reviewed, declined, counted, capped, reviewRule, review}
+use Rattle.rules.specs.Always.{alwaysTrue}
+use Rattle.rules.specs.Services.{Judged, accepted, refused, Rule, ruleOf, Reviewed, declined, counted, capped, passable, reviewRule, review}
 use Rattle.promises.specs.Tests.{leb-true, leb-false, ltb-true, ltb-false}
+use Rattle.promises.specs.Suited.{fits-suits}
+use Rattle.promises.specs.Everybody.{always-passes}
 use Rattle.promises.specs.Faults.{RuleFault, rule-range, WellFormed, rule-accepted, rule-refused}
 
 -- Review's formula for a rule.
@@ -17,42 +26,59 @@ unfoldable pub countOf : ℕ → Rule → ℕ
 unfolding formula
 countOf most r = formula most (r .pattern) (r .matcher)
 
+-- A rule with none of the faults 1 to 4 that can fail: not always true.
+pub record Telling (ms ps : List ℤ) (r : Rule) : Type 0 where
+  pub wellFormed : WellFormed ms ps r
+  pub canFail : alwaysTrue (r .pattern) ≡ false
+
 pub data Review (ms ps : List ℤ) (most : ℤ) (x : Reviewed) : Type 0 where
   turned : (a i : ℕ) → RuleFault ms ps a i → x ≡ declined a i → Review ms ps most x
-  outside : (r : Rule) → WellFormed ms ps r → ((c : ℕ) → most ≡ pos c → c ≤ 64 → ⊥) → x ≡ declined 9 0 → Review ms ps most x
-  tooBig : (r : Rule) (c : ℕ) → WellFormed ms ps r → most ≡ pos c → c ≤ 64 → 4294967295 < countOf c r → x ≡ declined 10 0 → Review ms ps most x
-  counts : (r : Rule) (c : ℕ) → WellFormed ms ps r → most ≡ pos c → c ≤ 64 → countOf c r ≤ 4294967295
+  always : (r : Rule) → WellFormed ms ps r → alwaysTrue (r .pattern) ≡ true → x ≡ declined 11 0 → Review ms ps most x
+  outside : (r : Rule) → Telling ms ps r → ((c : ℕ) → most ≡ pos c → c ≤ 64 → ⊥) → x ≡ declined 9 0 → Review ms ps most x
+  tooBig : (r : Rule) (c : ℕ) → Telling ms ps r → most ≡ pos c → c ≤ 64 → 4294967295 < countOf c r → x ≡ declined 10 0 → Review ms ps most x
+  counts : (r : Rule) (c : ℕ) → Telling ms ps r → most ≡ pos c → c ≤ 64 → countOf c r ≤ 4294967295
       → x ≡ record { answer = 0; place = 0; count = countOf c r } → Review ms ps most x
 
 module _ (ms ps : List ℤ) where
-  of-rule : (most : ℤ) (r : Rule) → WellFormed ms ps r → review ms ps most ≡ capped most r
-  unfolding review
-  of-rule most r w = ap (reviewRule most) (rule-accepted ms ps r .1 w)
+  of-words : (most : ℤ) (r : Rule) → WellFormed ms ps r → review ms ps most ≡ passable most r
+  unfolding review reviewRule
+  of-words most r w = ap (reviewRule most) (rule-accepted ms ps r .1 w)
 
-  in-range : (c : ℕ) (r : Rule) → WellFormed ms ps r → c ≤ 64 → review ms ps (pos c) ≡ counted (countOf c r)
+  -- 11, whatever the cap is.
+  pub review-always : (most : ℤ) (r : Rule) → WellFormed ms ps r → alwaysTrue (r .pattern) ≡ true → review ms ps most ≡ declined 11 0
+  unfolding passable
+  review-always most r w a = of-words most r w
+      ∙ ap (λ t. elim t as (λ _. Reviewed) [ true ↦ declined 11 0 | false ↦ capped most r ]) a
+
+  of-rule : (most : ℤ) (r : Rule) → Telling ms ps r → review ms ps most ≡ capped most r
+  unfolding passable
+  of-rule most r w = of-words most r (w .wellFormed)
+      ∙ ap (λ t. elim t as (λ _. Reviewed) [ true ↦ declined 11 0 | false ↦ capped most r ]) (w .canFail)
+
+  in-range : (c : ℕ) (r : Rule) → Telling ms ps r → c ≤ 64 → review ms ps (pos c) ≡ counted (countOf c r)
   unfolding capped countOf
   in-range c r w h = of-rule (pos c) r w
       ∙ ap (λ t. elim t as (λ _. Reviewed) [ true ↦ counted (countOf c r) | false ↦ declined 9 0 ]) (leb-true c 64 h)
 
   -- The count is the formula, where it is at most 4,294,967,295.
-  pub review-counts : (c : ℕ) (r : Rule) → WellFormed ms ps r → c ≤ 64 → countOf c r ≤ 4294967295
+  pub review-counts : (c : ℕ) (r : Rule) → Telling ms ps r → c ≤ 64 → countOf c r ≤ 4294967295
       → review ms ps (pos c) ≡ record { answer = 0; place = 0; count = countOf c r }
   unfolding counted
   review-counts c r w h k = in-range c r w h
       ∙ ap (λ t. elim t as (λ _. Reviewed) [ true ↦ record { answer = 0; place = 0; count = countOf c r } | false ↦ declined 10 0 ])
       (ltb-true (countOf c r) (2 ^ 32) (omega arith))
 
-  pub review-too-big : (c : ℕ) (r : Rule) → WellFormed ms ps r → c ≤ 64 → 4294967295 < countOf c r → review ms ps (pos c) ≡ declined 10 0
+  pub review-too-big : (c : ℕ) (r : Rule) → Telling ms ps r → c ≤ 64 → 4294967295 < countOf c r → review ms ps (pos c) ≡ declined 10 0
   unfolding counted
   review-too-big c r w h k = in-range c r w h
       ∙ ap (λ t. elim t as (λ _. Reviewed) [ true ↦ record { answer = 0; place = 0; count = countOf c r } | false ↦ declined 10 0 ])
       (ltb-false (countOf c r) (2 ^ 32) (omega arith))
 
-  by-count : (c : ℕ) (r : Rule) → WellFormed ms ps r → c ≤ 64 → Dec (countOf c r ≤ 4294967295) → Review ms ps (pos c) (review ms ps (pos c))
+  by-count : (c : ℕ) (r : Rule) → Telling ms ps r → c ≤ 64 → Dec (countOf c r ≤ 4294967295) → Review ms ps (pos c) (review ms ps (pos c))
   by-count c r w h (yes k) = counts r c w refl h k (review-counts c r w h k)
   by-count c r w h (no k) = tooBig r c w refl h (omega arith) (review-too-big c r w h (omega arith))
 
-  by-cap : (most : ℤ) (r : Rule) → WellFormed ms ps r → Review ms ps most (review ms ps most)
+  by-cap : (most : ℤ) (r : Rule) → Telling ms ps r → Review ms ps most (review ms ps most)
   unfolding capped countOf
   by-cap (negsuc n) r w = outside r w (λ c e h. pos-ne-negsuc c n (sym e)) (of-rule (negsuc n) r w)
   by-cap (pos c) r w = go (decLe c 64)
@@ -62,20 +88,24 @@ module _ (ms ps : List ℤ) where
       go (no h) = outside r w (λ d e k. let q : c ≡ d = cc in omega arith)
           (of-rule (pos c) r w ∙ ap (λ t. elim t as (λ _. Reviewed) [ true ↦ counted (countOf c r) | false ↦ declined 9 0 ]) (leb-false c 64 (omega arith)))
 
-  -- One of the four.
+  by-pattern : (most : ℤ) (r : Rule) → WellFormed ms ps r → (b : Bool) → alwaysTrue (r .pattern) ≡ b → Review ms ps most (review ms ps most)
+  by-pattern most r w true a = always r w a (review-always most r w a)
+  by-pattern most r w false a = by-cap most r (record { wellFormed = w; canFail = a })
+
+  -- One of the five.
   pub review-judged : (most : ℤ) → Review ms ps most (review ms ps most)
   unfolding review
   review-judged most = go (ruleOf ms ps) refl
     where
       go : (x : Judged Rule) → ruleOf ms ps ≡ x → Review ms ps most (review ms ps most)
-      go (accepted r) e = by-cap most r (rule-accepted ms ps r .0 e)
+      go (accepted r) e = by-pattern most r (rule-accepted ms ps r .0 e) (alwaysTrue (r .pattern)) refl
       go (refused a i) e = turned a i (rule-refused ms ps a i .0 e) (ap (reviewRule most) e)
 
 -- ---- And only that one: the answers differ.
 
 pub record TooBig (ms ps : List ℤ) (most : ℤ) : Type 0 where
   pub rule : Rule
-  pub wellFormed : WellFormed ms ps rule
+  pub telling : Telling ms ps rule
   pub limit : ℕ
   pub is : most ≡ pos limit
   pub inside : limit ≤ 64
@@ -88,13 +118,44 @@ answer-10 ms ps most = ((λ a. go a (review-judged ms ps most)), back)
   where
     go : (review ms ps most) .answer ≡ 10 → Review ms ps most (review ms ps most) → TooBig ms ps most
     go a (turned b i f q) = let k = ap (λ (x : Reviewed). x .answer) q in let l = rule-range f .1 in absurd (omega arith)
+    go a (always r w b q) = let k = ap (λ (x : Reviewed). x .answer) q in absurd (omega arith)
     go a (outside r w o q) = let k = ap (λ (x : Reviewed). x .answer) q in absurd (omega arith)
-    go a (tooBig r c w e h k q) = record { rule = r; wellFormed = w; limit = c; is = e; inside = h; passes = k }
+    go a (tooBig r c w e h k q) = record { rule = r; telling = w; limit = c; is = e; inside = h; passes = k }
     go a (counts r c w e h k q) = let l = ap (λ (x : Reviewed). x .answer) q in absurd (omega arith)
 
     back : TooBig ms ps most → (review ms ps most) .answer ≡ 10
     back t = ap (λ m. (review ms ps m) .answer) (t .is)
-        ∙ ap (λ (x : Reviewed). x .answer) (review-too-big ms ps (t .limit) (t .rule) (t .wellFormed) (t .inside) (t .passes))
+        ∙ ap (λ (x : Reviewed). x .answer) (review-too-big ms ps (t .limit) (t .rule) (t .telling) (t .inside) (t .passes))
+
+-- 11 exactly when the rule, with none of the faults 1 to 4, is always true.
+pub record AlwaysTrue (ms ps : List ℤ) : Type 0 where
+  pub rule : Rule
+  pub wellFormed : WellFormed ms ps rule
+  pub always : alwaysTrue (rule .pattern) ≡ true
+
+pub answer-11 : (ms ps : List ℤ) (most : ℤ) → (review ms ps most) .answer ≡ 11 ↔ AlwaysTrue ms ps
+unfolding declined
+answer-11 ms ps most = ((λ a. go a (review-judged ms ps most)), back)
+  where
+    go : (review ms ps most) .answer ≡ 11 → Review ms ps most (review ms ps most) → AlwaysTrue ms ps
+    go a (turned b i f q) = let k = ap (λ (x : Reviewed). x .answer) q in let l = rule-range f .1 in absurd (omega arith)
+    go a (always r w b q) = record { rule = r; wellFormed = w; always = b }
+    go a (outside r w o q) = let k = ap (λ (x : Reviewed). x .answer) q in absurd (omega arith)
+    go a (tooBig r c w e h k q) = let l = ap (λ (x : Reviewed). x .answer) q in absurd (omega arith)
+    go a (counts r c w e h k q) = let l = ap (λ (x : Reviewed). x .answer) q in absurd (omega arith)
+
+    back : AlwaysTrue ms ps → (review ms ps most) .answer ≡ 11
+    back t = ap (λ (x : Reviewed). x .answer) (review-always ms ps most (t .rule) (t .wellFormed) (t .always))
+
+-- Then there is a good way on every value that fits.
+pub everybody : (ms ps : List ℤ) (most : ℤ) (r : Rule) → WellFormed ms ps r → (review ms ps most) .answer ≡ 11
+    → (v : Value) → fitsValue (r .matcher) v 0 ≡ ok tt → (w : Way) × (e : Bindings) × Good (r .matcher) (r .pattern) v w e
+unfolding alwaysTrue Good
+everybody ms ps most r w a v f =
+    let t = answer-11 ms ps most .0 a in
+    let q : t .rule ≡ r = cc (rule-accepted ms ps (t .rule) .1 (t .wellFormed), rule-accepted ms ps r .1 w) in
+    let b = ap (λ (s : Rule). alwaysTrue (s .pattern)) (sym q) ∙ t .always in
+    always-passes (r .pattern) (r .matcher) 0 [] (w .fitting .0) (subst T (sym b) tt) (w .fitting .1) v [] (fits-suits (r .matcher) v 0 f)
 
 -- The count of a review that answers 0 is the formula.
 pub count-is : (ms ps : List ℤ) (c : ℕ) (r : Rule) → WellFormed ms ps r → (review ms ps (pos c)) .answer ≡ 0
@@ -102,11 +163,12 @@ pub count-is : (ms ps : List ℤ) (c : ℕ) (r : Rule) → WellFormed ms ps r �
 unfolding declined
 count-is ms ps c r w a = go (review-judged ms ps (pos c))
   where
-    same : (s : Rule) → WellFormed ms ps s → s ≡ r
-    same s u = cc (rule-accepted ms ps s .1 u, rule-accepted ms ps r .1 w)
+    same : (s : Rule) → Telling ms ps s → s ≡ r
+    same s u = cc (rule-accepted ms ps s .1 (u .wellFormed), rule-accepted ms ps r .1 w)
 
     go : Review ms ps (pos c) (review ms ps (pos c)) → (review ms ps (pos c)) .count ≡ countOf c r
     go (turned b i f q) = let k = ap (λ (x : Reviewed). x .answer) q in let l = rule-range f in absurd (omega arith)
+    go (always s u b q) = let k = ap (λ (x : Reviewed). x .answer) q in absurd (omega arith)
     go (outside s u o q) = let k = ap (λ (x : Reviewed). x .answer) q in absurd (omega arith)
     go (tooBig s d u e h k q) = let l = ap (λ (x : Reviewed). x .answer) q in absurd (omega arith)
     go (counts s d u e h k q) = let i : d ≡ c = cc in ap (λ (x : Reviewed). x .count) q ∙ ap₂ countOf i (same s u)

@@ -12,10 +12,12 @@ pub mod Lists
 pub mod Choices
 pub mod Twin
 pub mod Review
+pub mod Always
 pub mod Services
 pub mod Tables
 pub mod Worked
 pub mod WorkedTuples
 pub mod WorkedSums
 pub mod WorkedChoices
+pub mod WorkedAlways
 pub mod Refusals

@@ -179,11 +179,14 @@ table =
     -- the order of the tests
     ∷ refuses (nums (9 ∷ [])) (replicate 257 (pos 0)) none 1 0
     ∷ refuses integer (nums (1 ∷ 1 ∷ [])) (replicate 1025 (pos 0)) 3 0
-    -- review: 1 to 4, then 9, then 10
+    -- review: 1 to 4, then 11, then 9, then 10
     ∷ declines (nums (9 ∷ [])) wildcard (pos 65) 1 0
     ∷ declines integer (nums (11 ∷ [])) (pos 65) 2 0
     ∷ declines integer (nums (1 ∷ 1 ∷ [])) (pos 65) 3 0
     ∷ declines integer (nums (4 ∷ [])) (pos 65) 4 0
+    ∷ declines multisetInteger (nums (6 ∷ 0 ∷ 0 ∷ [])) (pos 65) 4 0
+    ∷ declines listInteger (nums (6 ∷ 0 ∷ 0 ∷ [])) (pos 65) 11 0
+    ∷ declines listInteger (nums (6 ∷ 0 ∷ 0 ∷ [])) (minus 1) 11 0
     ∷ declines multisetInteger (chain 5) (pos 65) 9 0
     ∷ declines multisetInteger (chain 5) (minus 1) 9 0
     ∷ declines multisetInteger (chain 5) (pos 64) 10 0

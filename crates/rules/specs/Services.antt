@@ -11,6 +11,7 @@ use Rattle.rules.specs.Variables.{variables}
 use Rattle.rules.specs.Fit.{fits, fitsValue}
 use Rattle.rules.specs.Search.{Run, run, start}
 use Rattle.rules.specs.Review.{formula}
+use Rattle.rules.specs.Always.{alwaysTrue}
 
 -- Accepted, with what was found; or refused, with the answer and the place.
 pub data Judged (A : Type 0) : Type 0 where
@@ -104,10 +105,15 @@ unfolding declined counted formula
 capped (pos most) r = elim (leb most 64) [ true ↦ counted (formula most (r .pattern) (r .matcher)) | false ↦ declined 9 0 ]
 capped (negsuc n) r = declined 9 0
 
+-- 11 always true: "in review only, after 4 and before 9, place 0".
+unfoldable pub passable : ℤ → Rule → Reviewed
+unfolding declined capped alwaysTrue
+passable most r = elim (alwaysTrue (r .pattern)) [ true ↦ declined 11 0 | false ↦ capped most r ]
+
 unfoldable pub reviewRule : ℤ → Judged Rule → Reviewed
-unfolding declined capped
+unfolding declined passable
 reviewRule most (refused a i) = declined a i
-reviewRule most (accepted r) = capped most r
+reviewRule most (accepted r) = passable most r
 
 unfoldable pub review : (ms ps : List ℤ) (most : ℤ) → Reviewed
 unfolding reviewRule ruleOf

@@ -1,6 +1,7 @@
 -- Review's answer by its tests, as the code asks for it. Assumes nothing.
 use Prim.Native.Nat.{ℕ, zero, suc, _^_, _≤_, _<_}
 use native.Mathlib.Omega.{arith}
+use native.Mathlib.Decide.{decLe}
 use mathlib.Core.Path.{_≡_, refl, sym, ap, _∙_}
 use mathlib.Core.Bool.{Bool, true, false, cond}
 use mathlib.Core.List.{List, []}
@@ -8,21 +9,25 @@ use lib.Dec.{ltb, leb}
 use lib.ListN.{length, replicate}
 use lib.IntN.{ℤ, pos, negsuc}
 use borrow.Author.Needs.{needs}
+use borrow.Author.Tests.{lt-ltb, le-ltb}
 use Rattle.rules.specs.Review.{formula}
-use Rattle.rules.specs.Services.{Judged, accepted, refused, Rule, ruleOf, declined, counted, capped, reviewRule, review}
+use Rattle.rules.specs.Always.{alwaysTrue}
+use Rattle.rules.specs.Services.{Judged, accepted, refused, Rule, ruleOf, declined, counted, capped, passable, reviewRule, review}
 use Rattle.rules.specs.Services as paper
 use Rattle.promises.specs.Tests.{leb-true, leb-false}
 use Rattle.words.specs.Words.{tagZ}
 use Rattle.words.specs.Words.{entries}
 use Rattle.program.specs.Accepted.{matcher-short, pattern-short}
 use Rattle.program.specs.Lines.{columns, linesOf, laid}
-use Rattle.program.specs.Link.{opsIn, bindingsIn, tosBy, placed}
-use Rattle.program.specs.Columns.{compiled-zeros}
+use Rattle.program.specs.Link.{tosBy, opsIn, bindingsIn, placed}
+use Rattle.program.specs.Columns.{Holds, compiled-zeros}
+use Rattle.passing.specs.Scan.{noneFrom}
+use Rattle.passing.specs.Plain.{plain-is}
 use Rattle.judging.specs.Judgements.{judgement}
 use Rattle.judging.specs.declared.Judgement.{Judgement}
 use Rattle.judging.specs.declared.Judgement.the-variants.{Accepted, Refused}
 use Rattle.tallying.specs.Tally.{sumFrom, within}
-use Rattle.services.specs.Reviews.{Sound, sound, countUnder, reviewed}
+use Rattle.services.specs.Reviews.{Sound, sound, countedBy, reviewed}
 use Rattle.tallying.specs.declared.Tally.{Tally}
 use Rattle.tallying.specs.declared.Tally.the-variants.{Count, TooBig}
 use Rattle.tallying.proofs.Counted.{counted-is}
@@ -43,35 +48,23 @@ matcher-few ms ps s = let r = sound-is s in let h = matcher-short ms ps (r .0) (
 pub pattern-few : (ms ps : List ℤ) → Sound (ruleOf ms ps) → length ps ≤ 256
 pattern-few ms ps s = let r = sound-is s in pattern-short ms ps (r .0) (r .1)
 
--- The sum over its compiled lines is its count.
-pub count-is : (ms ps : List ℤ) (most : ℕ) (op from arg mat : List ℕ) (con : List ℤ) (x : Tally) → Sound (ruleOf ms ps)
-    → columns op from arg mat con ≡ laid 0 (linesOf ms ps) (columns (replicate entries 0) (replicate entries 0) (replicate entries 0) (replicate entries 0) (replicate entries (pos 0)))
-    → x ≡ within (sumFrom most op 1 [] 0 0 entries) → x ≡ countUnder most (ruleOf ms ps)
-unfolding countUnder
-count-is ms ps most op from arg mat con x s e q =
-    let r = sound-is s in
-    let ops = opsIn op 0 (length (linesOf ms ps)) in
-    let to = placed 0 (tosBy ops) (replicate entries 0) in
-    let h = compiled-zeros ms ps (r .0) (r .1) (bindingsIn ops) (columns op from arg mat con) to refl e refl in
-    q ∙ ap within (counted-is ms ps (r .0) (bindingsIn ops) (columns op from arg mat con) to most (r .1) h) ∙ ap (countUnder most) (sym (r .1))
-
 -- ---- Tests 9 and 10.
 
 abbrev done : ℕ → paper.Reviewed
 done n = record { answer = 0; place = 0; count = n }
 
-by-cap : (r : Rule) (n : ℕ) → Bool → paper.Reviewed
-by-cap r n b = elim b [ true ↦ counted (formula n (r .pattern) (r .matcher)) | false ↦ declined 9 0 ]
+by-limit : ℤ → List ℕ → Bool → paper.Reviewed
+by-limit cap ops b = cond b (declined 9 0) (counted (sumFrom (tagZ cap) ops 1 [] 0 0 entries))
 
-pub cap-outside : (j : Judged Rule) (cap : ℤ) (m : ℕ) → Sound j → m ≡ tagZ cap → 64 < m → declined 9 0 ≡ reviewRule cap j
-unfolding reviewRule capped by-cap
-cap-outside j (pos n) m (sound r) e h = sym (ap (by-cap r n) (leb-false n 64 (omega arith)))
-cap-outside j (negsuc n) m (sound r) e h = refl
+pub cap-outside : (cap : ℤ) (m : ℕ) (ops : List ℕ) → m ≡ tagZ cap → 64 < m → declined 9 0 ≡ countedBy cap ops
+unfolding by-limit countedBy
+cap-outside cap m ops e h = let k : 64 < tagZ cap = omega arith in sym (ap (by-limit cap ops) (lt-ltb 64 (tagZ cap) k))
 
-inside : (r : Rule) (cap : ℤ) (m : ℕ) → m ≡ tagZ cap → m ≤ 64 → counted (formula m (r .pattern) (r .matcher)) ≡ reviewRule cap (accepted r)
-unfolding reviewRule capped by-cap
-inside r (pos n) m e h = ap (λ k. counted (formula k (r .pattern) (r .matcher))) e ∙ sym (ap (by-cap r n) (leb-true n 64 (omega arith)))
-inside r (negsuc n) m e h = absurd (omega arith)
+inside : (cap : ℤ) (m : ℕ) (ops : List ℕ) → m ≡ tagZ cap → m ≤ 64 → counted (sumFrom m ops 1 [] 0 0 entries) ≡ countedBy cap ops
+unfolding by-limit countedBy
+inside cap m ops e h =
+    let k : tagZ cap ≤ 64 = omega arith in
+    ap (λ n. counted (sumFrom n ops 1 [] 0 0 entries)) e ∙ sym (ap (by-limit cap ops) (le-ltb 64 (tagZ cap) k))
 
 count-told : (f n : ℕ) → Count n ≡ within f → done n ≡ counted f
 unfolding within counted
@@ -92,13 +85,63 @@ big-told f e = go (ltb f (2 ^ 32)) e
     go false e = refl
 
 -- w is m as a wide number, and x what the count is found to be.
-pub count-given : (j : Judged Rule) (cap : ℤ) (m w : ℕ) (x : Tally) (n : ℕ) → Sound j → m ≡ tagZ cap → m ≤ 64 → w ≡ m → x ≡ countUnder w j → x ≡ Count n → done n ≡ reviewRule cap j
-unfolding countUnder
-count-given j cap m w x n (sound r) e h k q c = count-told (formula m (r .pattern) (r .matcher)) n (sym c ∙ q ∙ ap (λ i. within (formula i (r .pattern) (r .matcher))) k) ∙ inside r cap m e h
+pub count-given : (cap : ℤ) (m w : ℕ) (ops : List ℕ) (x : Tally) (n : ℕ) → m ≡ tagZ cap → m ≤ 64 → w ≡ m → x ≡ within (sumFrom w ops 1 [] 0 0 entries) → x ≡ Count n
+    → done n ≡ countedBy cap ops
+count-given cap m w ops x n e h k q c =
+    count-told (sumFrom m ops 1 [] 0 0 entries) n (sym c ∙ q ∙ ap (λ i. within (sumFrom i ops 1 [] 0 0 entries)) k) ∙ inside cap m ops e h
 
-pub too-big-given : (j : Judged Rule) (cap : ℤ) (m w : ℕ) (x : Tally) → Sound j → m ≡ tagZ cap → m ≤ 64 → w ≡ m → x ≡ countUnder w j → x ≡ TooBig → declined 10 0 ≡ reviewRule cap j
-unfolding countUnder
-too-big-given j cap m w x (sound r) e h k q c = big-told (formula m (r .pattern) (r .matcher)) (sym c ∙ q ∙ ap (λ i. within (formula i (r .pattern) (r .matcher))) k) ∙ inside r cap m e h
+pub too-big-given : (cap : ℤ) (m w : ℕ) (ops : List ℕ) (x : Tally) → m ≡ tagZ cap → m ≤ 64 → w ≡ m → x ≡ within (sumFrom w ops 1 [] 0 0 entries) → x ≡ TooBig
+    → declined 10 0 ≡ countedBy cap ops
+too-big-given cap m w ops x e h k q c =
+    big-told (sumFrom m ops 1 [] 0 0 entries) (sym c ∙ q ∙ ap (λ i. within (sumFrom i ops 1 [] 0 0 entries)) k) ∙ inside cap m ops e h
+
+-- ---- Test 11, over the lines that the compiler leaves.
+
+by-cap : (r : Rule) (n : ℕ) → Bool → paper.Reviewed
+by-cap r n b = elim b [ true ↦ counted (formula n (r .pattern) (r .matcher)) | false ↦ declined 9 0 ]
+
+-- Where the sum is the formula, tests 9 and 10 are those of the rule.
+capped-by : (cap : ℤ) (r : Rule) (ops : List ℕ) → ((m : ℕ) → sumFrom m ops 1 [] 0 0 entries ≡ formula m (r .pattern) (r .matcher)) → countedBy cap ops ≡ capped cap r
+unfolding countedBy capped by-cap
+capped-by (negsuc n) r ops f = refl
+capped-by (pos n) r ops f = go (decLe n 64)
+  where
+    go : Dec (n ≤ 64) → countedBy (pos n) ops ≡ capped (pos n) r
+    go (yes h) = sym (inside (pos n) n ops refl h) ∙ ap counted (f n) ∙ sym (ap (by-cap r n) (leb-true n 64 h))
+    go (no h) = sym (cap-outside (pos n) n ops refl (omega arith)) ∙ sym (ap (by-cap r n) (leb-false n 64 (omega arith)))
+
+by-pattern : (cap : ℤ) (r : Rule) → Bool → paper.Reviewed
+by-pattern cap r b = elim b [ true ↦ declined 11 0 | false ↦ capped cap r ]
+
+module _ (ms ps : List ℤ) (op from arg mat : List ℕ) (con : List ℤ) (s : Sound (ruleOf ms ps))
+    (e : columns op from arg mat con ≡ laid 0 (linesOf ms ps) (columns (replicate entries 0) (replicate entries 0) (replicate entries 0) (replicate entries 0) (replicate entries (pos 0)))) where
+  -- The numbers of the compiler that review does not use.
+  vars : ℕ
+  vars = bindingsIn (opsIn op 0 (length (linesOf ms ps)))
+
+  tos : List ℕ
+  tos = placed 0 (tosBy (opsIn op 0 (length (linesOf ms ps)))) (replicate entries 0)
+
+  held : Holds ms (sound-is s .0) vars (columns op from arg mat con) tos
+  unfolding vars tos
+  held = compiled-zeros ms ps (sound-is s .0) (sound-is s .1) vars (columns op from arg mat con) tos refl e refl
+
+  rule-of : (cap : ℤ) → by-pattern cap (sound-is s .0) (alwaysTrue (sound-is s .0 .pattern)) ≡ reviewRule cap (ruleOf ms ps)
+  unfolding reviewRule passable by-pattern
+  rule-of cap = ap (reviewRule cap) (sym (sound-is s .1))
+
+  told : (cap : ℤ) (b : Bool) → b ≡ noneFrom op 0 entries → by-pattern cap (sound-is s .0) b ≡ reviewRule cap (ruleOf ms ps)
+  told cap b q = ap (by-pattern cap (sound-is s .0)) (q ∙ plain-is ms ps (sound-is s .0) (sound-is s .1) vars (columns op from arg mat con) tos held) ∙ rule-of cap
+
+  pub always-given : (cap : ℤ) (b : Bool) → b ≡ noneFrom op 0 entries → b ≡ true → declined 11 0 ≡ reviewRule cap (ruleOf ms ps)
+  unfolding by-pattern
+  always-given cap b q t = ap (by-pattern cap (sound-is s .0)) (sym t) ∙ told cap b q
+
+  pub counted-given : (z cap : ℤ) (b : Bool) (x : paper.Reviewed) → b ≡ noneFrom op 0 entries → b ≡ false → x ≡ countedBy z op → z ≡ cap → x ≡ reviewRule cap (ruleOf ms ps)
+  unfolding by-pattern
+  counted-given z cap b x q t h k =
+      h ∙ ap (λ y. countedBy y op) k ∙ capped-by cap (sound-is s .0) op (λ m. counted-is ms ps (sound-is s .0) vars (columns op from arg mat con) tos m (sound-is s .1) held)
+      ∙ ap (by-pattern cap (sound-is s .0)) (sym t) ∙ told cap b q
 
 -- ---- Tests 1 to 4.
 

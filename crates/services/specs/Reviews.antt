@@ -1,12 +1,13 @@
--- What review's answer stands for, and its count for a rule.
+-- What review's answer stands for, and its last tests over the lines of a rule's program.
 use Prim.Native.Nat.{ℕ}
-use mathlib.Core.Path.{_≡_}
-use Rattle.rules.specs.Review.{formula}
-use Rattle.rules.specs.Services.{Judged, accepted, refused, Rule}
+use mathlib.Core.Bool.{cond}
+use mathlib.Core.List.{List, []}
+use lib.Dec.{ltb}
+use lib.IntN.{ℤ}
+use Rattle.rules.specs.Services.{Judged, accepted, Rule}
 use Rattle.rules.specs.Services as paper
-use Rattle.tallying.specs.Tally.{within}
-use Rattle.tallying.specs.declared.Tally.{Tally}
-use Rattle.tallying.specs.declared.Tally.the-variants.{TooBig}
+use Rattle.words.specs.Words.{tagZ, entries}
+use Rattle.tallying.specs.Tally.{sumFrom}
 use Rattle.services.specs.declared.review.Reviewed.{Reviewed}
 
 -- Document 01's three numbers.
@@ -17,8 +18,7 @@ reviewed r = record { answer = r .answer; place = r .place; count = r .count }
 pub data Sound : Judged Rule → Type 0 where
   sound : (r : Rule) → Sound (accepted r)
 
--- The formula, unless it is too big. (Of a rule that is refused there is no count.)
-unfoldable pub countUnder : ℕ → Judged Rule → Tally
-unfolding within formula
-countUnder most (accepted r) = within (formula most (r .pattern) (r .matcher))
-countUnder most (refused a i) = TooBig
+-- Tests 9 and 10: the count is the sum over the lines of a rule's program.
+unfoldable pub countedBy : ℤ → (ops : List ℕ) → paper.Reviewed
+unfolding paper.declined paper.counted sumFrom
+countedBy cap ops = cond (ltb 64 (tagZ cap)) (paper.declined 9 0) (paper.counted (sumFrom (tagZ cap) ops 1 [] 0 0 entries))

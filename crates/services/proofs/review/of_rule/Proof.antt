@@ -1,33 +1,17 @@
--- `services::review::of_rule` meets its contract: tests 9 and 10. Assumes nothing.
-use mathlib.Core.Path.{_∙_, ap}
+-- `services::review::of_rule` meets its contract: test 11 over the compiled lines, and then 9 and 10. Assumes nothing.
 use borrow.Author.Needs.{needs}
 use mir.Facts.{toZ-ofZ}
 use Rattle.rules.specs.Services.{declined}
-use Rattle.words.specs.Words.{tagZ}
 use Rattle.services.specs.Reviews.{reviewed}
-use Rattle.services.proofs.Rules.{cap-outside, count-given, too-big-given}
+use Rattle.services.proofs.Rules.{matcher-few, pattern-few, always-given, counted-given}
 use Rattle.services.proofs.review.of_rule.Statement.{statement}
 use Rattle.services.proofs.review.of_rule.Tie as tie
 
-returns : tie.Need-returns
-unfolding reviewed declined
-returns c = cap-outside _ _ _ (c .before .before .pre) (c .before .tag-of .ensures ∙ ap tagZ (toZ-ofZ (c .before .before .fits .cap))) (c .if1 .taken)
-
-returns-2 : tie.Need-returns-2
-unfolding reviewed declined
-returns-2 c = count-given _ _ _ _ _ _ (c .before .before .before .before .before .before .before .pre) (c .before .before .before .before .before .before .tag-of .ensures ∙ ap tagZ (toZ-ofZ (c .before .before .before .before .before .before .before .fits .cap))) (c .before .before .before .before .before .if1 .left) (c .before .before .before .before .wide .ensures) (c .before .before .before .count-of .ensures) (c .before .n .given .1)
-
-returns-3 : tie.Need-returns-3
-unfolding reviewed declined
-returns-3 c = too-big-given _ _ _ _ _ (c .before .before .before .before .before .before .pre) (c .before .before .before .before .before .tag-of .ensures ∙ ap tagZ (toZ-ofZ (c .before .before .before .before .before .before .fits .cap))) (c .before .before .before .before .if1 .left) (c .before .before .before .wide .ensures) (c .before .before .count-of .ensures) (c .enum-told .given .1)
-
 pub of-rule-spec : {M : Type 1} → statement M
+unfolding reviewed declined
 of-rule-spec = tie.close (tie.spec
+    (λ c κs. search (matcher-few, pattern-few, needs))
     (λ c κs. search needs)
-    returns
+    (λ c. search (always-given, needs))
     (λ c κs. search needs)
-    (λ c κs. search needs)
-    (λ c. search needs)
-    (λ c. search needs)
-    returns-2
-    returns-3)
+    (λ c. let k = toZ-ofZ (c .before .before .before .before .before .before .before .before .before .before .before .before .fits .cap) in search (counted-given, k, needs)))

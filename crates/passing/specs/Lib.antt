@@ -1,0 +1,3 @@
+-- Whether everybody passes a rule, to be read in this order.
+pub mod Scan
+pub mod Plain
