@@ -63,8 +63,8 @@ impl State {
         ensures { λ r. ⌜ r ≡ cutTo (now (from .entry)) (now (lows .entry)) self ⌝ }
     {
         let pc = self.pc;
-        let not = wide(from[pc]);
-        self.top = wide(lows[not]);
+        let j = wide(from[pc]);
+        self.top = wide(lows[j]);
         self.live = 2;
         self
     }
@@ -111,8 +111,9 @@ impl State {
         ensures { λ r. ⌜ r ≡ resumedAt o j (now (from .entry)) (now (to .entry)) (now (ats .entry)) (now (lows .entry)) (now (backs .entry)) self ⌝ }
     {
         let i = slot_of(o, j, from);
+        let at = wide(ats[i]);
         self.pc = wide(to[j]);
-        self.at = wide(ats[i]);
+        self.at = at;
         self.marks = backs[i];
         self.top = wide(lows[j]);
         self.live = 1;
