@@ -10,8 +10,7 @@ use marks::rest;
 use marks::without;
 use matchers::matcher_end;
 use matchers::width_at;
-use words::Total;
-use words::sum;
+use words::is_total;
 use words::tag_at;
 ghost use mathlib.Core.Path.{_≡_};
 ghost use Prim.Native.Nat.{_+_, _^_, _<_, _≤_};
@@ -24,25 +23,14 @@ ghost use Rattle.holding.specs.Held.{Held};
 ghost use Rattle.equality.specs.Equality.{equalAt, tuplesEqual, isSum};
 ghost use Rattle.equality.specs.Levels.{endedOf, outcomeOf, levelOf, onwardOf, settledOf, takenOf, questionOf, firstOf, Open, Opens};
 
-// Whether two words are equal.
-fn alike(x: i32, y: i32) -> bool
-    ensures { λ r. ⌜ r ≡ same x y ⌝ }
-{
-    x == y
-}
-
 // Whether the integer whose tag stands at a, plus c, is the integer at b.
 pub fn is_sum(s: &[i32], a: usize, c: i32, b: usize) -> bool
     requires { ⌜ a + 1 < length (now s) ⌝ ∗ ⌜ b + 1 < length (now s) ⌝ }
     ensures { λ r. ⌜ r ≡ isSum (now (s .entry)) a c b ⌝ }
 {
     let x = s[a + 1];
-    let t = sum(x, c);
     let z = s[b + 1];
-    match t {
-        Total::Is(y) => alike(y, z),
-        Total::Outside => false,
-    }
+    is_total(x, c, z)
 }
 
 fn wide_count(x: u32) -> usize
