@@ -1,4 +1,4 @@
--- What the code of a level asks: its outcome, the level after an answer, its question, and the table. Assumes nothing.
+-- What the code of a level asks: its outcome, the level after an answer, its question, the table, and two held values. Assumes nothing.
 use mathlib.Core.Path.{_≡_, refl, sym, _∙_, ap}
 use mathlib.Core.Bool.{Bool, true, false, cond}
 use mathlib.Core.List.{List}
@@ -16,13 +16,13 @@ use Rattle.marks.proofs.Places.{low-lt}
 use Rattle.matchers.specs.Places.{matcherEnd}
 use Rattle.holding.specs.Places.{valueAt, countAt, Target, Tag, elementAt}
 use Rattle.holding.specs.Held.{Held, wholeAt}
-use Rattle.holding.proofs.Held.{held-tag, whole-held}
+use Rattle.holding.proofs.Held.{whole-held}
 use Rattle.equality.specs.declared.Level.{Level}
 use Rattle.equality.specs.Equality.{equalAt, wholesEqual}
-use Rattle.equality.specs.Levels.{endedOf, outcomeOf, levelOf, onwardOf, settledOf, pairTaken, otherTried, takenOf, firstOf, secondOf, questionOf, Open, Opens}
+use Rattle.equality.specs.Levels.{endedOf, outcomeOf, levelOf, onwardOf, settledOf, pairTaken, otherTried, takenOf, firstOf, secondOf, questionOf, comesTo, Marks, Open, Opens}
 use Rattle.equality.proofs.Marks.{marks-64, low-in, low-tag}
 use Rattle.equality.proofs.Comparing.{wholes-equal}
-use Rattle.equality.proofs.Levels.{opens-as}
+use Rattle.equality.proofs.Levels.{begun-open, opens-as}
 use Rattle.equality.proofs.Table.{none, Waits, Going, toGo, going-start, going-end, going-back, going-room, going-on, back-less, on-less}
 
 -- ---- The outcome, and a level that has its answer.
@@ -121,8 +121,10 @@ pub ruleset asked-rules = (asked-a, asked-b, asked-in-a, asked-in-b, asked-tag-a
 
 -- ---- The table.
 
-pub table-start : (mt s : List ℤ) (a am : ℕ) (w : Bool) (l : Level) → Target s → Held s a am → Opens mt s a l w → Going mt s w (replicate 8 l) 0 l
-table-start mt s a am w l g v o = going-start mt s a w (replicate 8 l) l g (v .tag) o (length-replicate 8 l)
+pub table-start : (mt s : List ℤ) (kind at a x b y : ℕ) (l : Level) → Target s → Tag s a → (0 < x → Open s (levelOf kind at a x b y)) → l ≡ levelOf kind at a x b y
+    → Going mt s (comesTo mt s (levelOf kind at a x b y)) (replicate 8 l) 0 l
+unfolding levelOf
+table-start mt s kind at a x b y l g v o e = rw e (going-start mt s _ (levelOf kind at a x b y) g v o (length-replicate 8 (levelOf kind at a x b y)))
 
 pub some-x : (x z : ℕ) (c : Bool) → c ≡ endedOf x z → c ≡ false → 0 < x
 unfolding endedOf
@@ -180,4 +182,34 @@ module _ (mt s : List ℤ) (w : Bool) (t : List Level) (d : ℕ) (l : Level) (i 
       pub table-asked-less : toGo s (set t d l) (d + 1) l′ < toGo s t d l
       table-asked-less = on-less mt s w t d l g i h n l′ o
 
-pub ruleset table-rules = (table-start, some-x, some-z, table-open, table-back, table-step, last-x, last-z, last-64, table-end, table-taken, table-taken-less, table-room, table-asked, table-asked-less, held-tag, needs)
+pub ruleset table-rules = (table-start, some-x, some-z, table-open, table-back, table-step, last-x, last-z, last-64, table-end, table-taken, table-taken-less, table-room, table-asked, table-asked-less, needs)
+
+-- ---- A question of two held values.
+
+module _ (mt s : List ℤ) (a : ℕ) (w : Bool) (l : Level) (o : Opens mt s a l w) where
+  level-is : levelOf (l .kind) (l .at) (l .a) (l .x) (l .b) (l .y) ≡ l
+  unfolding levelOf
+  level-is = rw (← o .all)
+
+  parts-are : l .kind ≡ 4 → levelOf 4 (l .at) (l .a) (l .x) (l .b) (l .x) ≡ l
+  parts-are k = let q = o .parts k in let e = level-is in cc
+
+  pub equal-tag : (am : ℕ) → Held s a am → Tag s (l .a)
+  equal-tag am v = rw (o .place) (v .tag)
+
+  pub equal-firsts : 0 < l .x → Marks s (l .a) (l .x)
+  equal-firsts h = o .opens h .firsts
+
+  pub equal-seconds : 0 < l .x → Marks s (l .b) (l .y)
+  equal-seconds h = o .opens h .seconds
+
+  pub parts-seconds : l .kind ≡ 4 → 0 < l .x → Marks s (l .b) (l .x)
+  parts-seconds k h = rw (← o .parts k) (o .opens h .seconds)
+
+  pub equal-comes : (r : Bool) → r ≡ comesTo mt s (levelOf (l .kind) (l .at) (l .a) (l .x) (l .b) (l .y)) → r ≡ w
+  equal-comes r e = e ∙ ap (comesTo mt s) level-is ∙ o .comes
+
+  pub parts-come : (r : Bool) → l .kind ≡ 4 → r ≡ comesTo mt s (levelOf 4 (l .at) (l .a) (l .x) (l .b) (l .x)) → r ≡ w
+  parts-come r k e = e ∙ ap (comesTo mt s) (parts-are k) ∙ o .comes
+
+pub ruleset equal-rules = (begun-open, equal-tag, equal-firsts, equal-seconds, parts-seconds, equal-comes, parts-come, needs)

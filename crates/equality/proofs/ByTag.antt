@@ -165,7 +165,7 @@ module _ (mt s : List ℤ) (i a am b bm k ta tb : ℕ) (g : Target s) (v : Held 
           (λ z. comes-3 (levelOf k (i + 1) a am b bm) mt s g (marks-held s b bm w) z refl (marks-held s a am v) ∙ multiset-equal z)
 
       pub both-opens : (r : Level) → r ≡ levelOf k (i + 1) a am b bm → Opens mt s a r (equalAt mt i s a am b bm)
-      both-opens r u = level-opens mt s k (i + 1) a am b bm _ r (marks-held s a am v) (marks-held s b bm w) u both-comes
+      both-opens r u = level-opens mt s k (i + 1) a am b bm _ r (marks-held s a am v) (marks-held s b bm w) (λ z. absurd (o z)) u both-comes
 
 -- What the calls ask.
 pub held-number : (s : List ℤ) (a am : ℕ) → Target s → Held s a am → tagAt s a < 2147483648

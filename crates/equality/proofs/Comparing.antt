@@ -16,9 +16,7 @@ use Rattle.rules.specs.Numbers.{same, plus}
 use Rattle.rules.specs.Forms.{noMatchers, Value, Values, empty, _▸_, count}
 use Rattle.rules.specs.Equality.{inOrder, equal, equalParts}
 use Rattle.promises.specs.Pairing.{withoutFirst, greedy}
-use Rattle.words.specs.declared.Total.{Total}
-use Rattle.words.specs.declared.Total.the-variants.{Is, Outside}
-use Rattle.words.specs.Words.{summed}
+use Rattle.words.specs.Words.{sameTo}
 use Rattle.marks.specs.Marks.{positions, clear}
 use Rattle.marks.specs.Marked.{nth}
 use Rattle.marks.proofs.Places.{positions-low, positions-none}
@@ -26,8 +24,8 @@ use Rattle.holding.specs.Places.{valueAt, elements, Target, Tag, elementAt}
 use Rattle.holding.specs.Held.{wholeAt, left}
 use Rattle.matchers.specs.Places.{matcherEnd, matcherAt}
 use Rattle.matchers.proofs.Matchers.{matchers-none, matchers-more}
-use Rattle.equality.specs.Equality.{equalAt, wholesEqual, leftInOrder, leftPaired, firstIn, firstEqual, sameTo, isSum}
-use Rattle.holding.proofs.Bits.{same-bits}
+use Rattle.equality.specs.Equality.{equalAt, wholesEqual, leftInOrder, leftPaired, firstIn, firstEqual, isSum}
+use Rattle.words.proofs.Same.{same-bits}
 use Rattle.holding.proofs.Held.{whole-value, left-none}
 use Rattle.equality.specs.Levels.{Marks, markedOff, pairedFrom, partsOf}
 use Rattle.equality.proofs.First.{firstOpt, leftOf, without-first, first-found, first-none}
@@ -35,27 +33,12 @@ use Rattle.equality.proofs.Marks.{marks-64, marks-some, low-left, low-v
 
 -- ---- Words.
 
--- A sum as the code gives it.
-total-is : (o : Option ℤ) (y z : ℤ) → Is y ≡ summed o → same y z ≡ sameTo o z
-unfolding summed sameTo
-total-is none y z e = let q : _≡_ {A = ℕ} 0 1 = cc in absurd (omega arith)
-total-is (some w) y z e = let q : y ≡ w = cc in rw q
+pub sum-is : (s : List ℤ) (a b : ℕ) (x c c′ z : ℤ) (r : Bool) → r ≡ sameTo (plus x c′) z → x ≡ getD s (a + 1) (pos 0) → c′ ≡ c → z ≡ getD s (b + 1) (pos 0)
+    → r ≡ isSum s a c b
+unfolding isSum
+sum-is s a b x c c′ z r e p q u = e ∙ rw (p, q, u)
 
-no-total : (o : Option ℤ) (z : ℤ) → Outside ≡ summed o → false ≡ sameTo o z
-unfolding summed sameTo
-no-total none z e = refl
-no-total (some w) z e = let q : _≡_ {A = ℕ} 0 1 = cc in absurd (omega arith)
-
-module _ (s : List ℤ) (a b : ℕ) (x′ c c′ : ℤ) (t : Total) (e : t ≡ summed (plus x′ c′)) (q : x′ ≡ getD s (a + 1) (pos 0)) (u : c′ ≡ c) where
-  pub sum-is : (r : Bool) (y y′ z′ : ℤ) → t ≡ Is y → r ≡ same y′ z′ → y′ ≡ y → z′ ≡ getD s (b + 1) (pos 0) → r ≡ isSum s a c b
-  unfolding isSum
-  sum-is r y y′ z′ k f p w = let l = total-is (plus x′ c′) y z′ (sym k ∙ e) in f ∙ rw p (l ∙ rw (q, u, w))
-
-  pub no-sum : t ≡ Outside → false ≡ isSum s a c b
-  unfolding isSum
-  no-sum k = let l = no-total (plus x′ c′) (getD s (b + 1) (pos 0)) (sym k ∙ e) in l ∙ rw (q, u)
-
-pub ruleset word-rules = (same-bits, sum-is, no-sum, needs)
+pub ruleset word-rules = (same-bits, sum-is, needs)
 
 -- ---- Whole values.
 

@@ -123,43 +123,39 @@ unfolding settledOf levelOf comesTo
 settled-comes mt s a b true = refl
 settled-comes mt s a b false = refl
 
-settled-second : (a b : ℕ) (t : Bool) → settledOf a b t .b ≡ b
-unfolding settledOf levelOf
-settled-second a b true = refl
-settled-second a b false = refl
-
-settled-place : (a b : ℕ) (t : Bool) → settledOf a b t .a ≡ a
-unfolding settledOf levelOf
-settled-place a b true = refl
-settled-place a b false = refl
-
 pub settled-none : (a b : ℕ) (t : Bool) → 0 < settledOf a b t .x → ⊥
 unfolding settledOf levelOf
 settled-none a b true h = omega arith
 settled-none a b false h = omega arith
 
+pub opens-as : (mt s : List ℤ) (a : ℕ) (l : Level) (r w : Bool) → Opens mt s a l r → r ≡ w → Opens mt s a l w
+opens-as mt s a l r w o e = record { place = o .place; opens = o .opens; tag = o .tag; comes = o .comes ∙ e; all = o .all; parts = o .parts }
+
 -- A question that has its answer opens a level that has it.
+settled-is : (mt s : List ℤ) (a b : ℕ) (t : Bool) → Tag s b → Opens mt s a (settledOf a b t) t
+unfolding settledOf levelOf comesTo
+settled-is mt s a b true w = record { place = refl; opens = λ h. absurd (omega arith); tag = w; comes = refl; all = refl; parts = λ k. absurd (omega arith) }
+settled-is mt s a b false w = record { place = refl; opens = λ h. absurd (omega arith); tag = w; comes = refl; all = refl; parts = λ k. absurd (omega arith) }
+
 pub settled-opens : (mt s : List ℤ) (a b : ℕ) (l : Level) (t r : Bool) → Tag s b → l ≡ settledOf a b t → t ≡ r → Opens mt s a l r
-settled-opens mt s a b l t r w e q = rw e (record {
-  place = settled-place a b t;
-  opens = λ h. absurd (settled-none a b t h);
-  tag = rw (settled-second a b t) w;
-  comes = settled-comes mt s a b t ∙ q;
-})
+settled-opens mt s a b l t r w e q = rw e (opens-as mt s a (settledOf a b t) t r (settled-is mt s a b t w) q)
 
 -- A level on elements or parts that there are.
-pub level-opens : (mt s : List ℤ) (kind at a x b y : ℕ) (r : Bool) (l : Level) → Marks s a x → Marks s b y → l ≡ levelOf kind at a x b y → comesTo mt s (levelOf kind at a x b y) ≡ r
-    → Opens mt s a l r
+pub begun-open : (s : List ℤ) (kind at a x b y : ℕ) → (0 < x → Marks s a x) → (0 < x → Marks s b y) → 0 < x → Open s (levelOf kind at a x b y)
 unfolding levelOf
-level-opens mt s kind at a x b y r l v w e c = rw e (record {
+begun-open s kind at a x b y v w h = record { firsts = v h; seconds = w h; tries = w h; one = λ _. refl }
+
+pub level-opens : (mt s : List ℤ) (kind at a x b y : ℕ) (r : Bool) (l : Level) → Marks s a x → Marks s b y → (kind ≡ 4 → y ≡ x) → l ≡ levelOf kind at a x b y
+    → comesTo mt s (levelOf kind at a x b y) ≡ r → Opens mt s a l r
+unfolding levelOf
+level-opens mt s kind at a x b y r l v w f e c = rw e (record {
   place = refl;
-  opens = λ _. record { firsts = v; seconds = w; tries = w; one = λ _. refl };
+  opens = begun-open s kind at a x b y (λ _. v) (λ _. w);
   tag = w .tag;
   comes = c;
+  all = refl;
+  parts = f;
 })
-
-pub opens-as : (mt s : List ℤ) (a : ℕ) (l : Level) (r w : Bool) → Opens mt s a l r → r ≡ w → Opens mt s a l w
-opens-as mt s a l r w o e = record { place = o .place; opens = o .opens; tag = o .tag; comes = o .comes ∙ e }
 
 module _ (mt s : List ℤ) (g : Target s) (l : Level) (o : Open s l) (h : 0 < l .x) (n : 0 < l .z) where
   abbrev x′ : ℕ

@@ -62,7 +62,7 @@ module _ (mt s : List ℤ) (i a b n m : ℕ) (g : Target s) (v : Tag s a) (w : T
         let f : Marks s a u = marks-all s a u n g v p k in
         let o : Marks s b u = marks-all s b u n g w (c ∙ q) k in
         let h : count (elements (valueAt s a)) ≡ widthAt mt i = count-elements s a g v ∙ sym p ∙ sym e ∙ z ∙ d in
-        level-opens mt s 4 (i + 1) a u b u (tuplesEqual mt i s a b) r f o j
+        level-opens mt s 4 (i + 1) a u b u (tuplesEqual mt i s a b) r f o (λ _. refl) j
         (comes-4 (levelOf 4 (i + 1) a u b u) mt s g o refl ∙ rw (left-all s a u n g v p k, left-all s b u n g w (c ∙ q) k, h))
 
 pub tuples-full : (s : List ℤ) (a n : ℕ) → Target s → Tag s a → n ≡ countAt s a → n ≤ 64

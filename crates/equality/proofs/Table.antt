@@ -47,14 +47,14 @@ folded-set mt s t d l (suc k) r h = rw (getD-set-other t d k l none (λ z. omega
 
 -- ---- The start, and the end.
 
-pub going-start : (mt s : List ℤ) (a : ℕ) (w : Bool) (t : List Level) (l : Level) → Target s → Tag s a → Opens mt s a l w → length t ≡ 8 → Going mt s w t 0 l
+pub going-start : (mt s : List ℤ) (t : List Level) (l : Level) → Target s → Tag s (l .a) → (0 < l .x → Open s l) → length t ≡ 8 → Going mt s (comesTo mt s l) t 0 l
 unfolding folded
-going-start mt s a w t l g v o h = record {
-  answer = sym (o .comes);
+going-start mt s t l g v o h = record {
+  answer = refl;
   long = h;
   waits = λ k j. absurd (omega arith);
-  shape = o .opens;
-  deep = rw (o .place) (let q = g .deep a v in omega arith);
+  shape = o;
+  deep = let q = g .deep (l .a) v in omega arith;
 }
 
 module _ (mt s : List ℤ) (w : Bool) (t : List Level) (d : ℕ) (l : Level) (g : Target s) (i : Going mt s w t d l) where

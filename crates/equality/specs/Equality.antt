@@ -1,14 +1,14 @@
 -- Document 01, section 4, tag 3: equality of held values under a matcher, as the code goes about it.
 use Prim.Native.Nat.{ℕ, _+_}
 use mathlib.Core.Bool.{Bool, true, false, cond}
-use mathlib.Core.Option.{Option, none, some}
 use mathlib.Core.List.{List, [], _∷_}
 use lib.ListN.{getD}
 use lib.IntN.{ℤ, pos}
-use Rattle.rules.specs.Numbers.{same, plus}
+use Rattle.rules.specs.Numbers.{plus}
 use Rattle.rules.specs.Forms.{Value, Values}
 use Rattle.rules.specs.Equality.{inOrder, equal, equalParts}
 use Rattle.promises.specs.Pairing.{greedy}
+use Rattle.words.specs.Words.{sameTo}
 use Rattle.marks.specs.Marked.{nth}
 use Rattle.marks.specs.Marks.{positions}
 use Rattle.matchers.specs.Places.{widthAt, matcherAt, matchersAt}
@@ -46,11 +46,6 @@ firstIn f vs (k ∷ ks) = cond (f (nth vs k)) k (firstIn f vs ks)
 unfoldable pub firstEqual : List ℤ → ℕ → List ℤ → ℕ → ℕ → ℕ → ℕ
 unfolding matcherAt firstIn
 firstEqual mt i s a b y = firstIn (equal (matcherAt mt i) (valueAt s a)) (elements (valueAt s b)) (positions 64 y)
-
--- The same as a number, if there is one.
-unfoldable pub sameTo : Option ℤ → ℤ → Bool
-sameTo none z = false
-sameTo (some y) z = same y z
 
 -- Of integers: the first plus c, if there is such a sum, is the second.
 unfoldable pub isSum : List ℤ → ℕ → ℤ → ℕ → Bool

@@ -95,9 +95,11 @@ pub record Open (s : List ℤ) (l : Level) : Type 0 where
   pub tries : Marks s (l .b) (l .z)
   pub one : (l .kind ≡ 3 → ⊥) → l .z ≡ l .y
 
--- A level on the value at a, that comes to an answer.
+-- A level on the value at a, that comes to an answer; all of y are to try, and of two tuples the same parts are marked.
 pub record Opens (mt s : List ℤ) (a : ℕ) (l : Level) (r : Bool) : Type 0 where
   pub place : l .a ≡ a
   pub opens : 0 < l .x → Open s l
   pub tag : Tag s (l .b)
   pub comes : comesTo mt s l ≡ r
+  pub all : l .z ≡ l .y
+  pub parts : l .kind ≡ 4 → l .y ≡ l .x

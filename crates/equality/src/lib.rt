@@ -10,8 +10,7 @@ use marks::rest;
 use marks::without;
 use matchers::matcher_end;
 use matchers::width_at;
-use words::Total;
-use words::sum;
+use words::is_total;
 use words::tag_at;
 ghost use mathlib.Core.Path.{_≡_};
 ghost use Prim.Native.Nat.{_+_, _^_, _<_, _≤_};
@@ -22,14 +21,7 @@ ghost use Rattle.holding.specs.Places.{Target, Tag};
 ghost use Rattle.holding.specs.Tables.{Places};
 ghost use Rattle.holding.specs.Held.{Held};
 ghost use Rattle.equality.specs.Equality.{equalAt, tuplesEqual, isSum};
-ghost use Rattle.equality.specs.Levels.{endedOf, outcomeOf, levelOf, onwardOf, settledOf, takenOf, questionOf, firstOf, Open, Opens};
-
-// Whether two words are equal.
-fn alike(x: i32, y: i32) -> bool
-    ensures { λ r. ⌜ r ≡ same x y ⌝ }
-{
-    x == y
-}
+ghost use Rattle.equality.specs.Levels.{endedOf, outcomeOf, levelOf, onwardOf, settledOf, takenOf, questionOf, firstOf, comesTo, Open, Opens};
 
 // Whether the integer whose tag stands at a, plus c, is the integer at b.
 pub fn is_sum(s: &[i32], a: usize, c: i32, b: usize) -> bool
@@ -37,12 +29,8 @@ pub fn is_sum(s: &[i32], a: usize, c: i32, b: usize) -> bool
     ensures { λ r. ⌜ r ≡ isSum (now (s .entry)) a c b ⌝ }
 {
     let x = s[a + 1];
-    let t = sum(x, c);
     let z = s[b + 1];
-    match t {
-        Total::Is(y) => alike(y, z),
-        Total::Outside => false,
-    }
+    is_total(x, c, z)
 }
 
 fn wide_count(x: u32) -> usize
@@ -231,22 +219,23 @@ fn asked(mt: &[i32], s: &[i32], base: &[u16; 512], places: &[u16; 512], l: Level
     opened(mt, l.at, s, e, x, f, y)
 }
 
-// Two held values under the matcher whose words start at i.
-pub fn equal(
+// Two collections or two tuples, of which the elements or parts marked x and y are to be compared, as a level has them.
+fn compared(
     mt: &[i32],
-    i: usize,
     s: &[i32],
     base: &[u16; 512],
     places: &[u16; 512],
+    kind: u32,
+    at: usize,
     a: usize,
-    am: u64,
+    x: u64,
     b: usize,
-    bm: u64,
+    y: u64,
 ) -> bool
-    requires { ⌜ Target (now s) ⌝ ∗ ⌜ Places (now s) (now base) (now places) ⌝ ∗ ⌜ Held (now s) a am ⌝ ∗ ⌜ Held (now s) b bm ⌝ }
-    ensures { λ r. ⌜ r ≡ equalAt (now (mt .entry)) i (now (s .entry)) a am b bm ⌝ }
+    requires { ⌜ Target (now s) ⌝ ∗ ⌜ Places (now s) (now base) (now places) ⌝ ∗ ⌜ Tag (now s) a ⌝ ∗ ⌜ (0 < x → Open (now s) (levelOf kind at a x b y)) ⌝ }
+    ensures { λ r. ⌜ r ≡ comesTo (now (mt .entry)) (now (s .entry)) (levelOf kind at a x b y) ⌝ }
 {
-    let mut l = opened(mt, i, s, a, am, b, bm);
+    let mut l = begun(kind, at, a, x, b, y);
     let mut levels = [l; 8];
     let mut depth: usize = 0;
     loop {
@@ -264,4 +253,27 @@ pub fn equal(
             l = asked(mt, s, base, places, l);
         }
     }
+}
+
+// Two held values under the matcher whose words start at i. Of two tuples the same parts are marked; a call of its own for them keeps the comparison a
+// function apart from the search's loop.
+pub fn equal(
+    mt: &[i32],
+    i: usize,
+    s: &[i32],
+    base: &[u16; 512],
+    places: &[u16; 512],
+    a: usize,
+    am: u64,
+    b: usize,
+    bm: u64,
+) -> bool
+    requires { ⌜ Target (now s) ⌝ ∗ ⌜ Places (now s) (now base) (now places) ⌝ ∗ ⌜ Held (now s) a am ⌝ ∗ ⌜ Held (now s) b bm ⌝ }
+    ensures { λ r. ⌜ r ≡ equalAt (now (mt .entry)) i (now (s .entry)) a am b bm ⌝ }
+{
+    let l = opened(mt, i, s, a, am, b, bm);
+    if l.kind == 4 {
+        return compared(mt, s, base, places, 4, l.at, l.a, l.x, l.b, l.x);
+    }
+    compared(mt, s, base, places, l.kind, l.at, l.a, l.x, l.b, l.y)
 }

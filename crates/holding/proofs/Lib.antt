@@ -5,4 +5,3 @@ pub mod Ends
 pub mod Filling
 pub mod Held
 pub mod Accepted
-pub mod Bits

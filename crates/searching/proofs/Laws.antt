@@ -134,20 +134,32 @@ module _ (e : Env) (x : State) (t : Tables) (b : List Binding) (room : List ℤ)
     binds = p ∙ rw (a, eq-eqb _ _ z);
   }
 
-  pub asked-n : (getD (e .op) (x .pc) 0 ≡ 3 → ⊥) → (getD (e .op) (x .pc) 0 ≡ 5 → ⊥) → (getD (e .op) (x .pc) 0 ≡ 6 → ⊥) → b′ ≡ b → q ≡ false → Asked e (run x t b room) q b′
+  asked-n : (getD (e .op) (x .pc) 0 ≡ 3 → ⊥) → (getD (e .op) (x .pc) 0 ≡ 5 → ⊥) → (getD (e .op) (x .pc) 0 ≡ 6 → ⊥) → b′ ≡ b → q ≡ false → Asked e (run x t b room) q b′
   unfolding when
   asked-n n m k p f = record { ask = f ∙ sym (not-asked m k); binds = p ∙ rw (ne-eqb _ _ n) }
 
-  pub asked-5 : (v : ℕ) (r : Bool) (c : ℤ) → (getD (e .op) (x .pc) 0 ≡ 3 → ⊥) → getD (e .op) (x .pc) 0 ≡ 5 → v ≡ getD (e .arg) (x .pc) 0 → b′ ≡ b → q ≡ r
-      → c ≡ getD (e .con) (x .pc) (pos 0) → r ≡ isSum (e .words) (getD b v nothing .at) c (x .at) → Asked e (run x t b room) q b′
-  unfolding asked askOf boundAt when
-  asked-5 v r c n z a p f d h = record { ask = f ∙ h ∙ rw (d, a, eq-eqb _ 5 z); binds = p ∙ rw (ne-eqb _ _ n) }
+  -- Instructions below 3; 4; from 7 on.
+  pub asked-below : getD (e .op) (x .pc) 0 ≤ 2 → b′ ≡ b → q ≡ false → Asked e (run x t b room) q b′
+  asked-below l = asked-n (λ y. omega arith) (λ y. omega arith) (λ y. omega arith)
 
-  pub asked-6 : (v i : ℕ) (r : Bool) → (getD (e .op) (x .pc) 0 ≡ 3 → ⊥) → (getD (e .op) (x .pc) 0 ≡ 5 → ⊥) → getD (e .op) (x .pc) 0 ≡ 6 → v ≡ getD (e .arg) (x .pc) 0
+  pub asked-4 : getD (e .op) (x .pc) 0 < 5 → (getD (e .op) (x .pc) 0 ≡ 3 → ⊥) → b′ ≡ b → q ≡ false → Asked e (run x t b room) q b′
+  asked-4 l n = asked-n n (λ y. omega arith) (λ y. omega arith)
+
+  pub asked-above : 7 ≤ getD (e .op) (x .pc) 0 → b′ ≡ b → q ≡ false → Asked e (run x t b room) q b′
+  asked-above l = asked-n (λ y. omega arith) (λ y. omega arith) (λ y. omega arith)
+
+  pub asked-5 : (v : ℕ) (r : Bool) (c : ℤ) → getD (e .op) (x .pc) 0 ≡ 5 → v ≡ getD (e .arg) (x .pc) 0 → b′ ≡ b → q ≡ r → c ≡ getD (e .con) (x .pc) (pos 0)
+      → r ≡ isSum (e .words) (getD b v nothing .at) c (x .at) → Asked e (run x t b room) q b′
+  unfolding asked askOf boundAt when
+  asked-5 v r c z a p f d h = record { ask = f ∙ h ∙ rw (d, a, eq-eqb _ 5 z); binds = p ∙ rw (ne-eqb (getD (e .op) (x .pc) 0) 3 (λ y. omega arith)) }
+
+  pub asked-6 : (v i : ℕ) (r : Bool) → (getD (e .op) (x .pc) 0 ≡ 5 → ⊥) → 5 ≤ getD (e .op) (x .pc) 0 → getD (e .op) (x .pc) 0 < 7 → v ≡ getD (e .arg) (x .pc) 0
       → i ≡ getD (e .mat) (x .pc) 0 → b′ ≡ b → q ≡ r → r ≡ equalAt (e .matcher) i (e .words) (getD b v nothing .at) (getD b v nothing .marks) (x .at) (x .marks)
       → Asked e (run x t b room) q b′
   unfolding asked askOf boundAt when
-  asked-6 v i r n m z a d p f h = record { ask = f ∙ h ∙ rw (d, a, ne-eqb _ 5 m, eq-eqb _ 6 z); binds = p ∙ rw (ne-eqb _ _ n) }
+  asked-6 v i r m k l a d p f h =
+      let z : getD (e .op) (x .pc) 0 ≡ 6 = omega arith in
+      record { ask = f ∙ h ∙ rw (d, a, ne-eqb _ 5 m, eq-eqb _ 6 z); binds = p ∙ rw (ne-eqb (getD (e .op) (x .pc) 0) 3 (λ y. omega arith)) }
 
 -- ---- A turn.
 

@@ -71,21 +71,27 @@ pub fn advance(
         let at = x.at;
         let m = x.marks;
         let o = op[pc];
-        let v = index(arg[pc]);
         let mut q = false;
-        if o == 3 {
-            b = bind(b, v, Binding { at: at, marks: m });
-        } else if o == 5 {
-            let y = b[v];
-            let g = y.at;
-            let c = con[pc];
-            q = is_sum(s, g, c, at);
-        } else if o == 6 {
-            let y = b[v];
-            let g = y.at;
-            let k = y.marks;
-            let i = index(mat[pc]);
-            q = equal(mt, i, s, base, places, g, k, at, m);
+        if 2 < o {
+            if o == 5 {
+                let v = index(arg[pc]);
+                let y = b[v];
+                let g = y.at;
+                let c = con[pc];
+                q = is_sum(s, g, c, at);
+            } else if o < 5 {
+                if o == 3 {
+                    let v = index(arg[pc]);
+                    b = bind(b, v, Binding { at: at, marks: m });
+                }
+            } else if o < 7 {
+                let v = index(arg[pc]);
+                let y = b[v];
+                let g = y.at;
+                let k = y.marks;
+                let i = index(mat[pc]);
+                q = equal(mt, i, s, base, places, g, k, at, m);
+            }
         }
         x = take(
             x,

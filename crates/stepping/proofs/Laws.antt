@@ -20,7 +20,7 @@ use Rattle.holding.specs.Places.{Target, Tag, countAt, marksAt, elementAt}
 use Rattle.holding.specs.Held.{wholeAt}
 use Rattle.holding.proofs.Elements.{element-tag}
 use Rattle.holding.proofs.Held.{marks-count, held-64}
-use Rattle.holding.proofs.Bits.{same-bits}
+use Rattle.words.proofs.Same.{same-bits}
 use Rattle.stepping.specs.declared.State.{State}
 use Rattle.stepping.specs.Steps.{when, Tables, tables, turned, counted, moved, lived, dropped, pushed, pushedIn, noneOf, opensOf, splitOf}
 use Rattle.stepping.specs.Steps.{stored, isWide, partMarks, apartAt, apartAts, apartBacks, apartOf, keptAt, keptIn, framedAt, framedIn, cutTo, sidesOf, divideOf, Steps, Divides, Aparts, Sides}

@@ -13,12 +13,12 @@ use Rattle.rules.specs.Numbers.{same, plus}
 use Rattle.rules.specs.Forms.{Matcher, something, integer, list, multiset, tupleOf, Matchers, Value, int, collection, tupled, words}
 use Rattle.rules.specs.Fit.{takes, tagsOf, among, solid, isInteger, ofCollection, ofTuple, sameShape}
 use Rattle.rules.specs.Equality.{equal, raised, equalTo, isConstant, isEmpty}
-use Rattle.words.specs.Words.{tagAt}
+use Rattle.words.specs.Words.{tagAt, sameTo}
 use Rattle.marks.proofs.Marked.{empty-marked}
 use Rattle.holding.specs.Places.{valueAt, elements, Target}
 use Rattle.holding.specs.Held.{left}
 use Rattle.rows.specs.Row.{holds}
-use Rattle.equality.specs.Equality.{sameTo, isSum}
+use Rattle.equality.specs.Equality.{isSum}
 use Rattle.rows.specs.declared.Binding.{Binding}
 use Rattle.holding.proofs.Elements.{tagOf}
 use Rattle.equality.proofs.ByTag.{wants, tag-held}

@@ -1,11 +1,11 @@
--- A word as an unsigned tag: numbers that no table has stand for a negative word and for a word that is not there. The sum of tag 3 as the code gives it.
+-- A word as an unsigned tag: numbers that no table has stand for a negative word and for a word that is not there. Whether the sum of tag 3 is a word.
 use Prim.Native.Nat.{ℕ}
+use mathlib.Core.Bool.{Bool, false}
 use mathlib.Core.Option.{Option, none, some}
 use mathlib.Core.List.{List}
 use lib.ListN.{getD}
 use lib.IntN.{ℤ, pos, negsuc}
-use Rattle.words.specs.declared.Total.{Total}
-use Rattle.words.specs.declared.Total.the-variants.{Is, Outside}
+use Rattle.rules.specs.Numbers.{same}
 
 -- A word's number; of a negative word a number that no word has.
 abbrev pub tagZ : ℤ → ℕ
@@ -20,7 +20,7 @@ tagAt s at = tagZ (getD s at (negsuc 0))
 abbrev pub entries : ℕ
 entries = 650
 
--- A sum, or that there is none.
-unfoldable pub summed : Option ℤ → Total
-summed none = Outside
-summed (some y) = Is y
+-- Whether a sum, if there is one, is z.
+unfoldable pub sameTo : Option ℤ → ℤ → Bool
+sameTo none z = false
+sameTo (some y) z = same y z

@@ -6,16 +6,10 @@ ghost use lib.Signed.{mag};
 ghost use mir.Syntax.{w32};
 ghost use mir.Val.{toZ, ofZ};
 ghost use Rattle.rules.specs.Numbers.{plus};
-ghost use Rattle.words.specs.Words.{tagZ, tagAt, summed};
+ghost use Rattle.words.specs.Words.{tagZ, tagAt, sameTo};
 
 // The entries of a program's arrays and of the tables of its slots, one for each line; 256 words make at most 641 lines.
 pub const ENTRIES: usize = 650;
-
-// The sum of tag 3, where there is one.
-pub enum Total {
-    Is(i32),
-    Outside,
-}
 
 // A word's number, or 2147483648, which no word has, where it is negative.
 pub fn tag_of(w: i32) -> u32
@@ -41,13 +35,6 @@ fn wide(x: i32) -> i64
     x as i64
 }
 
-fn narrow(z: i64) -> i32
-    requires { ⌜ mag z < 2 ^ 31 ⌝ }
-    ensures { λ r. ⌜ r ≡ z ⌝ }
-{
-    z as i32
-}
-
 fn added(a: i64, b: i64) -> i64
     requires { ⌜ (mag a < 2 ^ 40) × (mag b < 2 ^ 40) ⌝ }
     ensures { λ r. ⌜ r ≡ a +ℤ b ⌝ }
@@ -55,18 +42,12 @@ fn added(a: i64, b: i64) -> i64
     a + b
 }
 
-// x + c, where it is in the signed 32-bit range.
-pub fn sum(x: i32, c: i32) -> Total
-    ensures { λ r. ⌜ r ≡ summed (plus x c) ⌝ }
+// Whether the sum of tag 3, x + c, is z. With 64 bits no sum is lost; one outside the signed 32-bit range is no word.
+pub fn is_total(x: i32, c: i32, z: i32) -> bool
+    ensures { λ r. ⌜ r ≡ sameTo (plus x c) z ⌝ }
 {
-    let z = added(wide(x), wide(c));
-    if z < -2147483648 {
-        return Total::Outside;
-    }
-    if 2147483647 < z {
-        return Total::Outside;
-    }
-    Total::Is(narrow(z))
+    let t = added(wide(x), wide(c));
+    t == wide(z)
 }
 
 // The two's complement bits of a word.

@@ -1,41 +1,16 @@
 -- `equality::equal` meets its contract. Assumes nothing.
-use Rattle.equality.specs.Equality.{equalAt}
-use Rattle.equality.proofs.Table.{Going, toGo}
-use Rattle.equality.proofs.Asking.{table-rules}
+use Rattle.equality.proofs.Asking.{equal-rules}
 use Rattle.equality.proofs.equal.Statement.{statement}
 use Rattle.equality.proofs.equal.Tie as tie
-use Rattle.equality.proofs.asked.Reads as asked-reads
-use Rattle.equality.proofs.ended.Reads as ended-reads
+use Rattle.equality.proofs.compared.Reads as compared-reads
 use Rattle.equality.proofs.opened.Reads as opened-reads
-use Rattle.equality.proofs.outcome.Reads as outcome-reads
-use Rattle.equality.proofs.taken.Reads as taken-reads
-
-abbrev Inv-loop : tie.InvT-loop
-Inv-loop mt i s base places a am b bm l₀ levels₀ depth₀ l levels depth = Going mt s (equalAt mt i s a am b bm) levels depth l
-
-abbrev μ-loop : tie.MeasureT-loop
-μ-loop mt i s base places a am b bm l₀ levels₀ depth₀ l levels depth = toGo s levels depth l
 
 pub equal-spec : {M : Type 1} → statement M
 equal-spec =
     tie.close
     (tie.spec
-    Inv-loop
-    μ-loop
-    (λ c κs. search table-rules)  -- opened-requires
-    (λ c. search table-rules)  -- loop-holds
-    (λ c κs. search table-rules)  -- ended-requires
-    (λ c κs. search table-rules)  -- outcome-requires
-    (λ c. search table-rules)  -- returns
-    (λ c. search table-rules)  -- sub-depth
-    (λ c. search table-rules)  -- mul-taken
-    (λ c. search table-rules)  -- array-copy-out-taken
-    (λ c κs. search table-rules)  -- taken-requires
-    (λ c. search table-rules)  -- loop-less
-    (λ c. search table-rules)  -- loop-again
-    (λ c. search table-rules)  -- mul-levels
-    (λ c. search table-rules)  -- array-set-from-levels
-    (λ c. search table-rules)  -- add-depth
-    (λ c κs. search table-rules)  -- asked-requires
-    (λ c. search table-rules)  -- loop-less-2
-    (λ c. search table-rules))  -- loop-again-2
+    (λ c κs. search equal-rules)  -- opened-requires
+    (λ c κs. (search equal-rules, (search equal-rules, (search equal-rules, search equal-rules))))  -- compared-requires
+    (λ c. search equal-rules)  -- returns
+    (λ c κs. (search equal-rules, (search equal-rules, (search equal-rules, search equal-rules))))  -- compared-requires-2
+    (λ c. search equal-rules))  -- returns-2

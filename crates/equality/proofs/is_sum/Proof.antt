@@ -2,8 +2,7 @@
 use Rattle.equality.proofs.Comparing.{word-rules}
 use Rattle.equality.proofs.is_sum.Statement.{statement}
 use Rattle.equality.proofs.is_sum.Tie as tie
-use Rattle.equality.proofs.alike.Reads as alike-reads
-use Rattle.words.proofs.sum.Reads as sum-reads
+use Rattle.words.proofs.is_total.Reads as is-total-reads
 
 pub is-sum-spec : {M : Type 1} → statement M
 is-sum-spec =
@@ -12,12 +11,8 @@ is-sum-spec =
     (λ c. search word-rules)
     (λ c. search word-rules)
     (λ c. search word-rules)
-    (λ c κs. search word-rules)
-    (λ c. search word-rules)
     (λ c. search word-rules)
     (λ c. search word-rules)
     (λ c. search word-rules)
     (λ c κs. search word-rules)
-    (λ c. search word-rules)
-    (λ c. search word-rules)
     (λ c. search word-rules))
