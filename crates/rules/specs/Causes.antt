@@ -3,9 +3,9 @@ use Prim.Native.Nat.{ℕ, zero, suc}
 use mathlib.Core.Bool.{true, false}
 use mathlib.Core.Option.{Option, none, some}
 use mathlib.Core.List.{List, [], _∷_}
-use lib.ListN.{length, getElem?}
+use lib.ListN.{length}
 use lib.Dec.{leb}
-use lib.IntN.{ℤ, pos, negsuc}
+use lib.IntN.{ℤ}
 use Rattle.rules.specs.Reading.{entry, width, atMost64}
 
 -- "1 over length, 2 unknown tag, 3 count out of range, 4 too deep, 5 cut short, 6 left over; with No. 1, 7 for a tuple's width."
