@@ -1,10 +1,11 @@
 // Test 5: the words are one whole target in the limits; a fault has a cause beside its place. Elements and parts are read by recursion, the remaining depth falling at each call.
+use super::Ended;
 use super::between;
 use words::tag_at;
 ghost use mathlib.Core.Path.{_≡_};
 ghost use Rattle.rules.specs.Reading.{readTarget};
 ghost use Rattle.rules.specs.Causes.{causeOf};
-ghost use Rattle.reading.specs.Targets.{causeAt, countCause, countFits, found, valuedFrom, wholeValue};
+ghost use Rattle.reading.specs.Targets.{causeAt, countCause, countFits, found, valueFrom, valuedFrom, wholeValue};
 
 // Where a value ends, or the place and the cause of the first word at fault.
 pub enum Valued {
@@ -54,7 +55,7 @@ fn cause_at(s: &[i32], at: usize, wrong: u32) -> u32
 }
 
 // The value at an index, in which so many collections or tuples may stand one inside the other.
-pub fn value_end(s: &[i32], at: usize, depth: u32) -> Valued
+fn read_value(s: &[i32], at: usize, depth: u32) -> Valued
     ensures { λ r. ⌜ r ≡ valuedFrom (now (s .entry)) depth at ⌝ }
 {
     let t = tag_at(s, at);
@@ -77,7 +78,7 @@ pub fn value_end(s: &[i32], at: usize, depth: u32) -> Valued
     }
     let mut e = at + 2;
     while 0 < left {
-        match value_end(s, e, depth - 1) {
+        match read_value(s, e, depth - 1) {
             Valued::End(x) => {
                 e = x;
                 left -= 1;
@@ -86,6 +87,16 @@ pub fn value_end(s: &[i32], at: usize, depth: u32) -> Valued
         }
     }
     Valued::End(e)
+}
+
+// Where it ends, or the place of the first word at fault.
+pub fn value_end(s: &[i32], at: usize, depth: u32) -> Ended
+    ensures { λ r. ⌜ r ≡ valueFrom (now (s .entry)) depth at ⌝ }
+{
+    match read_value(s, at, depth) {
+        Valued::End(e) => Ended::End(e),
+        Valued::Bad(i, _) => Ended::Bad(i),
+    }
 }
 
 // What the end of a value says where it is to be the whole slice: a word that is left over is at fault.
@@ -111,5 +122,5 @@ pub fn test_target(s: &[i32]) -> Found
     if 1024 < s.len() {
         return Found::Fault(1024, OVER_LENGTH);
     }
-    whole_value(s, value_end(s, 0, 8))
+    whole_value(s, read_value(s, 0, 8))
 }

@@ -22,6 +22,7 @@ use Rattle.words.proofs.Signed as signed
 use Rattle.reading.specs.Ends.{endOf, onward, inRow, within}
 use Rattle.reading.specs.Targets.{causeAt, countCause, countFits, valueFrom, valued, valuedFrom, further, inLine}
 use Rattle.reading.specs.declared.Ended.the-variants as ended
+use Rattle.reading.specs.declared.target.Valued.{Valued}
 use Rattle.reading.specs.declared.target.Valued.the-variants.{End, Bad}
 use Rattle.reading.proofs.Known.{past, entry-tag}
 use Rattle.reading.proofs.Rows.{Along, Takes, width-takes}
@@ -168,6 +169,24 @@ module _ (s : List ℤ) (d at : ℕ) where
   pub valued-end : (i : ℕ) → valueFrom s d at ≡ ended.End i → valuedFrom s d at ≡ End i
   unfolding valueFrom valuedFrom
   valued-end i e = ended-end (target d at (drop at s)) (value d (drop at s)) i e
+
+-- The place alone.
+module _ (s : List ℤ) (d at : ℕ) (v : Valued) (e : v ≡ valuedFrom s d at) where
+  pub place-end : (i : ℕ) → v ≡ End i → ended.End i ≡ valueFrom s d at
+  unfolding valuedFrom valueFrom valued endOf
+  place-end i q = go (target d at (drop at s)) (sym q ∙ e)
+    where
+      go : (x : Verdict (Got Value)) → End i ≡ valued x (value d (drop at s)) → ended.End i ≡ endOf x
+      go (ok g) r = let p : i ≡ g .next = cc in ap ended.End p
+      go (fault j) r = let z : _≡_ {A = ℕ} 0 1 = cc in absurd (omega arith)
+
+  pub place-bad : (i c : ℕ) → v ≡ Bad i c → ended.Bad i ≡ valueFrom s d at
+  unfolding valuedFrom valueFrom valued endOf
+  place-bad i c q = go (target d at (drop at s)) (sym q ∙ e)
+    where
+      go : (x : Verdict (Got Value)) → Bad i c ≡ valued x (value d (drop at s)) → ended.Bad i ≡ endOf x
+      go (ok g) r = let z : _≡_ {A = ℕ} 0 1 = cc in absurd (omega arith)
+      go (fault j) r = let p : i ≡ j = cc in ap ended.Bad p
 
 look-wrong : (d at : ℕ) (ws : List ℤ) (i : ℕ) → target d at ws ≡ fault i → (c : Cause) × (value d ws ≡ wrong c)
 unfolding Agree

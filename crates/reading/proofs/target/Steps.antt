@@ -26,7 +26,7 @@ use Rattle.reading.specs.declared.target.Found.the-variants.{Passed, Fau
 use Rattle.reading.proofs.Rows.{Along}
 use Rattle.reading.proofs.Turns.{width-most, next-two, depth-pos, depth-less}
 use Rattle.reading.proofs.target.Values.{target-along, other, integer, deep, wrong}
-use Rattle.reading.proofs.target.Looks.{other-cause, integer-cut, deep-cause, count-cause, valued-bad, valued-end, valued-row}
+use Rattle.reading.proofs.target.Looks.{other-cause, integer-cut, deep-cause, count-cause, valued-bad, valued-end, valued-row, place-end, place-bad}
 
 -- ---- A count.
 
@@ -144,7 +144,7 @@ module _ (s : List ℤ) (e : Valued) where
   unfolding wholeValue
   ret-bad i c q = rw q
 
-pub ruleset end-rules = (ret-left-over, ret-all, ret-bad, needs)
+pub ruleset end-rules = (ret-left-over, ret-all, ret-bad, place-end, place-bad, needs)
 
 -- ---- The whole test.
 
