@@ -12,6 +12,7 @@ pub struct Tally {
     pub answers: [u64; 12],
     pub tuples: [u64; 12],
     pub choices: [u64; 12],
+    pub causes: [u64; 8],
 }
 
 struct Seen<T> {
@@ -67,6 +68,9 @@ impl Tally {
             }
         }
         if r.once_in(10) {
+            inputs::damage_units(r, &mut target);
+        }
+        if r.once_in(10) {
             let cap = match r.below(8) {
                 0 => r.pick(&[-1, 65, i32::MIN, i32::MAX]),
                 1 | 2 => r.below(3) as i32,
@@ -90,6 +94,7 @@ impl Tally {
         let untouched = GUARD + ours.numbers[4] as usize;
         let kept = ours.room[..GUARD] == held[..GUARD] && ours.room[untouched..] == held[untouched..];
         let same = ours.numbers == theirs.numbers && ours.room == theirs.room && kept;
+        self.causes[ours.numbers[5] as usize] += 1;
         self.see(ours.numbers[0], [m, p], same, || {
             format!("{m:?} {p:?} {t:?} {budget} {room}: {:?} {:?}", ours.numbers, theirs.numbers)
         });
@@ -97,7 +102,8 @@ impl Tally {
 }
 
 pub fn random(services: &Services, inputs: u64, seed: u64) -> Tally {
-    let mut tally = Tally { inputs: 0, differ: 0, answers: [0; 12], tuples: [0; 12], choices: [0; 12] };
+    let none = [0; 12];
+    let mut tally = Tally { inputs: 0, differ: 0, answers: none, tuples: none, choices: none, causes: [0; 8] };
     let mut r = Random(seed);
     while tally.inputs < inputs {
         tally.one(&mut r, services);

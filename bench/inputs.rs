@@ -350,3 +350,19 @@ pub fn damage(r: &mut Random, words: &mut Vec<i32>) {
         _ => {}
     }
 }
+
+/// Damage of one of the kinds that a target's causes tell apart: its length, a tag, a count, a depth, its end, more words, a tuple's width; and now and
+/// then only nearly so. (Tags stand at even places.)
+pub fn damage_units(r: &mut Random, words: &mut Vec<i32>) {
+    let at = 2 * r.below(words.len() as u64 / 2 + 1) as usize;
+    let behind = (at + 2).min(words.len());
+    match r.below(7) {
+        0 => words.resize(r.pick(&[1024, 1025, 1026, 1500, 2000]) as usize, r.pick(&[0, 1, 9])),
+        1 => drop(words.splice(at..behind, [r.pick(&[2, 3, 4, -1, i32::MIN, i32::MAX]), r.below(3) as i32])),
+        2 => drop(words.splice(at..behind, [1, r.pick(&[64, 65, 66, -1, i32::MIN, i32::MAX])])),
+        3 => drop(words.splice(at..at, [1, 1].repeat(6 + r.below(4) as usize))),
+        4 => words.truncate(r.below(words.len() as u64 + 1) as usize),
+        5 => words.extend([r.pick(&[0, 1, 2, 9, -1]), 0, 0].iter().take(1 + r.below(3) as usize)),
+        _ => drop(words.splice(at..behind, [2, r.pick(&[0, 1, 2, 4, 5, -1, i32::MIN, i32::MAX])])),
+    }
+}

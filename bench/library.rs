@@ -66,7 +66,7 @@ fn call_review(rule: [&[i32]; 2], cap: i32, numbers: &mut [u8]) -> u32 {
 }
 
 pub fn match_words(matcher: &[i32], pattern: &[i32], target: &[i32], budget: u32, room: &mut [i32]) -> Matched {
-    let mut bytes = [MARK; 48];
+    let mut bytes = [MARK; 56];
     let answer = call_match([matcher, pattern], target, budget, room, &mut bytes);
     numbers(&bytes, answer)
 }
@@ -80,15 +80,15 @@ pub fn review(matcher: &[i32], pattern: &[i32], cap: i32) -> Reviewed {
 /// Answer 24: slices too short for the numbers, of every length; nothing is written anywhere. Gives how many were tried.
 pub fn short() -> usize {
     let rule: [&[i32]; 2] = [&[3, 1], &[5, 1, 0, 0]];
-    for len in 0..40 {
-        let (mut bytes, mut room) = ([MARK; 40], [-7; 4]);
+    for len in 0..48 {
+        let (mut bytes, mut room) = ([MARK; 48], [-7; 4]);
         let answer = call_match(rule, &[1, 1, 0, 7], 99, &mut room, &mut bytes[..len]);
-        assert!(answer == 24 && bytes == [MARK; 40] && room == [-7; 4], "match, {len} bytes for the numbers");
+        assert!(answer == 24 && bytes == [MARK; 48] && room == [-7; 4], "match, {len} bytes for the numbers");
     }
     for len in 0..24 {
         let mut bytes = [MARK; 24];
         let answer = call_review(rule, 3, &mut bytes[..len]);
         assert!(answer == 24 && bytes == [MARK; 24], "review, {len} bytes for the numbers");
     }
-    64
+    48 + 24
 }

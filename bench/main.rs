@@ -48,6 +48,7 @@ fn run_comparison(inputs: u64, seed: u64) -> bool {
     println!("  by answer, 0 to 11: {:?}", tally.answers);
     println!("  of these under tuples: {:?}", tally.tuples);
     println!("  of these with and, or, not: {:?}", tally.choices);
+    println!("  answer 5 by cause, 1 to 7: {:?}", &tally.causes[1..]);
     tally.differ == 0
 }
 

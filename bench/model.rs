@@ -1,4 +1,4 @@
-//! Document 01, with the requests No. 1, 2, 3 and 5 of document 02, written out sentence by sentence over trees and lists of states: slow, and unlike the reference in every way, to check that one by.
+//! Document 01, with the requests No. 1, 2, 3, 5 and 6 of document 02, written out sentence by sentence over trees and lists of states: slow, and unlike the reference in every way, to check that one by.
 
 use crate::reference::{Matched, Reviewed};
 
@@ -428,7 +428,7 @@ fn run(m: &Matcher, p: &Pattern, v: Value, budget: u32, room: &mut [i32]) -> Mat
             }
         }
     }
-    [answer, 0, rows, steps, written as u64]
+    [answer, 0, rows, steps, written as u64, 0]
 }
 
 // ---- Section 3: the two services.
@@ -451,10 +451,26 @@ fn all(matcher: &[i32], pattern: &[i32], target: &[i32]) -> Result<(Matcher, Pat
     Ok((m, p, v))
 }
 
+/// Document 02, No. 6, told from the place alone. A value's tag stands at an even place and is followed by one word; so before an even place as many
+/// tags stand as half of it, and the target is whole there if all that they open are among them.
+fn cause(target: &[i32], place: usize) -> u64 {
+    let opened = |head: &[i32]| if head[0] == 0 { 0 } else { i64::from(head[1]) };
+    match target.get(place) {
+        _ if target.len() > 1024 => 1,
+        None => 5,
+        Some(_) if place % 2 == 1 && target[place - 1] == 1 => 3,
+        Some(_) if place % 2 == 1 => 7,
+        Some(_) if place > 0 && target[..place].chunks(2).map(opened).sum::<i64>() == place as i64 / 2 - 1 => 6,
+        Some(1) | Some(2) => 4,
+        Some(_) => 2,
+    }
+}
+
 pub fn match_words(matcher: &[i32], pattern: &[i32], target: &[i32], budget: u32, room: &mut [i32]) -> Matched {
     match all(matcher, pattern, target) {
         Ok((m, p, v)) => run(&m, &p, v, budget, room),
-        Err((answer, place)) => [answer, place as u64, 0, 0, 0],
+        Err((5, place)) => [5, place as u64, 0, 0, 0, cause(target, place)],
+        Err((answer, place)) => [answer, place as u64, 0, 0, 0, 0],
     }
 }
 

@@ -1,8 +1,8 @@
-//! Document 01, with the requests No. 1, 2, 3 and 5 of document 02, by plain recursion on the words, as a good Rust engineer would write it: no tree, no heap.
+//! Document 01, with the requests No. 1, 2, 3, 5 and 6 of document 02, by plain recursion on the words, as a good Rust engineer would write it: no tree, no heap.
 //! It knows nothing of the library and nothing of the proofs.
 
-/// Match's five numbers: answer, place, rows, steps, words written.
-pub type Matched = [u64; 5];
+/// Match's six numbers: answer, place, rows, steps, words written, cause.
+pub type Matched = [u64; 6];
 
 /// Review's three numbers: answer, place, count.
 pub type Reviewed = [u64; 3];
@@ -221,6 +221,30 @@ impl Fitting<'_> {
     }
 }
 
+/// What is wrong with a target, in document 02's order: No. 6.
+#[derive(Clone, Copy)]
+enum Cause {
+    OverLength = 1,
+    UnknownTag,
+    Count,
+    TooDeep,
+    CutShort,
+    LeftOver,
+    Width,
+}
+
+/// Where a value ends, or the place of the first word at fault and what is wrong there.
+type ReadUnits = Result<usize, (usize, Cause)>;
+
+/// The count or the width behind a tag, from `least` to `most`; else it is missing, or it is at fault itself.
+fn size_at(words: &[i32], at: usize, least: i32, most: i32, fault: Cause) -> ReadUnits {
+    match words.get(at) {
+        None => Err((at, Cause::CutShort)),
+        Some(&size) if size < least || size > most => Err((at, fault)),
+        Some(&size) => Ok(size as usize),
+    }
+}
+
 /// Where the elements of each collection stand, and where each value ends, by the index of its tag. (At most 512 elements have been read, and at
 /// most eight collections with 64 each are still being read.)
 struct Places {
@@ -235,15 +259,14 @@ impl Places {
         Places { first: [0; 1024], end: [0; 1024], elements: [0; 1024], used: 0 }
     }
 
-    fn value(&mut self, words: &[i32], at: usize, depth: usize) -> Read {
+    fn value(&mut self, words: &[i32], at: usize, depth: usize) -> ReadUnits {
         let end = match words.get(at) {
+            None => return Err((at, Cause::CutShort)),
             Some(0) if at + 1 < words.len() => at + 2,
-            Some(0) => return Err(words.len()),
-            Some(1) if depth > 0 => {
-                let count = match words.get(at + 1) {
-                    Some(&count @ 0..=64) => count as usize,
-                    _ => return Err(at + 1),
-                };
+            Some(0) => return Err((at + 1, Cause::CutShort)),
+            Some(1) | Some(2) if depth == 0 => return Err((at, Cause::TooDeep)),
+            Some(1) => {
+                let count = size_at(words, at + 1, 0, 64, Cause::Count)?;
                 let first = self.used;
                 self.first[at] = first as u16;
                 let mut end = at + 2;
@@ -254,25 +277,26 @@ impl Places {
                 }
                 end
             }
-            Some(2) if depth > 0 => {
+            Some(2) => {
                 let mut end = at + 2;
-                for _ in 0..width(words, at + 1)? {
+                for _ in 0..size_at(words, at + 1, 2, 4, Cause::Width)? {
                     end = self.value(words, end, depth - 1)?;
                 }
                 end
             }
-            _ => return Err(at),
+            Some(_) => return Err((at, Cause::UnknownTag)),
         };
         self.end[at] = end as u16;
         Ok(end)
     }
 }
 
-fn read_target(words: &[i32], places: &mut Places) -> Result<(), usize> {
+fn read_target(words: &[i32], places: &mut Places) -> Result<(), (usize, Cause)> {
     if words.len() > 1024 {
-        return Err(1024);
+        return Err((1024, Cause::OverLength));
     }
-    whole(words, places.value(words, 0, 8)?)
+    let end = places.value(words, 0, 8)?;
+    whole(words, end).map_err(|place| (place, Cause::LeftOver))
 }
 
 /// A matcher and a target, and where the parts of each end.
@@ -684,15 +708,16 @@ pub fn match_words(matcher: &[i32], pattern: &[i32], target: &[i32], budget: u32
     let mut rule = Rule { matcher_ends: [0; 64], ends: [0; 256] };
     let mut places = Places::new();
     let read = |rule: &mut Rule, places: &mut Places| {
-        let variables = read_rule(matcher, pattern, rule)?;
-        read_target(target, places).map_err(refused(5))?;
+        let turned_away = |(answer, place)| [answer, place, 0, 0, 0, 0];
+        let variables = read_rule(matcher, pattern, rule).map_err(turned_away)?;
+        read_target(target, places).map_err(|(place, cause)| [5, place as u64, 0, 0, 0, cause as u64])?;
         let forms = Forms { matcher, matcher_ends: &rule.matcher_ends, target, places };
-        fits_value(forms, 0, 0).map_err(refused(6))?;
+        fits_value(forms, 0, 0).map_err(refused(6)).map_err(turned_away)?;
         Ok(variables)
     };
     let variables = match read(&mut rule, &mut places) {
         Ok(variables) => variables,
-        Err((answer, place)) => return [answer, place, 0, 0, 0],
+        Err(numbers) => return numbers,
     };
     let mut search = Search {
         matcher,
@@ -716,7 +741,7 @@ pub fn match_words(matcher: &[i32], pattern: &[i32], target: &[i32], budget: u32
         Err(Stop::Budget) => 7,
         Err(_) => 8,
     };
-    [answer, 0, search.rows as u64, search.steps as u64, search.words as u64]
+    [answer, 0, search.rows as u64, search.steps as u64, search.words as u64, 0]
 }
 
 /// Section 6's sum and product, as far as a walk of the pattern has come. Each is exact or at its largest number; so 0 times what is too large is 0.

@@ -1,5 +1,6 @@
 //! Section 9 of document 01: the trial program as a function from its input to its output.
 
+use crate::reference::Matched;
 use crate::Services;
 
 /// An optional minus and 1 to 10 digits, in a range.
@@ -91,8 +92,8 @@ fn line<T: ToString>(numbers: &[T]) -> String {
     numbers.join(" ") + "\n"
 }
 
-/// The five numbers, and the rows.
-pub fn answered(services: &Services, q: &Question) -> ([u64; 5], Vec<Vec<i32>>) {
+/// The six numbers, and the rows.
+pub fn answered(services: &Services, q: &Question) -> (Matched, Vec<Vec<i32>>) {
     let mut room = vec![0; q.room];
     let numbers = (services.match_words)(&q.matcher, &q.pattern, &q.target, q.budget, &mut room);
     let mut rest = &room[..numbers[4] as usize];

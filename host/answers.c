@@ -1,5 +1,6 @@
-/* Every answer of document 01's table, once through the C border, with guard
- * words around the room and guard bytes around the numbers. */
+/* Every answer of document 01's table and every cause of answer 5 through the
+ * C border, with guard words around the room and guard bytes around the
+ * numbers. */
 #include "lozhbinor.h"
 
 #include <inttypes.h>
@@ -50,20 +51,28 @@ static size_t parse(const char *text, int32_t *into)
     return n;
 }
 
-static void match(const char *m, const char *p, const char *t, uint32_t budget, size_t room, const char *expected)
+static void match_units(const char *m, const char *p, const int32_t *units, size_t count, uint32_t budget, size_t room, const char *expected)
 {
-    int32_t mw[64], pw[64], tw[64];
-    size_t mn = parse(m, mw), pn = parse(p, pw), tn = parse(t, tw);
+    int32_t mw[64], pw[64];
+    size_t mn = parse(m, mw), pn = parse(p, pw);
     char got[128];
     clear();
-    uint32_t answer = lozhbinor_match(mw, mn, pw, pn, tw, tn, budget, words + GUARD, room, bytes + GUARD, LOZHBINOR_MATCH_BYTES + SPARE);
+    uint32_t answer = lozhbinor_match(mw, mn, pw, pn, units, count, budget, words + GUARD, room, bytes + GUARD, LOZHBINOR_MATCH_BYTES + SPARE);
     const uint8_t *numbers = bytes + GUARD;
-    snprintf(got, sizeof got, "%" PRIu64 " %" PRIu64 " %" PRIu64 " %" PRIu64 " %" PRIu64, lozhbinor_number(numbers, 0), lozhbinor_number(numbers, 1),
-             lozhbinor_number(numbers, 2), lozhbinor_number(numbers, 3), lozhbinor_number(numbers, 4));
+    snprintf(got, sizeof got, "%" PRIu64 " %" PRIu64 " %" PRIu64 " %" PRIu64 " %" PRIu64 " %" PRIu64, lozhbinor_number(numbers, 0),
+             lozhbinor_number(numbers, 1), lozhbinor_number(numbers, 2), lozhbinor_number(numbers, 3), lozhbinor_number(numbers, 4),
+             lozhbinor_number(numbers, 5));
     printf("match  %s\n", got);
     check(answer == lozhbinor_number(numbers, 0), "the call's answer is the first number");
     check(strcmp(got, expected) == 0, expected);
     untouched((size_t)lozhbinor_number(numbers, 4), LOZHBINOR_MATCH_BYTES);
+}
+
+static void match(const char *m, const char *p, const char *t, uint32_t budget, size_t room, const char *expected)
+{
+    int32_t tw[64];
+    size_t tn = parse(t, tw);
+    match_units(m, p, tw, tn, budget, room, expected);
 }
 
 static void review(const char *m, const char *p, int32_t cap, const char *expected)
@@ -99,19 +108,26 @@ static void too_short(void)
 
 int main(void)
 {
-    match("3 1", "5 1 0 5 3 0 0 0", "1 3 0 2 0 8 0 2", 1000, ROOM, "0 0 2 22 4");
-    match("3 4 2 1 1", "5 7 2 1 0 1 1 5 7 2 3 0 0 3 1 1 0", "1 3 2 2 0 1 0 4 2 2 0 2 0 5 2 2 0 1 0 5", 1000, ROOM, "0 0 1 36 4");
-    match("9", "0", "0 7", 1000, ROOM, "1 0 0 0 0");
-    match("3 1", "5 1 0 10 5 3 0 0 0", "1 3 0 2 0 8 0 2", 1000, ROOM, "0 0 1 25 2");
-    match("3 1", "5 8 1 0 9 2 4 2 9 0", "1 3 0 4 0 7 0 9", 1000, ROOM, "0 0 2 25 4");
-    match("1", "11", "0 7", 1000, ROOM, "2 0 0 0 0");
-    match("1", "1 5", "0 7", 1000, ROOM, "3 0 0 0 0");
-    match("1", "9 0 1 0", "0 7", 1000, ROOM, "3 2 0 0 0");
-    match("1", "4", "0 7", 1000, ROOM, "4 0 0 0 0");
-    match("1", "0", "0", 1000, ROOM, "5 1 0 0 0");
-    match("1", "0", "1 0", 1000, ROOM, "6 0 0 0 0");
-    match("3 1", "5 1 0 5 3 0 0 0", "1 3 0 2 0 8 0 2", 9, ROOM, "7 0 1 9 2");
-    match("3 1", "5 1 0 5 3 0 0 0", "1 3 0 2 0 8 0 2", 1000, 3, "8 0 1 21 2");
+    static const int32_t too_many[1025];
+    match("3 1", "5 1 0 5 3 0 0 0", "1 3 0 2 0 8 0 2", 1000, ROOM, "0 0 2 22 4 0");
+    match("3 4 2 1 1", "5 7 2 1 0 1 1 5 7 2 3 0 0 3 1 1 0", "1 3 2 2 0 1 0 4 2 2 0 2 0 5 2 2 0 1 0 5", 1000, ROOM, "0 0 1 36 4 0");
+    match("9", "0", "0 7", 1000, ROOM, "1 0 0 0 0 0");
+    match("3 1", "5 1 0 10 5 3 0 0 0", "1 3 0 2 0 8 0 2", 1000, ROOM, "0 0 1 25 2 0");
+    match("3 1", "5 8 1 0 9 2 4 2 9 0", "1 3 0 4 0 7 0 9", 1000, ROOM, "0 0 2 25 4 0");
+    match("1", "11", "0 7", 1000, ROOM, "2 0 0 0 0 0");
+    match("1", "1 5", "0 7", 1000, ROOM, "3 0 0 0 0 0");
+    match("1", "9 0 1 0", "0 7", 1000, ROOM, "3 2 0 0 0 0");
+    match("1", "4", "0 7", 1000, ROOM, "4 0 0 0 0 0");
+    match_units("1", "0", too_many, 1025, 1000, ROOM, "5 1024 0 0 0 1");
+    match("1", "0", "9 0", 1000, ROOM, "5 0 0 0 0 2");
+    match("2 1", "0", "1 65", 1000, ROOM, "5 1 0 0 0 3");
+    match("0", "0", "1 1 1 1 1 1 1 1 1 1 1 1 1 1 1 1 1 0", 1000, ROOM, "5 16 0 0 0 4");
+    match("1", "0", "0", 1000, ROOM, "5 1 0 0 0 5");
+    match("1", "0", "0 7 9", 1000, ROOM, "5 2 0 0 0 6");
+    match("4 2 1 1", "0", "2 5", 1000, ROOM, "5 1 0 0 0 7");
+    match("1", "0", "1 0", 1000, ROOM, "6 0 0 0 0 0");
+    match("3 1", "5 1 0 5 3 0 0 0", "1 3 0 2 0 8 0 2", 9, ROOM, "7 0 1 9 2 0");
+    match("3 1", "5 1 0 5 3 0 0 0", "1 3 0 2 0 8 0 2", 1000, 3, "8 0 1 21 2 0");
     review("3 1", "5 1 0 5 3 0 0 0", 3, "0 0 46");
     review("3 4 2 1 1", "5 7 2 1 0 1 1 5 7 2 3 0 0 3 1 1 0", 3, "0 0 73");
     review("3 1", "5 9 2 1 2 2 0", 3, "0 0 28");

@@ -46,6 +46,10 @@ int main(void)
 
     answer = lozhbinor_match(matcher, COUNT(matcher), pattern, COUNT(pattern), units, COUNT(units), (uint32_t)worst,
                              room, COUNT(room), numbers, sizeof numbers);
+    if (answer == LOZHBINOR_TARGET) {
+        printf("the units are refused: place %" PRIu64 ", cause %" PRIu64 "\n", lozhbinor_number(numbers, 1), lozhbinor_number(numbers, 5));
+        return 1;
+    }
     uint64_t rows = lozhbinor_number(numbers, 2);
     printf("answer %" PRIu32 ": %" PRIu64 " rows in %" PRIu64 " steps\n", answer, rows, lozhbinor_number(numbers, 3));
     const int32_t *at = room;

@@ -40,7 +40,7 @@ enum {
     LOZHBINOR_PATTERN = 2,      /* over 256 words, or not one whole pattern */
     LOZHBINOR_VARIABLE = 3,     /* a variable is out of order, or inside an or or a not */
     LOZHBINOR_MISFIT = 4,       /* the pattern does not fit the matcher */
-    LOZHBINOR_TARGET = 5,       /* over 1,024 words, or not one whole target in the limits */
+    LOZHBINOR_TARGET = 5,       /* over 1,024 words, or not one whole target in the limits; see the cause */
     LOZHBINOR_UNFIT = 6,        /* the target does not fit the matcher */
     LOZHBINOR_BUDGET = 7,       /* the budget is used up and states remain */
     LOZHBINOR_FULL = 8,         /* a row did not fit into the room */
@@ -50,10 +50,24 @@ enum {
     LOZHBINOR_SHORT = 24        /* `numbers` is too short; nothing was written */
 };
 
-/* The numbers of match, in this order: answer, place, rows, steps, words. */
+/* The numbers of match, in this order: answer, place, rows, steps, words, cause. */
 enum {
-    LOZHBINOR_MATCH_NUMBERS = 5,
-    LOZHBINOR_MATCH_BYTES = 40
+    LOZHBINOR_MATCH_NUMBERS = 6,
+    LOZHBINOR_MATCH_BYTES = 48
+};
+
+/* The causes: with answer 5, what is wrong with the target at its place; in
+ * every other answer the cause is 0. docs/CERTIFICATION.md shows how to mend
+ * each. */
+enum {
+    LOZHBINOR_CAUSE_NONE = 0,
+    LOZHBINOR_CAUSE_OVER_LENGTH = 1, /* over 1,024 words; place 1024 */
+    LOZHBINOR_CAUSE_UNKNOWN_TAG = 2, /* the word is no tag */
+    LOZHBINOR_CAUSE_COUNT = 3,       /* a collection's count is not from 0 to 64 */
+    LOZHBINOR_CAUSE_TOO_DEEP = 4,    /* a ninth level begins */
+    LOZHBINOR_CAUSE_CUT_SHORT = 5,   /* a word is missing; the place is the length */
+    LOZHBINOR_CAUSE_LEFT_OVER = 6,   /* the target has ended before this word */
+    LOZHBINOR_CAUSE_WIDTH = 7        /* a tuple's width is not from 2 to 4 */
 };
 
 /* The numbers of review, in this order: answer, place, count. */

@@ -8,11 +8,8 @@ mod trial;
 use file::Tally;
 use libc::STDOUT_FILENO;
 
-fn main() {
-    let start = Tally {
-        cases: 0,
-        differ: 0,
-    };
+// Cases of document 01 and, by the name of what each brought, of document 02's requests.
+fn play_trials(start: Tally) -> Tally {
     let a = trial::play(b"valid.txt", start);
     let b = trial::play(b"damaged.txt", a);
     let c = trial::play(b"limits.txt", b);
@@ -29,16 +26,38 @@ fn main() {
     let n = trial::play(b"always-valid.txt", m);
     let o = trial::play(b"always-damaged.txt", n);
     let p = trial::play(b"always-limits.txt", o);
-    let q = trial::play(b"rules.txt", p);
-    let r = published::play(b"published.txt", q);
-    let s = review::play(b"review.txt", r);
-    let t = review::play(b"tuples-review.txt", s);
-    let u = review::play(b"sums-review.txt", t);
-    let v = review::play(b"choices-review.txt", u);
-    let w = review::play(b"always-review.txt", v);
-    let x = review::play(b"rules-review.txt", w);
-    io::print_decimal(STDOUT_FILENO, x.cases);
+    let q = trial::play(b"causes-valid.txt", p);
+    let r = trial::play(b"causes-damaged.txt", q);
+    trial::play(b"causes-limits.txt", r)
+}
+
+// The examples of docs/.
+fn play_pages(start: Tally) -> Tally {
+    let a = trial::play(b"rules.txt", start);
+    let b = trial::play(b"mending.txt", a);
+    review::play(b"rules-review.txt", b)
+}
+
+fn play_reviews(start: Tally) -> Tally {
+    let a = review::play(b"review.txt", start);
+    let b = review::play(b"tuples-review.txt", a);
+    let c = review::play(b"sums-review.txt", b);
+    let d = review::play(b"choices-review.txt", c);
+    let e = review::play(b"always-review.txt", d);
+    review::play(b"causes-review.txt", e)
+}
+
+fn main() {
+    let start = Tally {
+        cases: 0,
+        differ: 0,
+    };
+    let a = play_trials(start);
+    let b = play_reviews(a);
+    let c = play_pages(b);
+    let d = published::play(b"published.txt", c);
+    io::print_decimal(STDOUT_FILENO, d.cases);
     io::write_all(STDOUT_FILENO, b" cases, ");
-    io::print_decimal(STDOUT_FILENO, x.differ);
+    io::print_decimal(STDOUT_FILENO, d.differ);
     io::write_all(STDOUT_FILENO, b" differ\n");
 }

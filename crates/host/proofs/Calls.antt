@@ -17,16 +17,16 @@ use Rattle.services.specs.declared.review.Reviewed.{Reviewed}
 use Rattle.host.specs.Border.{bytesOf, over, Called, called, matchNumbers, matchTold, matchCalled, reviewNumbers, reviewTold, reviewCalled}
 
 module _ (ms ps ts : List ℤ) (budget : ℕ) (room : List ℤ) (numbers : List ℕ) where
-  pub match-short : length numbers < 40 → called 24 room numbers ≡ matchCalled ms ps ts budget room numbers
+  pub match-short : length numbers < 48 → called 24 room numbers ≡ matchCalled ms ps ts budget room numbers
   unfolding matchCalled
-  match-short h = rw (lt-ltb (length numbers) 40 h)
+  match-short h = rw (lt-ltb (length numbers) 48 h)
 
-  pub match-told : (m : Matched) (after : List ℤ) (out : List ℕ) (a p w : ℕ) → 40 ≤ length numbers → told m after ≡ match ms ps ts budget room
-      → a ≡ m .answer → p ≡ m .place → w ≡ m .words → out ≡ over (bytesOf (a ∷ p ∷ m .rows ∷ m .steps ∷ w ∷ [])) numbers
+  pub match-told : (m : Matched) (after : List ℤ) (out : List ℕ) (a p w k : ℕ) → 48 ≤ length numbers → told m after ≡ match ms ps ts budget room
+      → a ≡ m .answer → p ≡ m .place → w ≡ m .words → k ≡ m .cause → out ≡ over (bytesOf (a ∷ p ∷ m .rows ∷ m .steps ∷ w ∷ k ∷ [])) numbers
       → called (m .answer) after out ≡ matchCalled ms ps ts budget room numbers
   unfolding matchCalled matchTold matchNumbers told
-  match-told m after out a p w h e qa qp qw o =
-      rw (le-ltb (length numbers) 40 h) (rw (o, qa, qp, qw) (ap (λ (x : paper.Matched). matchTold x numbers) e))
+  match-told m after out a p w k h e qa qp qw qk o =
+      rw (le-ltb (length numbers) 48 h) (rw (o, qa, qp, qw, qk) (ap (λ (x : paper.Matched). matchTold x numbers) e))
 
 module _ (ms ps : List ℤ) (most : ℤ) (numbers : List ℕ) where
   pub review-short : length numbers < 24 → called 24 [] numbers ≡ reviewCalled ms ps most numbers

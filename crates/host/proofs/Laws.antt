@@ -67,16 +67,18 @@ module _ (l : List ℕ) (a b c : ℕ) (l1 l2 l3 : List ℕ) (p : l1 ≡ put l 0 
   unfolding bytesOf put
   three h = let n = length-bytes (a ∷ b ∷ c ∷ []) in sym (first-three []) ∙ from-start l (bytesOf (a ∷ b ∷ c ∷ [])) (omega arith)
 
-  pub five : (d e : ℕ) (l4 l5 : List ℕ) → l4 ≡ put l3 24 (digits 8 d) → l5 ≡ put l4 32 (digits 8 e) → 40 ≤ length l → l5 ≡ over (bytesOf (a ∷ b ∷ c ∷ d ∷ e ∷ [])) l
+  pub six : (d e f : ℕ) (l4 l5 l6 : List ℕ) → l4 ≡ put l3 24 (digits 8 d) → l5 ≡ put l4 32 (digits 8 e) → l6 ≡ put l5 40 (digits 8 f) → 48 ≤ length l
+      → l6 ≡ over (bytesOf (a ∷ b ∷ c ∷ d ∷ e ∷ f ∷ [])) l
   unfolding bytesOf put
-  five d e l4 l5 s t h =
-      let n = length-bytes (a ∷ b ∷ c ∷ d ∷ e ∷ []) in
-      sym (first-three (d ∷ e ∷ []) ∙ more l3 24 d (e ∷ []) ∙ ap (λ z. put z 32 (bytesOf (e ∷ []))) (sym s) ∙ more l4 32 e [] ∙ sym t)
-      ∙ from-start l (bytesOf (a ∷ b ∷ c ∷ d ∷ e ∷ [])) (omega arith)
+  six d e f l4 l5 l6 s t u h =
+      let n = length-bytes (a ∷ b ∷ c ∷ d ∷ e ∷ f ∷ []) in
+      sym (first-three (d ∷ e ∷ f ∷ []) ∙ more l3 24 d (e ∷ f ∷ []) ∙ ap (λ z. put z 32 (bytesOf (e ∷ f ∷ []))) (sym s)
+      ∙ more l4 32 e (f ∷ []) ∙ ap (λ z. put z 40 (bytesOf (f ∷ []))) (sym t) ∙ more l5 40 f [] ∙ sym u)
+      ∙ from-start l (bytesOf (a ∷ b ∷ c ∷ d ∷ e ∷ f ∷ [])) (omega arith)
 
 -- The slice keeps its length.
 pub long : (l m : List ℕ) (i x n : ℕ) → m ≡ put l i (digits 8 x) → n ≤ length l → n ≤ length m
 unfolding put
 long l m i x n e h = let k = length-sets l i (digits 8 x) in rw e (omega arith)
 
-pub ruleset rules = (turn, written, begins, kept, three, five, long, needs)
+pub ruleset rules = (turn, written, begins, kept, three, six, long, needs)

@@ -38,7 +38,7 @@ abbrev pub called : ℕ → List ℤ → List ℕ → Called
 called a room numbers = record { answer = a; room = room; numbers = numbers }
 
 unfoldable pub matchNumbers : Matched → List ℕ
-matchNumbers m = m .answer ∷ m .place ∷ m .rows ∷ m .steps ∷ m .words ∷ []
+matchNumbers m = m .answer ∷ m .place ∷ m .rows ∷ m .steps ∷ m .words ∷ m .cause ∷ []
 
 unfoldable pub reviewNumbers : Reviewed → List ℕ
 reviewNumbers r = r .answer ∷ r .place ∷ r .count ∷ []
@@ -50,7 +50,7 @@ matchTold m numbers = called (m .answer) (m .room) (over (bytesOf (matchNumbers 
 -- 24 short, "before all others: the slice for the numbers is too short for them; nothing is written anywhere".
 unfoldable pub matchCalled : (ms ps ts : List ℤ) (budget : ℕ) (room : List ℤ) (numbers : List ℕ) → Called
 unfolding match matchTold
-matchCalled ms ps ts budget room numbers = cond (ltb (length numbers) 40) (called 24 room numbers) (matchTold (match ms ps ts budget room) numbers)
+matchCalled ms ps ts budget room numbers = cond (ltb (length numbers) 48) (called 24 room numbers) (matchTold (match ms ps ts budget room) numbers)
 
 unfoldable pub reviewTold : Reviewed → List ℕ → Called
 unfolding bytesOf over reviewNumbers

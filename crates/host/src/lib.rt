@@ -32,15 +32,16 @@ fn put_three(out: &mut [u8], a: u64, b: u64, c: u64)
 }
 
 // The numbers of match's answer.
-fn put_five(out: &mut [u8], a: u64, b: u64, c: u64, d: u64, e: u64)
-    requires { ⌜ 40 ≤ length (now out) ⌝ }
-    ensures { λ _. ⌜ now (out .exit) ≡ over (bytesOf (a ∷ b ∷ c ∷ d ∷ e ∷ [])) (now (out .entry)) ⌝ }
+fn put_six(out: &mut [u8], a: u64, b: u64, c: u64, d: u64, e: u64, f: u64)
+    requires { ⌜ 48 ≤ length (now out) ⌝ }
+    ensures { λ _. ⌜ now (out .exit) ≡ over (bytesOf (a ∷ b ∷ c ∷ d ∷ e ∷ f ∷ [])) (now (out .entry)) ⌝ }
 {
     put_number(out, 0, a);
     put_number(out, 8, b);
     put_number(out, 16, c);
     put_number(out, 24, d);
     put_number(out, 32, e);
+    put_number(out, 40, f);
 }
 
 // Numbers of other widths as they are written.
@@ -70,17 +71,18 @@ pub extern "C" fn lozhbinor_match(
 ) -> u32
     ensures { λ r. ⌜ called r (now (room .exit)) (now (numbers .exit)) ≡ matchCalled (now (matcher .entry)) (now (pattern .entry)) (now (target .entry)) budget (now (room .entry)) (now (numbers .entry)) ⌝ }
 {
-    if numbers.len() < 40 {
+    if numbers.len() < 48 {
         return SHORT;
     }
     let m = match_units(matcher, pattern, target, budget, room);
-    put_five(
+    put_six(
         numbers,
         wide(m.answer),
         long(m.place),
         m.rows,
         m.steps,
         long(m.words),
+        wide(m.cause),
     );
     m.answer
 }

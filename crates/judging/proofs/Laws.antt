@@ -10,19 +10,24 @@ use Rattle.rules.specs.Forms.{Matcher, Pattern, Value, size}
 use Rattle.rules.specs.Reading.{Verdict, ok, fault, readMatcher, readPattern, readTarget}
 use Rattle.rules.specs.Variables.{variables}
 use Rattle.rules.specs.Fit.{fits, fitsValue}
-use Rattle.rules.specs.Services.{test, ruleOf, targetOf}
+use Rattle.rules.specs.Causes.{causeOf}
+use Rattle.rules.specs.Services.{test, ruleOf, targetOf, causeIn}
 use Rattle.reading.specs.Tests.{tested}
+use Rattle.reading.specs.Targets.{found}
 use Rattle.fitting.specs.Variables.{counted, varsOf}
 use Rattle.fitting.specs.Fitting.{fitOf}
 use Rattle.fitting.specs.Unfit.{fitFrom}
 use Rattle.reading.specs.declared.Tested.{Tested}
 use Rattle.reading.specs.declared.Tested.the-variants.{Passed, Fault}
+use Rattle.reading.specs.declared.target.Found.{Found}
+use Rattle.reading.specs.declared.target.Found.the-variants as finds
 use Rattle.fitting.specs.declared.variables.Counted.{Counted}
 use Rattle.fitting.specs.declared.variables.Counted.the-variants as counts
 use Rattle.reading.specs.declared.Ended.{Ended}
 use Rattle.reading.specs.declared.Ended.the-variants.{End, Bad}
-use Rattle.judging.specs.Judgements.{judgement, targetUnder}
+use Rattle.judging.specs.Judgements.{judgement, targetJudgement, targetUnder}
 use Rattle.judging.specs.declared.Judgement.the-variants.{Accepted, Refused}
+use Rattle.judging.specs.declared.TargetJudgement.the-variants as targets
 use Rattle.reading.proofs.After.{after}
 use Rattle.fitting.proofs.variables.Walked as walked
 use Rattle.fitting.proofs.fit.Walked as fitted
@@ -99,29 +104,39 @@ pub ruleset rule-rules = (ret-matcher, ret-pattern, ret-variable, ret-misfit, re
 
 -- ---- Tests 5 and 6.
 
+found-all : (x : Verdict Value) (n : ℕ) → finds.Passed ≡ found x n → (v : Value) × (x ≡ ok v)
+unfolding found
+found-all (ok v) n e = (v, refl)
+found-all (fault i) n e = let z : _≡_ {A = ℕ} 0 1 = cc in absurd (omega arith)
+
+found-fault : (x : Verdict Value) (n i c : ℕ) → finds.Fault i c ≡ found x n → (x ≡ fault i) × (c ≡ n)
+unfolding found
+found-fault (ok v) n i c e = let z : _≡_ {A = ℕ} 0 1 = cc in absurd (omega arith)
+found-fault (fault j) n i c e = let q : j ≡ i = cc in let r : c ≡ n = cc in (ap fault q, r)
+
 module _ (ms ts : List ℤ) (a : Tested) (ea : a ≡ tested (readMatcher ms)) where
-  pub ret-none : (i : ℕ) → a ≡ Fault i → Refused 1 i ≡ judgement (targetUnder ms ts)
-  unfolding targetUnder test judgement
+  pub ret-none : (i : ℕ) → a ≡ Fault i → targets.Refused 1 i 0 ≡ targetJudgement ts (targetUnder ms ts)
+  unfolding targetUnder test targetJudgement causeIn
   ret-none i f = rw (failed (readMatcher ms) i (sym f ∙ ea))
 
-  module _ (fa : a ≡ Passed) (b : Tested) (eb : b ≡ tested (readTarget ts)) where
-    pub ret-target : (i : ℕ) → b ≡ Fault i → Refused 5 i ≡ judgement (targetUnder ms ts)
-    unfolding targetUnder targetOf test judgement
-    ret-target i f = rw (passed (readMatcher ms) (sym fa ∙ ea) .1, failed (readTarget ts) i (sym f ∙ eb))
+  module _ (fa : a ≡ Passed) (b : Found) (eb : b ≡ found (readTarget ts) (causeOf ts)) where
+    pub ret-target : (i c : ℕ) → b ≡ finds.Fault i c → targets.Refused 5 i c ≡ targetJudgement ts (targetUnder ms ts)
+    unfolding targetUnder targetOf test targetJudgement causeIn
+    ret-target i c f = let t = found-fault (readTarget ts) (causeOf ts) i c (sym f ∙ eb) in rw (passed (readMatcher ms) (sym fa ∙ ea) .1, t .0, t .1)
 
-    module _ (fb : b ≡ Passed) (c : Ended) (ec : c ≡ fitFrom ts ms 8 0 0) where
+    module _ (fb : b ≡ finds.Passed) (c : Ended) (ec : c ≡ fitFrom ts ms 8 0 0) where
       k : (k : Matcher) × (readMatcher ms ≡ ok k)
       k = passed (readMatcher ms) (sym fa ∙ ea)
 
       t : (v : Value) × (readTarget ts ≡ ok v)
-      t = passed (readTarget ts) (sym fb ∙ eb)
+      t = found-all (readTarget ts) (causeOf ts) (sym fb ∙ eb)
 
-      pub ret-unfit : (i : ℕ) → c ≡ Bad i → Refused 6 i ≡ judgement (targetUnder ms ts)
-      unfolding targetUnder targetOf test judgement
+      pub ret-unfit : (i : ℕ) → c ≡ Bad i → targets.Refused 6 i 0 ≡ targetJudgement ts (targetUnder ms ts)
+      unfolding targetUnder targetOf test targetJudgement causeIn
       ret-unfit i f = rw (k .1, t .1, unended (fitsValue (k .0) (t .0) 0) (0 + size (t .0)) i (sym f ∙ ec ∙ unfit.of-target ms ts (k .0) (t .0) (k .1) (t .1)))
 
-      pub ret-fit : (e : ℕ) → c ≡ End e → Accepted ≡ judgement (targetUnder ms ts)
-      unfolding targetUnder targetOf test judgement
+      pub ret-fit : (e : ℕ) → c ≡ End e → targets.Accepted ≡ targetJudgement ts (targetUnder ms ts)
+      unfolding targetUnder targetOf test targetJudgement
       ret-fit e f = rw (k .1, t .1, ended (fitsValue (k .0) (t .0) 0) (0 + size (t .0)) e (sym f ∙ ec ∙ unfit.of-target ms ts (k .0) (t .0) (k .1) (t .1)) .1)
 
 pub ruleset target-rules = (ret-none, ret-target, ret-unfit, ret-fit, needs)

@@ -7,15 +7,22 @@ use reading::Ended;
 use reading::Tested;
 use reading::matcher::test_matcher;
 use reading::pattern::test_pattern;
+use reading::target::Found;
 use reading::target::test_target;
 ghost use mathlib.Core.Path.{_≡_};
 ghost use Rattle.rules.specs.Services.{ruleOf};
-ghost use Rattle.judging.specs.Judgements.{judgement, targetUnder};
+ghost use Rattle.judging.specs.Judgements.{judgement, targetJudgement, targetUnder};
 
 // Accepted; or refused, with document 01's number of the answer and the place.
 pub enum Judgement {
     Accepted,
     Refused(u32, usize),
+}
+
+// The same of a target, with the cause beside the place: 0 in every answer but 5.
+pub enum TargetJudgement {
+    Accepted,
+    Refused(u32, usize, u32),
 }
 
 pub const MATCHER: u32 = 1;
@@ -54,19 +61,19 @@ pub fn rule_refused(m: &[i32], p: &[i32]) -> Judgement
 }
 
 // Tests 5 and 6, each over its whole slice, for a whole matcher; test 1 where it is none.
-pub fn target_refused(m: &[i32], t: &[i32]) -> Judgement
-    ensures { λ r. ⌜ r ≡ judgement (targetUnder (now (m .entry)) (now (t .entry))) ⌝ }
+pub fn target_refused(m: &[i32], t: &[i32]) -> TargetJudgement
+    ensures { λ r. ⌜ r ≡ targetJudgement (now (t .entry)) (targetUnder (now (m .entry)) (now (t .entry))) ⌝ }
 {
     let a = test_matcher(m);
     if let Tested::Fault(i) = a {
-        return Judgement::Refused(MATCHER, i);
+        return TargetJudgement::Refused(MATCHER, i, 0);
     }
     let b = test_target(t);
-    if let Tested::Fault(i) = b {
-        return Judgement::Refused(TARGET, i);
+    if let Found::Fault(i, c) = b {
+        return TargetJudgement::Refused(TARGET, i, c);
     }
     match fit_end(t, 0, m, 0, 8) {
-        Ended::End(_) => Judgement::Accepted,
-        Ended::Bad(i) => Judgement::Refused(UNFIT, i),
+        Ended::End(_) => TargetJudgement::Accepted,
+        Ended::Bad(i) => TargetJudgement::Refused(UNFIT, i, 0),
     }
 }

@@ -23,10 +23,10 @@ pub record Wrote (old new : List ℕ) (at end : ℕ) (text : List ℕ) : Type 0 
   pub ends : end ≡ at + length text
   pub bytes : new ≡ put old at text
 
--- The line of five numbers.
-unfoldable pub fiveLine : (a b c d e : ℕ) → List ℕ
+-- The line of six numbers.
+unfoldable pub sixLine : (a b c d e f : ℕ) → List ℕ
 unfolding lineOf
-fiveLine a b c d e = lineOf (pos a ∷ pos b ∷ pos c ∷ pos d ∷ pos e ∷ [])
+sixLine a b c d e f = lineOf (pos a ∷ pos b ∷ pos c ∷ pos d ∷ pos e ∷ pos f ∷ [])
 
 -- Rows were printed from an index on; the last of them are empty lines, which are counted and not written. Nothing else was written.
 pub record WroteRows (old new : List ℕ) (at : ℕ) (r : Rest) (values rows : ℕ) (ws : List ℤ) : Type 0 where

@@ -6,7 +6,7 @@ ghost use Prim.Native.Nat.{_+_, _*_, _<_, _≤_};
 ghost use lib.ListN.{length};
 ghost use Rattle.asking.specs.Decimal.{space};
 ghost use Rattle.printing.specs.Decimal.{decimal, numeral, furtherOf, lineOf};
-ghost use Rattle.printing.specs.Meaning.{Wrote, fiveLine};
+ghost use Rattle.printing.specs.Meaning.{Wrote, sixLine};
 
 pub(crate) fn wide(n: u32) -> u64
     ensures { λ r. ⌜ r ≡ n ⌝ }
@@ -84,17 +84,18 @@ fn put_next(out: &mut [u8], at: usize, n: u64) -> usize
     put_decimal(out, at + 1, n)
 }
 
-// The line of the five numbers, at the start.
-pub(crate) fn put_first(out: &mut [u8], a: u64, b: u64, c: u64, d: u64, e: u64) -> usize
-    requires { ⌜ 105 ≤ length (now out) ⌝ }
-    ensures { λ r. ⌜ Wrote (now (out .entry)) (now (out .exit)) 0 r (fiveLine a b c d e) ⌝ }
-    ensures { λ r. ⌜ r ≤ 105 ⌝ }
+// The line of the six numbers, at the start.
+pub(crate) fn put_first(out: &mut [u8], a: u64, b: u64, c: u64, d: u64, e: u64, f: u64) -> usize
+    requires { ⌜ 126 ≤ length (now out) ⌝ }
+    ensures { λ r. ⌜ Wrote (now (out .entry)) (now (out .exit)) 0 r (sixLine a b c d e f) ⌝ }
+    ensures { λ r. ⌜ r ≤ 126 ⌝ }
 {
-    let f = put_decimal(out, 0, a);
-    let g = put_next(out, f, b);
-    let h = put_next(out, g, c);
-    let i = put_next(out, h, d);
-    let j = put_next(out, i, e);
-    out[j] = 10;
-    j + 1
+    let g = put_decimal(out, 0, a);
+    let h = put_next(out, g, b);
+    let i = put_next(out, h, c);
+    let j = put_next(out, i, d);
+    let k = put_next(out, j, e);
+    let l = put_next(out, k, f);
+    out[l] = 10;
+    l + 1
 }

@@ -7,7 +7,7 @@ ghost use mathlib.Core.List.{_++_};
 ghost use Prim.Native.Nat.{_≤_};
 ghost use lib.ListN.{length};
 ghost use Rattle.printing.specs.Rows.{cutRows, emptyRows, lines};
-ghost use Rattle.printing.specs.Meaning.{unreadable, fiveLine, Text};
+ghost use Rattle.printing.specs.Meaning.{unreadable, sixLine, Text};
 
 // The one line `unreadable`.
 pub fn put_unreadable(out: &mut [u8]) -> Rest
@@ -29,7 +29,7 @@ pub fn put_unreadable(out: &mut [u8]) -> Rest
     Rest { at: 11, lines: 0 }
 }
 
-// The five numbers, and the rows that `ws` holds.
+// The six numbers, and the rows that `ws` holds.
 pub fn put_report(
     out: &mut [u8],
     answer: u64,
@@ -37,14 +37,15 @@ pub fn put_report(
     rows: u64,
     steps: u64,
     words: u64,
+    cause: u64,
     ws: &[i32],
     values: u32,
 ) -> Rest
     requires { ⌜ 98304 ≤ length (now out) ⌝ }
     requires { ⌜ length (now ws) ≤ 4096 ⌝ }
-    ensures { λ r. ⌜ Text (now (out .entry)) (now (out .exit)) r (fiveLine answer place rows steps words ++ lines (cutRows values rows (now (ws .entry)))) ⌝ }
+    ensures { λ r. ⌜ Text (now (out .entry)) (now (out .exit)) r (sixLine answer place rows steps words cause ++ lines (cutRows values rows (now (ws .entry)))) ⌝ }
     ensures { λ r. ⌜ r .lines ≡ emptyRows values rows (now (ws .entry)) ⌝ }
 {
-    let at = put_first(out, answer, place, rows, steps, words);
+    let at = put_first(out, answer, place, rows, steps, words, cause);
     put_rows(ws, values, rows, out, at)
 }

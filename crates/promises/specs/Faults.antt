@@ -1,4 +1,5 @@
--- For every input exactly one of: a refusal, by the first fault in the fixed order, or a run. In a refusal the room is as it was.
+-- For every input exactly one of: a refusal, by the first fault in the fixed order, or a run. In a refusal the room is as it was, and in all but answer 5
+-- no cause is told.
 use Prim.Native.Nat.{ℕ, _≤_}
 use native.Mathlib.Omega.{arith}
 use mathlib.Core.Path.{_≡_, refl, sym, ap, _∙_, subst, subst₂}
@@ -12,7 +13,7 @@ use Rattle.rules.specs.Reading.{Verdict, ok, fault, readMatcher, readPattern, r
 use Rattle.rules.specs.Variables.{variables}
 use Rattle.rules.specs.Fit.{fits, fitsValue}
 use Rattle.rules.specs.Search.{State, Run, run, start}
-use Rattle.rules.specs.Services.{Judged, accepted, refused, test, Rule, ruleOf, targetOf, Matched, turnedAway, carriedOut, matchTarget, matchRule, match}
+use Rattle.rules.specs.Services.{Judged, accepted, refused, test, Rule, ruleOf, targetOf, Matched, causeIn, turnedAway, carriedOut, matchTarget, matchRule, match}
 use Rattle.promises.specs.Budget.{Outcome, done, spent, full, report, walk-outcome}
 use Rattle.promises.specs.Trace.{Taken, trace, run-walks}
 
@@ -122,22 +123,29 @@ sane-exactly ms ps ts r v = (
 
 -- What match gives, by the first fault or by the run.
 pub data Judgement (ms ps ts : List ℤ) (budget : ℕ) (room : List ℤ) (x : Matched) : Type 0 where
-  turned : (a i : ℕ) → Fault ms ps ts a i → x ≡ turnedAway a i room → Judgement ms ps ts budget room x
+  turned : (a i : ℕ) → Fault ms ps ts a i → x ≡ turnedAway a i (causeIn a ts) room → Judgement ms ps ts budget room x
   ran : (r : Rule) (v : Value) → Sane ms ps ts r v → x ≡ carriedOut (run budget (start (r .matcher) (r .pattern) v ∷ []) (length room)) room
       → Judgement ms ps ts budget room x
 
+rule-causeless : {ms ps : List ℤ} {a i : ℕ} (ts : List ℤ) → RuleFault ms ps a i → 0 ≡ causeIn a ts
+unfolding causeIn
+rule-causeless ts (notMatcher e) = refl
+rule-causeless ts (notPattern x e) = refl
+rule-causeless ts (misnumbered x y e) = refl
+rule-causeless ts (misfit x y z e) = refl
+
 module _ (ms ps ts : List ℤ) (budget : ℕ) (room : List ℤ) where
-  pub match-turned : (a i : ℕ) → Fault ms ps ts a i → match ms ps ts budget room ≡ turnedAway a i room
+  pub match-turned : (a i : ℕ) → Fault ms ps ts a i → match ms ps ts budget room ≡ turnedAway a i (causeIn a ts) room
   unfolding match
-  match-turned a i (ofRule f) = ap (matchRule budget room ts) (rule-fault ms ps a i f)
+  match-turned a i (ofRule f) = ap (matchRule budget room ts) (rule-fault ms ps a i f) ∙ ap (λ c. turnedAway a i c room) (rule-causeless ts f)
   match-turned a i (ofTarget r w f) =
-      ap (matchRule budget room ts) (rule-accepted ms ps r .1 w) ∙ ap (matchTarget budget room r) (target-fault (r .matcher) ts a i f)
+      ap (matchRule budget room ts) (rule-accepted ms ps r .1 w) ∙ ap (matchTarget budget room ts r) (target-fault (r .matcher) ts a i f)
 
   pub match-ran : (r : Rule) (v : Value) → Sane ms ps ts r v
       → match ms ps ts budget room ≡ carriedOut (run budget (start (r .matcher) (r .pattern) v ∷ []) (length room)) room
   unfolding match
   match-ran r v s =
-      ap (matchRule budget room ts) (rule-accepted ms ps r .1 (s .rule)) ∙ ap (matchTarget budget room r) (target-accepted (r .matcher) ts v .1 (s .target))
+      ap (matchRule budget room ts) (rule-accepted ms ps r .1 (s .rule)) ∙ ap (matchTarget budget room ts r) (target-accepted (r .matcher) ts v .1 (s .target))
 
   judge-target : (r : Rule) → WellFormed ms ps r → (y : Judged Value) → TargetIs (r .matcher) ts y
       → Judgement ms ps ts budget room (match ms ps ts budget room)

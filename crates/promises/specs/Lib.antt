@@ -25,4 +25,8 @@ pub mod Room
 pub mod Faults
 pub mod Reviewing
 pub mod Matching
+pub mod Wrong
+pub mod Together
+pub mod Found
+pub mod Causes
 pub mod Main

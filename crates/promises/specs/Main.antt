@@ -1,7 +1,7 @@
--- What document 01 demands, with the requests No. 1, 2, 3 and 5 of document 02, as theorems about its definitions. Each is stated here and proved elsewhere; what it assumes
+-- What document 01 demands, with the requests No. 1, 2, 3, 5 and 6 of document 02, as theorems about its definitions. Each is stated here and proved elsewhere; what it assumes
 -- stands before its arrows, and nothing else is assumed. The words that the statements use are defined in Trace (trace, order, seen), Solve (founds), Nots (inner), Listing
 -- (Listing), Budget (rowsOf, report, Full, Outcome), Matching (states, ways, rowsOfWays), Written (the words, the numbers and the widths
--- of the forms), Faults, Reviewing (Review, TooBig, AlwaysTrue, countOf) and Pairing (greedy).
+-- of the forms), Faults, Wrong (Wrong, Says), Reviewing (Review, TooBig, AlwaysTrue, countOf) and Pairing (greedy).
 use Prim.Native.Nat.{ℕ, suc, _*_, _≤_, _<_}
 use mathlib.Core.Path.{_≡_, sym, _∙_}
 use mathlib.Core.Bool.{Bool, true, false}
@@ -13,14 +13,15 @@ use lib.Dec.{T}
 use lib.IntN.{ℤ, pos, _+ℤ_}
 use Rattle.rules.specs.Numbers.{same, inRange}
 use Rattle.rules.specs.Forms.{Matcher, integer, Pattern, never, Value, Values, int, collection, tupled, empty, _▸_, multiset, words}
-use Rattle.rules.specs.Reading.{ok, entry, readMatcher, readPattern, readTarget}
+use Rattle.rules.specs.Reading.{ok, fault, entry, readMatcher, readPattern, readTarget}
+use Rattle.rules.specs.Causes.{Cause, numbered, causeOf}
 use Rattle.rules.specs.Variables.{variables}
 use Rattle.rules.specs.Fit.{fitsValue}
 use Rattle.rules.specs.Equality.{Bindings, equal, isValue}
 use Rattle.rules.specs.Search.{Atom, atom, State, state, run, start}
 use Rattle.rules.specs.Ways.{Way, Follows, Good}
 use Rattle.rules.specs.Review.{factor}
-use Rattle.rules.specs.Services.{accepted, Rule, ruleOf, targetOf, Matched, turnedAway, carriedOut, match, Reviewed, review}
+use Rattle.rules.specs.Services.{accepted, Rule, ruleOf, targetOf, Matched, causeIn, turnedAway, carriedOut, match, Reviewed, review}
 use Rattle.promises.specs.Written.{matcherWords, patternWords, levels, largest, deepest, variableTags, Widthsᵐ, Widthsᵖ, Widths, pair-largest}
 use Rattle.promises.specs.Trace.{passed, trace, order, seen, trace-order}
 use Rattle.rules.specs.Following.{Solution}
@@ -34,6 +35,8 @@ use Rattle.promises.specs.ReadMatcher.{matcher-read, matcher-once}
 use Rattle.promises.specs.ReadPattern.{pattern-read, pattern-once}
 use Rattle.promises.specs.ReadTarget.{target-read, target-once}
 use Rattle.promises.specs.Faults.{Fault, Judgement, Sane, sane-exactly, rule-accepted, match-turned, match-judged, refused-exactly, fault-once, not-both}
+use Rattle.promises.specs.Wrong.{Wrong, Says, wrong-says}
+use Rattle.promises.specs.Causes.{cause-none, cause-at, cause-length, cause-5, cause-other, answer-5}
 use Rattle.promises.specs.Reviewing.{Review, TooBig, AlwaysTrue, countOf, review-judged, count-is, answer-10, answer-11, everybody}
 use Rattle.promises.specs.Matching.{states, ways, rowsOfWays, outcome, result, answer-0, answer-7, answer-8, full-stands, first-ways, all-ways, no-row, some-row, way-binds}
 use Rattle.promises.specs.Matching.{steps-bounded, rows-bounded, room-enough, tags-counted}
@@ -206,7 +209,7 @@ module _ (ms ps ts : List ℤ) where
       → Fault ms ps ts a i ↔ (1 ≤ a) × (a ≤ 6) × ((match ms ps ts budget room) .answer ≡ a) × ((match ms ps ts budget room) .place ≡ i)
   first-fault-exactly = refused-exactly ms ps ts
 
-  pub room-as-it-was : (budget : ℕ) (room : List ℤ) (a i : ℕ) → Fault ms ps ts a i → match ms ps ts budget room ≡ turnedAway a i room
+  pub room-as-it-was : (budget : ℕ) (room : List ℤ) (a i : ℕ) → Fault ms ps ts a i → match ms ps ts budget room ≡ turnedAway a i (causeIn a ts) room
   room-as-it-was = match-turned ms ps ts
 
   pub one-fault : (a i b j : ℕ) → Fault ms ps ts a i → Fault ms ps ts b j → (a ≡ b) × (i ≡ j)
@@ -214,6 +217,34 @@ module _ (ms ps ts : List ℤ) where
 
   pub fault-or-run : (a i : ℕ) (r : Rule) (v : Value) → Fault ms ps ts a i → Sane ms ps ts r v → ⊥
   fault-or-run = not-both ms ps ts
+
+-- ---- The cause of a bad target. `Wrong` says, without the reader, where each of the seven stands; `Says` what that tells of the words there.
+
+module _ (ts : List ℤ) where
+  pub no-cause-exactly : causeOf ts ≡ 0 ↔ (v : Value) × (readTarget ts ≡ ok v)
+  no-cause-exactly = cause-none ts
+
+  pub cause-exactly : (i : ℕ) (c : Cause) → (readTarget ts ≡ fault i) × (causeOf ts ≡ numbered c) ↔ Wrong ts i c
+  cause-exactly = cause-at ts
+
+  pub over-length-exactly : causeOf ts ≡ 1 ↔ 1024 < length ts
+  over-length-exactly = cause-length ts
+
+  pub cause-says : (i : ℕ) (c : Cause) → readTarget ts ≡ fault i → causeOf ts ≡ numbered c → Says ts i c
+  cause-says i c p q = wrong-says (cause-at ts i c .0 (p, q))
+
+-- Match's sixth number is a cause exactly in answer 5, with its place, and else 0.
+module _ (ms ps ts : List ℤ) (budget : ℕ) (room : List ℤ) where
+  pub cause-told-exactly : (match ms ps ts budget room) .answer ≡ 5
+      ↔ (1 ≤ (match ms ps ts budget room) .cause) × ((match ms ps ts budget room) .cause ≤ 7)
+  cause-told-exactly = cause-5 ms ps ts budget room
+
+  pub no-cause-else : ((match ms ps ts budget room) .answer ≡ 5 → ⊥) → (match ms ps ts budget room) .cause ≡ 0
+  no-cause-else = cause-other ms ps ts budget room
+
+  pub target-fault-exactly : (i : ℕ) (c : Cause) → ((r : Rule) × (ruleOf ms ps ≡ accepted r)) × Wrong ts i c
+      ↔ ((match ms ps ts budget room) .answer ≡ 5) × ((match ms ps ts budget room) .place ≡ i) × ((match ms ps ts budget room) .cause ≡ numbered c)
+  target-fault-exactly = answer-5 ms ps ts budget room
 
 -- ---- Multiset equality: pairing off is marking off greedily; and equality is symmetric and transitive under every matcher, the one at tag 3.
 

@@ -1,3 +1,4 @@
 -- What the proofs of test 5 use.
 pub mod Values
+pub mod Looks
 pub mod Steps

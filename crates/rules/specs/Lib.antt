@@ -2,6 +2,7 @@
 pub mod Numbers
 pub mod Forms
 pub mod Reading
+pub mod Causes
 pub mod Variables
 pub mod Fit
 pub mod Equality
@@ -20,4 +21,5 @@ pub mod WorkedTuples
 pub mod WorkedSums
 pub mod WorkedChoices
 pub mod WorkedAlways
+pub mod WorkedCauses
 pub mod Refusals

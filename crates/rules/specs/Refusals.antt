@@ -1,4 +1,4 @@
--- Document 01, sections 2, 3 and 8: refusals and limits, each with its answer and place, in one table under one claim.
+-- Document 01, sections 2, 3 and 8: refusals and limits, each with its answer, place and (document 02, No. 6) cause, in one table under one claim.
 use Prim.Native.Nat.{ℕ, zero, suc}
 use mathlib.Core.Path.{_≡_, refl}
 use mathlib.Core.List.{List, [], _∷_, _++_, map}
@@ -6,13 +6,17 @@ use lib.ListN.{replicate}
 use lib.IntN.{ℤ, pos}
 use Rattle.rules.specs.Tables.{Case, matching, reviewing, _⇒_writing_, computed, stated, nums, minus, ints, braces}
 
--- A call that is refused with an answer at a place: no row, no step, no word, and the room as it was.
+-- A call that is refused with an answer at a place: no row, no step, no word, no cause, and the room as it was.
 abbrev refuses : (matcher pattern target : List ℤ) (answer place : ℕ) → Case
-refuses m p t a i = matching m p t 100000 3 ⇒ (a ∷ i ∷ 0 ∷ 0 ∷ 0 ∷ []) writing []
+refuses m p t a i = matching m p t 100000 3 ⇒ (a ∷ i ∷ 0 ∷ 0 ∷ 0 ∷ 0 ∷ []) writing []
+
+-- The same with answer 5 and its cause, under a matcher and a pattern that take every target.
+abbrev spoilt : (target : List ℤ) (place cause : ℕ) → Case
+spoilt t i c = matching (nums (0 ∷ [])) (nums (0 ∷ [])) t 100000 3 ⇒ (5 ∷ i ∷ 0 ∷ 0 ∷ 0 ∷ c ∷ []) writing []
 
 -- A call that is not refused: so many rows of no words, in so many steps.
 abbrev passes : (matcher pattern target : List ℤ) (rows steps : ℕ) → Case
-passes m p t n k = matching m p t 100000 3 ⇒ (0 ∷ 0 ∷ n ∷ k ∷ 0 ∷ []) writing []
+passes m p t n k = matching m p t 100000 3 ⇒ (0 ∷ 0 ∷ n ∷ k ∷ 0 ∷ 0 ∷ []) writing []
 
 abbrev declines : (matcher pattern : List ℤ) (most : ℤ) (answer place : ℕ) → Case
 declines m p most a i = reviewing m p most ⇒ (a ∷ i ∷ 0 ∷ []) writing []
@@ -115,7 +119,7 @@ table =
     ∷ refuses multisetInteger (pos 1 ∷ minus 1 ∷ []) none 3 0
     ∷ refuses multisetInteger (nums (5 ∷ 3 ∷ 0 ∷ 0 ∷ 1 ∷ 0 ∷ [])) none 3 1  -- a tag 3 before its variable
     ∷ refuses multisetInteger (pos 5 ∷ pos 3 ∷ minus 1 ∷ pos 0 ∷ pos 0 ∷ []) none 3 1
-    ∷ refuses multisetInteger (binding 0 16) none 5 0  -- sixteen variables
+    ∷ matching multisetInteger (binding 0 16) none 100000 3 ⇒ (5 ∷ 0 ∷ 0 ∷ 0 ∷ 0 ∷ 5 ∷ []) writing []  -- sixteen variables
     ∷ refuses multisetInteger (binding 0 17) none 3 49  -- a seventeenth
     ∷ refuses multisetInteger (nums (5 ∷ 4 ∷ 1 ∷ 1 ∷ [])) none 3 2  -- a misfit stands to its left
     ∷ refuses integer (nums (10 ∷ 1 ∷ 0 ∷ [])) none 3 1  -- inside a not
@@ -146,27 +150,27 @@ table =
     ∷ refuses something (nums (10 ∷ 2 ∷ 5 ∷ [])) none 4 1
     ∷ refuses listInteger (nums (8 ∷ 1 ∷ 0 ∷ 5 ∷ 3 ∷ 0 ∷ 0 ∷ 0 ∷ [])) none 4 4
     -- 5 target
-    ∷ refuses something wildcard none 5 0  -- cut short
-    ∷ refuses something wildcard (nums (0 ∷ [])) 5 1
-    ∷ refuses something wildcard (nums (1 ∷ [])) 5 1
-    ∷ refuses something wildcard (nums (1 ∷ 2 ∷ 0 ∷ 7 ∷ [])) 5 4
-    ∷ refuses something wildcard (nums (3 ∷ [])) 5 0  -- a wrong tag
-    ∷ refuses something wildcard (nums (2 ∷ [])) 5 1  -- a tuple cut short
-    ∷ refuses something wildcard (nums (2 ∷ 2 ∷ 0 ∷ 1 ∷ [])) 5 4
-    ∷ refuses something wildcard (nums (2 ∷ 1 ∷ 0 ∷ 1 ∷ [])) 5 1  -- a width out of range
-    ∷ refuses something wildcard (nums (2 ∷ 5 ∷ 0 ∷ 1 ∷ [])) 5 1
-    ∷ refuses something wildcard (deepPairs 9) 5 32  -- a tuple too deep
-    ∷ refuses something wildcard (nums (1 ∷ 1 ∷ 3 ∷ 0 ∷ [])) 5 2
-    ∷ refuses something wildcard (nums (0 ∷ 7 ∷ 7 ∷ [])) 5 2  -- left over
-    ∷ refuses something wildcard (pos 1 ∷ minus 1 ∷ []) 5 1  -- a wrong count
+    ∷ spoilt none 0 5  -- cut short
+    ∷ spoilt (nums (0 ∷ [])) 1 5
+    ∷ spoilt (nums (1 ∷ [])) 1 5
+    ∷ spoilt (nums (1 ∷ 2 ∷ 0 ∷ 7 ∷ [])) 4 5
+    ∷ spoilt (nums (3 ∷ [])) 0 2  -- a wrong tag
+    ∷ spoilt (nums (2 ∷ [])) 1 5  -- a tuple cut short
+    ∷ spoilt (nums (2 ∷ 2 ∷ 0 ∷ 1 ∷ [])) 4 5
+    ∷ spoilt (nums (2 ∷ 1 ∷ 0 ∷ 1 ∷ [])) 1 7  -- a width out of range
+    ∷ spoilt (nums (2 ∷ 5 ∷ 0 ∷ 1 ∷ [])) 1 7
+    ∷ spoilt (deepPairs 9) 32 4  -- a tuple too deep
+    ∷ spoilt (nums (1 ∷ 1 ∷ 3 ∷ 0 ∷ [])) 2 2
+    ∷ spoilt (nums (0 ∷ 7 ∷ 7 ∷ [])) 2 6  -- left over
+    ∷ spoilt (pos 1 ∷ minus 1 ∷ []) 1 3  -- a wrong count
     ∷ passes something wildcard (braces (replicate 64 (pos 7))) 1 2  -- 64 elements
-    ∷ refuses something wildcard (braces (replicate 65 (pos 7))) 5 1  -- 65
+    ∷ spoilt (braces (replicate 65 (pos 7))) 1 3  -- 65
     ∷ passes something wildcard (deep 8) 1 2  -- depth 8
     ∷ passes something wildcard (deepInt 8) 1 2  -- an integer has no depth
-    ∷ refuses something wildcard (deep 9) 5 16  -- depth 9: the tag
-    ∷ refuses something wildcard (nums (1 ∷ 1 ∷ 1 ∷ 1 ∷ 1 ∷ 1 ∷ 1 ∷ 1 ∷ 1 ∷ 1 ∷ 1 ∷ 1 ∷ 1 ∷ 1 ∷ 1 ∷ 1 ∷ 1 ∷ [])) 5 16  -- too deep, and cut short behind it
-    ∷ refuses something wildcard (replicate 1024 (pos 0)) 5 2  -- 1,024 words, left over
-    ∷ refuses something wildcard (replicate 1025 (pos 9)) 5 1024  -- 1,025 words, before any other look
+    ∷ spoilt (deep 9) 16 4  -- depth 9: the tag
+    ∷ spoilt (nums (1 ∷ 1 ∷ 1 ∷ 1 ∷ 1 ∷ 1 ∷ 1 ∷ 1 ∷ 1 ∷ 1 ∷ 1 ∷ 1 ∷ 1 ∷ 1 ∷ 1 ∷ 1 ∷ 1 ∷ [])) 16 4  -- too deep, and cut short behind it
+    ∷ spoilt (replicate 1024 (pos 0)) 2 6  -- 1,024 words, left over
+    ∷ spoilt (replicate 1025 (pos 9)) 1024 1  -- 1,025 words, before any other look
     -- 6 unfit
     ∷ refuses integer wildcard (braces []) 6 0
     ∷ refuses multisetInteger wildcard (nums (0 ∷ 7 ∷ [])) 6 0

@@ -1,12 +1,13 @@
 -- Document 01, sections 1 and 3: the two services as functions of their whole input, the answers and their order.
 use Prim.Native.Nat.{ℕ, _^_}
-use mathlib.Core.Bool.{true, false}
+use mathlib.Core.Bool.{true, false, cond}
 use mathlib.Core.List.{List, [], _∷_, _++_}
 use lib.ListN.{length, drop}
-use lib.Dec.{leb, ltb}
+use lib.Dec.{leb, ltb, eqb}
 use lib.IntN.{ℤ, pos, negsuc}
 use Rattle.rules.specs.Forms.{Matcher, Pattern, Value}
 use Rattle.rules.specs.Reading.{Verdict, ok, fault, readMatcher, readPattern, readTarget}
+use Rattle.rules.specs.Causes.{causeOf}
 use Rattle.rules.specs.Variables.{variables}
 use Rattle.rules.specs.Fit.{fits, fitsValue}
 use Rattle.rules.specs.Search.{Run, run, start}
@@ -45,7 +46,7 @@ targetOf m ts =
     test 6 (fitsValue m v 0) λ _.
     accepted v
 
--- ---- Match: five numbers, and what the room holds after.
+-- ---- Match: six numbers, and what the room holds after.
 
 pub record Matched : Type 0 where
   pub answer : ℕ
@@ -53,11 +54,17 @@ pub record Matched : Type 0 where
   pub rows : ℕ
   pub steps : ℕ
   pub words : ℕ
+  pub cause : ℕ
   pub room : List ℤ
 
+-- "Match passes the cause up as a sixth number, 0 in every other answer" than 5.
+unfoldable pub causeIn : (answer : ℕ) → (ts : List ℤ) → ℕ
+unfolding causeOf
+causeIn a ts = cond (eqb a 5) (causeOf ts) 0
+
 -- "Answers 1 to 6 have 0 rows, 0 steps, 0 words and the result room holds what it held."
-unfoldable pub turnedAway : (answer place : ℕ) → List ℤ → Matched
-turnedAway a i room = record { answer = a; place = i; rows = 0; steps = 0; words = 0; room = room }
+unfoldable pub turnedAway : (answer place cause : ℕ) → List ℤ → Matched
+turnedAway a i c room = record { answer = a; place = i; rows = 0; steps = 0; words = 0; cause = c; room = room }
 
 -- "In 0, 7 and 8 the rows counted stand whole from the start of the room, and each word after the words written is untouched."
 unfoldable pub carriedOut : Run → List ℤ → Matched
@@ -67,18 +74,19 @@ carriedOut r room = record {
   rows = r .rows;
   steps = r .steps;
   words = length (r .written);
+  cause = 0;
   room = r .written ++ drop (length (r .written)) room;
 }
 
-unfoldable pub matchTarget : (budget : ℕ) (room : List ℤ) → Rule → Judged Value → Matched
-unfolding turnedAway carriedOut run start
-matchTarget budget room r (refused a i) = turnedAway a i room
-matchTarget budget room r (accepted v) = carriedOut (run budget (start (r .matcher) (r .pattern) v ∷ []) (length room)) room
+unfoldable pub matchTarget : (budget : ℕ) (room : List ℤ) (ts : List ℤ) → Rule → Judged Value → Matched
+unfolding turnedAway carriedOut causeIn run start
+matchTarget budget room ts r (refused a i) = turnedAway a i (causeIn a ts) room
+matchTarget budget room ts r (accepted v) = carriedOut (run budget (start (r .matcher) (r .pattern) v ∷ []) (length room)) room
 
 unfoldable pub matchRule : (budget : ℕ) (room : List ℤ) (ts : List ℤ) → Judged Rule → Matched
 unfolding turnedAway matchTarget targetOf
-matchRule budget room ts (refused a i) = turnedAway a i room
-matchRule budget room ts (accepted r) = matchTarget budget room r (targetOf (r .matcher) ts)
+matchRule budget room ts (refused a i) = turnedAway a i 0 room
+matchRule budget room ts (accepted r) = matchTarget budget room ts r (targetOf (r .matcher) ts)
 
 unfoldable pub match : (ms ps ts : List ℤ) (budget : ℕ) (room : List ℤ) → Matched
 unfolding matchRule ruleOf

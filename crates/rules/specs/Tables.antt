@@ -24,7 +24,7 @@ unfoldable pub held : ℕ → List ℤ
 held n = replicate n (pos 77)
 
 unfoldable pub ofMatch : Matched → Outcome
-ofMatch r = record { numbers = r .answer ∷ r .place ∷ r .rows ∷ r .steps ∷ r .words ∷ []; room = r .room }
+ofMatch r = record { numbers = r .answer ∷ r .place ∷ r .rows ∷ r .steps ∷ r .words ∷ r .cause ∷ []; room = r .room }
 
 unfoldable pub ofReview : Reviewed → Outcome
 ofReview r = record { numbers = r .answer ∷ r .place ∷ r .count ∷ []; room = [] }

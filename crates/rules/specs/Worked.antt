@@ -42,29 +42,29 @@ two = nums (0 ∷ 2 ∷ [])
 
 unfoldable pub table : List Case
 table =
-    matching multisetInteger R units 1000 64 ⇒ (0 ∷ 0 ∷ 2 ∷ 22 ∷ 4 ∷ []) writing (two ++ two)  -- P1
-    ∷ matching multisetInteger R (braces (nums (2 ∷ []))) 1000 64 ⇒ (0 ∷ 0 ∷ 0 ∷ 4 ∷ 0 ∷ []) writing []  -- P2
-    ∷ matching listInteger (nums (6 ∷ 1 ∷ 0 ∷ 1 ∷ 1 ∷ [])) (braces (nums (1 ∷ 2 ∷ 3 ∷ []))) 1000 64 ⇒ (0 ∷ 0 ∷ 4 ∷ 21 ∷ 40 ∷ [])
+    matching multisetInteger R units 1000 64 ⇒ (0 ∷ 0 ∷ 2 ∷ 22 ∷ 4 ∷ 0 ∷ []) writing (two ++ two)  -- P1
+    ∷ matching multisetInteger R (braces (nums (2 ∷ []))) 1000 64 ⇒ (0 ∷ 0 ∷ 0 ∷ 4 ∷ 0 ∷ 0 ∷ []) writing []  -- P2
+    ∷ matching listInteger (nums (6 ∷ 1 ∷ 0 ∷ 1 ∷ 1 ∷ [])) (braces (nums (1 ∷ 2 ∷ 3 ∷ []))) 1000 64 ⇒ (0 ∷ 0 ∷ 4 ∷ 21 ∷ 40 ∷ 0 ∷ [])
     writing (
     (braces [] ++ braces (nums (1 ∷ 2 ∷ 3 ∷ [])))
     ++ (braces (nums (1 ∷ [])) ++ braces (nums (2 ∷ 3 ∷ [])))
     ++ (braces (nums (1 ∷ 2 ∷ [])) ++ braces (nums (3 ∷ [])))
     ++ (braces (nums (1 ∷ 2 ∷ 3 ∷ [])) ++ braces [])
     )  -- P3
-    ∷ matching (nums (0 ∷ [])) (nums (0 ∷ [])) (nums (0 ∷ 7 ∷ [])) 1000 64 ⇒ (0 ∷ 0 ∷ 1 ∷ 2 ∷ 0 ∷ []) writing []  -- P4
-    ∷ matching listInteger (nums (4 ∷ [])) (braces []) 1000 64 ⇒ (0 ∷ 0 ∷ 1 ∷ 2 ∷ 0 ∷ []) writing []  -- P5
-    ∷ matching listInteger (nums (4 ∷ [])) (braces (nums (5 ∷ []))) 1000 64 ⇒ (0 ∷ 0 ∷ 0 ∷ 1 ∷ 0 ∷ []) writing []  -- P6
-    ∷ matching multisetInteger (nums (5 ∷ 0 ∷ 0 ∷ [])) (braces []) 1000 64 ⇒ (0 ∷ 0 ∷ 0 ∷ 1 ∷ 0 ∷ []) writing []  -- P7
-    ∷ matching (nums (2 ∷ 3 ∷ 1 ∷ [])) justTwo pairs 1000 64 ⇒ (0 ∷ 0 ∷ 1 ∷ 7 ∷ 6 ∷ []) writing braces (nums (4 ∷ 9 ∷ []))  -- P8
-    ∷ matching (nums (2 ∷ 2 ∷ 1 ∷ [])) justTwo pairs 1000 64 ⇒ (0 ∷ 0 ∷ 0 ∷ 5 ∷ 0 ∷ []) writing []  -- P9
-    ∷ matching multisetInteger oneMore (braces (nums (3 ∷ 4 ∷ 8 ∷ 9 ∷ []))) 1000 64 ⇒ (0 ∷ 0 ∷ 2 ∷ 31 ∷ 4 ∷ [])
+    ∷ matching (nums (0 ∷ [])) (nums (0 ∷ [])) (nums (0 ∷ 7 ∷ [])) 1000 64 ⇒ (0 ∷ 0 ∷ 1 ∷ 2 ∷ 0 ∷ 0 ∷ []) writing []  -- P4
+    ∷ matching listInteger (nums (4 ∷ [])) (braces []) 1000 64 ⇒ (0 ∷ 0 ∷ 1 ∷ 2 ∷ 0 ∷ 0 ∷ []) writing []  -- P5
+    ∷ matching listInteger (nums (4 ∷ [])) (braces (nums (5 ∷ []))) 1000 64 ⇒ (0 ∷ 0 ∷ 0 ∷ 1 ∷ 0 ∷ 0 ∷ []) writing []  -- P6
+    ∷ matching multisetInteger (nums (5 ∷ 0 ∷ 0 ∷ [])) (braces []) 1000 64 ⇒ (0 ∷ 0 ∷ 0 ∷ 1 ∷ 0 ∷ 0 ∷ []) writing []  -- P7
+    ∷ matching (nums (2 ∷ 3 ∷ 1 ∷ [])) justTwo pairs 1000 64 ⇒ (0 ∷ 0 ∷ 1 ∷ 7 ∷ 6 ∷ 0 ∷ []) writing braces (nums (4 ∷ 9 ∷ []))  -- P8
+    ∷ matching (nums (2 ∷ 2 ∷ 1 ∷ [])) justTwo pairs 1000 64 ⇒ (0 ∷ 0 ∷ 0 ∷ 5 ∷ 0 ∷ 0 ∷ []) writing []  -- P9
+    ∷ matching multisetInteger oneMore (braces (nums (3 ∷ 4 ∷ 8 ∷ 9 ∷ []))) 1000 64 ⇒ (0 ∷ 0 ∷ 2 ∷ 31 ∷ 4 ∷ 0 ∷ [])
     writing nums (0 ∷ 3 ∷ 0 ∷ 8 ∷ [])  -- P10
-    ∷ matching multisetInteger oneMore (braces (pos 2147483647 ∷ minus 2147483648 ∷ [])) 1000 64 ⇒ (0 ∷ 0 ∷ 0 ∷ 9 ∷ 0 ∷ []) writing []  -- P11
-    ∷ matching multisetInteger R units 8 64 ⇒ (7 ∷ 0 ∷ 0 ∷ 8 ∷ 0 ∷ []) writing []  -- P1 with other budgets
-    ∷ matching multisetInteger R units 9 64 ⇒ (7 ∷ 0 ∷ 1 ∷ 9 ∷ 2 ∷ []) writing two
-    ∷ matching multisetInteger R units 1000 3 ⇒ (8 ∷ 0 ∷ 1 ∷ 21 ∷ 2 ∷ []) writing two  -- P12
-    ∷ matching multisetInteger R units 21 3 ⇒ (8 ∷ 0 ∷ 1 ∷ 21 ∷ 2 ∷ []) writing two
-    ∷ matching multisetInteger R units 20 3 ⇒ (7 ∷ 0 ∷ 1 ∷ 20 ∷ 2 ∷ []) writing two
+    ∷ matching multisetInteger oneMore (braces (pos 2147483647 ∷ minus 2147483648 ∷ [])) 1000 64 ⇒ (0 ∷ 0 ∷ 0 ∷ 9 ∷ 0 ∷ 0 ∷ []) writing []  -- P11
+    ∷ matching multisetInteger R units 8 64 ⇒ (7 ∷ 0 ∷ 0 ∷ 8 ∷ 0 ∷ 0 ∷ []) writing []  -- P1 with other budgets
+    ∷ matching multisetInteger R units 9 64 ⇒ (7 ∷ 0 ∷ 1 ∷ 9 ∷ 2 ∷ 0 ∷ []) writing two
+    ∷ matching multisetInteger R units 1000 3 ⇒ (8 ∷ 0 ∷ 1 ∷ 21 ∷ 2 ∷ 0 ∷ []) writing two  -- P12
+    ∷ matching multisetInteger R units 21 3 ⇒ (8 ∷ 0 ∷ 1 ∷ 21 ∷ 2 ∷ 0 ∷ []) writing two
+    ∷ matching multisetInteger R units 20 3 ⇒ (7 ∷ 0 ∷ 1 ∷ 20 ∷ 2 ∷ 0 ∷ []) writing two
     ∷ reviewing multisetInteger R (pos 0) ⇒ (0 ∷ 0 ∷ 1 ∷ []) writing []  -- P13
     ∷ reviewing multisetInteger R (pos 3) ⇒ (0 ∷ 0 ∷ 46 ∷ []) writing []
     ∷ reviewing multisetInteger R (pos 64) ⇒ (0 ∷ 0 ∷ 16577 ∷ []) writing []

@@ -30,7 +30,7 @@ table =
     ∷ everybody (4 ∷ 2 ∷ 2 ∷ 1 ∷ 0 ∷ []) (7 ∷ 2 ∷ 9 ∷ 6 ∷ 0 ∷ 0 ∷ 0 ∷ 8 ∷ 0 ∷ 1 ∷ 0 ∷ [])  -- all of them
     ∷ everybody (4 ∷ 4 ∷ 4 ∷ 2 ∷ 0 ∷ 0 ∷ 0 ∷ 0 ∷ 0 ∷ []) (7 ∷ 4 ∷ 7 ∷ 2 ∷ 1 ∷ 0 ∷ 1 ∷ 1 ∷ 8 ∷ 1 ∷ 2 ∷ 1 ∷ 3 ∷ 1 ∷ 4 ∷ 1 ∷ 5 ∷ [])  -- `1 4`: variable 4, no tag 4; `1 2`, `1 3`, `1 5`
     ∷ reviewing (nums (1 ∷ [])) (sides 40) (pos 3) ⇒ (11 ∷ 0 ∷ 0 ∷ []) writing []  -- before "too big"
-    ∷ matching (nums (2 ∷ 1 ∷ [])) (nums (6 ∷ 0 ∷ 0 ∷ [])) (braces []) 9 0 ⇒ (0 ∷ 0 ∷ 1 ∷ 6 ∷ 0 ∷ []) writing []  -- match takes it up
+    ∷ matching (nums (2 ∷ 1 ∷ [])) (nums (6 ∷ 0 ∷ 0 ∷ [])) (braces []) 9 0 ⇒ (0 ∷ 0 ∷ 1 ∷ 6 ∷ 0 ∷ 0 ∷ []) writing []  -- match takes it up
     ∷ notAll (1 ∷ []) (9 ∷ 0 ∷ 2 ∷ 5 ∷ []) 6  -- an or whose one side can fail
     ∷ notAll (1 ∷ []) (9 ∷ 2 ∷ 5 ∷ 0 ∷ []) 6
     ∷ notAll (1 ∷ []) (2 ∷ 0 ∷ []) 2  -- one of the tags alone

@@ -11,15 +11,15 @@ plus c x y room numbers words = matching (nums (3 ∷ 1 ∷ [])) (pos 5 ∷ pos 
 
 -- x + c is y: one row, x.
 abbrev reaches : ℤ → ℤ → ℤ → Case
-reaches c x y = plus c x y 4 (0 ∷ 0 ∷ 1 ∷ 12 ∷ 2 ∷ []) (pos 0 ∷ x ∷ [])
+reaches c x y = plus c x y 4 (0 ∷ 0 ∷ 1 ∷ 12 ∷ 2 ∷ 0 ∷ []) (pos 0 ∷ x ∷ [])
 
 -- c is 0 and the other is the same: two rows.
 abbrev twice : ℤ → Case
-twice x = plus (pos 0) x x 4 (0 ∷ 0 ∷ 2 ∷ 15 ∷ 4 ∷ []) (pos 0 ∷ x ∷ pos 0 ∷ x ∷ [])
+twice x = plus (pos 0) x x 4 (0 ∷ 0 ∷ 2 ∷ 15 ∷ 4 ∷ 0 ∷ []) (pos 0 ∷ x ∷ pos 0 ∷ x ∷ [])
 
 -- No sum equals the other.
 abbrev fails : ℤ → ℤ → ℤ → Case
-fails c x y = plus c x y 4 (0 ∷ 0 ∷ 0 ∷ 9 ∷ 0 ∷ []) []
+fails c x y = plus c x y 4 (0 ∷ 0 ∷ 0 ∷ 9 ∷ 0 ∷ 0 ∷ []) []
 
 abbrev largest : ℤ
 largest = pos 2147483647

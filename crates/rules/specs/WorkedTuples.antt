@@ -30,11 +30,11 @@ turned = nums (2 ∷ 2 ∷ []) ++ braces (nums (1 ∷ 2 ∷ [])) ++ braces (nums
 
 unfoldable pub table : List Case
 table =
-    matching multisetUnits neighbours army 1000 64 ⇒ (0 ∷ 0 ∷ 1 ∷ 36 ∷ 4 ∷ []) writing nums (0 ∷ 1 ∷ 0 ∷ 4 ∷ [])
-    ∷ matching (nums (4 ∷ 2 ∷ 2 ∷ 1 ∷ 3 ∷ 1 ∷ [])) again turned 1000 64 ⇒ (0 ∷ 0 ∷ 1 ∷ 5 ∷ 6 ∷ []) writing braces (nums (1 ∷ 2 ∷ []))  -- a list compared as a multiset
-    ∷ matching (nums (4 ∷ 2 ∷ 3 ∷ 1 ∷ 2 ∷ 1 ∷ [])) again turned 1000 64 ⇒ (0 ∷ 0 ∷ 0 ∷ 4 ∷ 0 ∷ []) writing []  -- a multiset compared as a list
-    ∷ matching (nums (4 ∷ 2 ∷ 1 ∷ 1 ∷ [])) (nums (1 ∷ 0 ∷ [])) (unit 7 9) 1000 64 ⇒ (0 ∷ 0 ∷ 1 ∷ 3 ∷ 6 ∷ []) writing unit 7 9  -- two steps for a variable
-    ∷ matching multisetUnits (nums (5 ∷ 1 ∷ 0 ∷ 5 ∷ 3 ∷ 0 ∷ 0 ∷ 0 ∷ [])) (nums (1 ∷ 2 ∷ []) ++ unit 3 3 ++ unit 3 3) 1000 64 ⇒ (0 ∷ 0 ∷ 2 ∷ 15 ∷ 12 ∷ [])
+    matching multisetUnits neighbours army 1000 64 ⇒ (0 ∷ 0 ∷ 1 ∷ 36 ∷ 4 ∷ 0 ∷ []) writing nums (0 ∷ 1 ∷ 0 ∷ 4 ∷ [])
+    ∷ matching (nums (4 ∷ 2 ∷ 2 ∷ 1 ∷ 3 ∷ 1 ∷ [])) again turned 1000 64 ⇒ (0 ∷ 0 ∷ 1 ∷ 5 ∷ 6 ∷ 0 ∷ []) writing braces (nums (1 ∷ 2 ∷ []))  -- a list compared as a multiset
+    ∷ matching (nums (4 ∷ 2 ∷ 3 ∷ 1 ∷ 2 ∷ 1 ∷ [])) again turned 1000 64 ⇒ (0 ∷ 0 ∷ 0 ∷ 4 ∷ 0 ∷ 0 ∷ []) writing []  -- a multiset compared as a list
+    ∷ matching (nums (4 ∷ 2 ∷ 1 ∷ 1 ∷ [])) (nums (1 ∷ 0 ∷ [])) (unit 7 9) 1000 64 ⇒ (0 ∷ 0 ∷ 1 ∷ 3 ∷ 6 ∷ 0 ∷ []) writing unit 7 9  -- two steps for a variable
+    ∷ matching multisetUnits (nums (5 ∷ 1 ∷ 0 ∷ 5 ∷ 3 ∷ 0 ∷ 0 ∷ 0 ∷ [])) (nums (1 ∷ 2 ∷ []) ++ unit 3 3 ++ unit 3 3) 1000 64 ⇒ (0 ∷ 0 ∷ 2 ∷ 15 ∷ 12 ∷ 0 ∷ [])
     writing (unit 3 3 ++ unit 3 3)  -- tuples equal part by part
     ∷ reviewing multisetUnits neighbours (pos 3) ⇒ (0 ∷ 0 ∷ 73 ∷ []) writing []
     ∷ []

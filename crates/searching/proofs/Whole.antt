@@ -192,6 +192,7 @@ module _ (e : Env) (g : Target (e .words)) (fine : Fine e) (m : Matcher) (p : Pa
     rows = r .state .rows;
     steps = r .state .steps;
     words = sym long k;
+    cause = 0;
     room = whole k;
   }
     where

@@ -137,9 +137,9 @@ unfoldable pub answerOf : (live : ℕ) → ℕ
 unfolding when
 answerOf n = when (eqb n 3) 8 (when (eqb n 0) 0 7)
 
--- Told with the room as it is left.
+-- Told with the room as it is left; a run has no place and no cause.
 unfoldable pub matched : (answer rows steps words : ℕ) → List ℤ → Matched
-matched answer rows steps words room = record { answer = answer; place = 0; rows = rows; steps = steps; words = words; room = room }
+matched answer rows steps words room = record { answer = answer; place = 0; rows = rows; steps = steps; words = words; cause = 0; room = room }
 
 unfoldable pub told : Run → Matched
 unfolding matched answerOf

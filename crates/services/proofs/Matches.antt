@@ -7,7 +7,7 @@ use lib.ListN.{length, replicate}
 use lib.IntN.{ℤ, pos}
 use Rattle.rules.specs.Forms.{Matcher, Value}
 use Rattle.rules.specs.Reading.{Verdict, ok, fault, readMatcher}
-use Rattle.rules.specs.Services.{Judged, accepted, refused, test, Rule, ruleOf, targetOf, turnedAway, matchTarget, matchRule, match}
+use Rattle.rules.specs.Services.{Judged, accepted, refused, test, Rule, ruleOf, targetOf, causeIn, turnedAway, matchTarget, matchRule, match}
 use Rattle.rules.specs.Services as paper
 use Rattle.promises.specs.Faults.{rule-accepted, Sane, sane-exactly}
 use Rattle.words.specs.Words.{entries}
@@ -20,9 +20,11 @@ use Rattle.searching.specs.Run.{env}
 use Rattle.searching.specs.Valid.{Fine}
 use Rattle.searching.specs.Searched.{Searched}
 use Rattle.searching.proofs.Accepted.{accepted-target, accepted-some, accepted-fine, accepted-match}
-use Rattle.judging.specs.Judgements.{judgement, targetUnder}
+use Rattle.judging.specs.Judgements.{judgement, targetJudgement, targetUnder}
 use Rattle.judging.specs.declared.Judgement.{Judgement}
 use Rattle.judging.specs.declared.Judgement.the-variants.{Accepted, Refused}
+use Rattle.judging.specs.declared.TargetJudgement.{TargetJudgement}
+use Rattle.judging.specs.declared.TargetJudgement.the-variants as targets
 use Rattle.services.specs.Matches.{Ready}
 
 -- ---- What a judgement says.
@@ -37,6 +39,21 @@ unfolding judgement
 was-refused (accepted b) x a i p q = let z : _≡_ {A = ℕ} 0 1 = cc in absurd (omega arith)
 was-refused (refused b k) x a i p q = let e : a ≡ b = cc in let f : i ≡ k = cc in rw (e, f)
 
+target-accepted : (ts : List ℤ) (j : Judged Value) (x : TargetJudgement) → x ≡ targetJudgement ts j → x ≡ targets.Accepted → (v : Value) × (j ≡ accepted v)
+unfolding targetJudgement
+target-accepted ts (accepted v) x p q = (v, refl)
+target-accepted ts (refused a i) x p q = let z : _≡_ {A = ℕ} 0 1 = cc in absurd (omega arith)
+
+target-refused : (ts : List ℤ) (j : Judged Value) (x : TargetJudgement) (a i c : ℕ) → x ≡ targetJudgement ts j → x ≡ targets.Refused a i c
+    → (j ≡ refused a i) × (c ≡ causeIn a ts)
+unfolding targetJudgement
+target-refused ts (accepted v) x a i c p q = let z : _≡_ {A = ℕ} 0 1 = cc in absurd (omega arith)
+target-refused ts (refused b k) x a i c p q =
+    let e : b ≡ a = cc in
+    let f : k ≡ i = cc in
+    let g : c ≡ causeIn b ts = cc in
+    (rw (e, f), g ∙ ap (λ n. causeIn n ts) e)
+
 -- The tests 5 and 6 are those under the rule's matcher.
 under : (ms ps ts : List ℤ) (r : Rule) → ruleOf ms ps ≡ accepted r → targetUnder ms ts ≡ targetOf (r .matcher) ts
 unfolding targetUnder test
@@ -45,22 +62,23 @@ under ms ps ts r e = let m = rule-accepted ms ps r .0 e .matcher in rw m
 -- ---- The answers 1 to 6.
 
 module _ (ms ps ts : List ℤ) (budget : ℕ) (room : List ℤ) (x : Judgement) (p : x ≡ judgement (ruleOf ms ps)) where
-  pub rule-away : (a i : ℕ) → x ≡ Refused a i → turnedAway a i room ≡ match ms ps ts budget room
+  pub rule-away : (a i : ℕ) → x ≡ Refused a i → turnedAway a i 0 room ≡ match ms ps ts budget room
   unfolding match
   rule-away a i q = sym (ap (matchRule budget room ts) (was-refused (ruleOf ms ps) x a i p q))
 
-  module _ (ok : x ≡ Accepted) (y : Judgement) (k : y ≡ judgement (targetUnder ms ts)) where
-    pub target-away : (a i : ℕ) → y ≡ Refused a i → turnedAway a i room ≡ match ms ps ts budget room
+  module _ (ok : x ≡ Accepted) (y : TargetJudgement) (k : y ≡ targetJudgement ts (targetUnder ms ts)) where
+    pub target-away : (a i c : ℕ) → y ≡ targets.Refused a i c → turnedAway a i c room ≡ match ms ps ts budget room
     unfolding match matchRule
-    target-away a i q =
+    target-away a i c q =
         let r = was-accepted (ruleOf ms ps) x p ok in
-        let t = was-refused (targetOf (r .0 .matcher) ts) y a i (k ∙ ap judgement (under ms ps ts (r .0) (r .1))) q in
-        sym (ap (matchRule budget room ts) (r .1) ∙ ap (matchTarget budget room (r .0)) t)
+        let t = target-refused ts (targetOf (r .0 .matcher) ts) y a i c (k ∙ ap (targetJudgement ts) (under ms ps ts (r .0) (r .1))) q in
+        ap (λ n. turnedAway a i n room) (t .1) ∙ sym (ap (matchRule budget room ts) (r .1) ∙ ap (matchTarget budget room ts (r .0)) (t .0))
 
-pub both-ready : (ms ps ts : List ℤ) (x y : Judgement) → x ≡ judgement (ruleOf ms ps) → x ≡ Accepted → y ≡ judgement (targetUnder ms ts) → y ≡ Accepted → Ready ms ps ts
+pub both-ready : (ms ps ts : List ℤ) (x : Judgement) (y : TargetJudgement) → x ≡ judgement (ruleOf ms ps) → x ≡ Accepted
+    → y ≡ targetJudgement ts (targetUnder ms ts) → y ≡ targets.Accepted → Ready ms ps ts
 both-ready ms ps ts x y p q k l =
     let r = was-accepted (ruleOf ms ps) x p q in
-    let v = was-accepted (targetOf (r .0 .matcher) ts) y (k ∙ ap judgement (under ms ps ts (r .0) (r .1))) l in
+    let v = target-accepted ts (targetOf (r .0 .matcher) ts) y (k ∙ ap (targetJudgement ts) (under ms ps ts (r .0) (r .1))) l in
     record { rule = r .0; value = v .0; rule-is = r .1; value-is = v .1 }
 
 -- ---- Input that is accepted.

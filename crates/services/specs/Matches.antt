@@ -7,9 +7,9 @@ use Rattle.rules.specs.Services.{accepted, Rule, ruleOf, targetOf}
 use Rattle.rules.specs.Services as paper
 use Rattle.services.specs.declared.matching.Matched.{Matched}
 
--- Document 01's five numbers, and what the room holds.
+-- The five numbers of document 01 and the cause of document 02, No. 6, and what the room holds.
 unfoldable pub told : Matched → List ℤ → paper.Matched
-told r room = record { answer = r .answer; place = r .place; rows = r .rows; steps = r .steps; words = r .words; room = room }
+told r room = record { answer = r .answer; place = r .place; rows = r .rows; steps = r .steps; words = r .words; cause = r .cause; room = room }
 
 pub record Ready (ms ps ts : List ℤ) : Type 0 where
   pub rule : Rule

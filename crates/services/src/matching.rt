@@ -1,5 +1,6 @@
 // The service match: a rule's rows on a target, written into a lent room.
 use judging::Judgement;
+use judging::TargetJudgement;
 use judging::rule_refused;
 use judging::target_refused;
 use program::compile;
@@ -15,6 +16,7 @@ pub struct Matched {
     pub rows: u64,
     pub steps: u64,
     pub words: usize,
+    pub cause: u32,
 }
 
 // The run of a rule and a target that were accepted.
@@ -63,10 +65,11 @@ fn carry_out(
         rows: r.rows,
         steps: r.steps,
         words: r.words,
+        cause: 0,
     }
 }
 
-// Match, for every input: answers 1 to 6 leave the room as it was.
+// Match, for every input: answers 1 to 6 leave the room as it was, and answer 5 has a cause.
 pub fn match_units(
     matcher: &[i32],
     pattern: &[i32],
@@ -83,15 +86,17 @@ pub fn match_units(
             rows: 0,
             steps: 0,
             words: 0,
+            cause: 0,
         };
     }
-    if let Judgement::Refused(a, i) = target_refused(matcher, target) {
+    if let TargetJudgement::Refused(a, i, c) = target_refused(matcher, target) {
         return Matched {
             answer: a,
             place: i,
             rows: 0,
             steps: 0,
             words: 0,
+            cause: c,
         };
     }
     carry_out(matcher, pattern, target, budget, room)

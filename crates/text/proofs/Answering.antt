@@ -19,7 +19,7 @@ use Rattle.printing.specs.Rows.{cutRows, emptyRows, lines}
 use Rattle.asking.specs.Question.{Question, asked}
 use Rattle.text.specs.Printed.{variablesOf, firstLine, report, matched, answerTo, printed, emptyReport, emptyTo, emptyLines}
 use Rattle.asking.specs.Meaning.{ofAsked, Few}
-use Rattle.printing.specs.Meaning.{unreadable, Text, fiveLine}
+use Rattle.printing.specs.Meaning.{unreadable, Text, sixLine}
 use Rattle.text.specs.Meaning.{zeroWords, Answer}
 use Rattle.printing.specs.declared.rows.Rest.{Rest}
 use Rattle.asking.specs.declared.question.Asked.{Asked}
@@ -31,10 +31,10 @@ use Rattle.text.specs.declared.Printed.the-variants as Printed
 WordsIn : List ℤ → paper.Matched → Type 0
 WordsIn room m = length (m .room) ≡ length room → m .words ≤ length room
 
-words-target : (budget : ℕ) (room : List ℤ) (r : Rule) (v : Judged Value) → WordsIn room (matchTarget budget room r v)
+words-target : (budget : ℕ) (room ts : List ℤ) (r : Rule) (v : Judged Value) → WordsIn room (matchTarget budget room ts r v)
 unfolding WordsIn matchTarget turnedAway carriedOut
-words-target budget room r (refused a i) e = omega arith
-words-target budget room r (accepted v) e =
+words-target budget room ts r (refused a i) e = omega arith
+words-target budget room ts r (accepted v) e =
     let ws = run budget (start (r .matcher) (r .pattern) v ∷ []) (length room) .written in
     let a = length-append ws (drop (length ws) room) in
     let b = length-drop (length ws) room in
@@ -43,7 +43,7 @@ words-target budget room r (accepted v) e =
 words-rule : (budget : ℕ) (room ts : List ℤ) (r : Judged Rule) → WordsIn room (matchRule budget room ts r)
 unfolding WordsIn matchRule turnedAway
 words-rule budget room ts (refused a i) e = omega arith
-words-rule budget room ts (accepted r) e = words-target budget room r (targetOf (r .matcher) ts) e
+words-rule budget room ts (accepted r) e = words-target budget room ts r (targetOf (r .matcher) ts) e
 
 words-in : (ms ps ts : List ℤ) (budget : ℕ) (room : List ℤ) → WordsIn room (match ms ps ts budget room)
 unfolding match
@@ -54,8 +54,8 @@ unfolding emptyReport told
 empty-is r new values = refl
 
 report-is : (r : Matched) (new : List ℤ) (values : ℕ)
-    → report values (told r new) ≡ fiveLine (r .answer) (r .place) (r .rows) (r .steps) (r .words) ++ lines (cutRows values (r .rows) (take (r .words) new))
-unfolding report firstLine fiveLine told
+    → report values (told r new) ≡ sixLine (r .answer) (r .place) (r .rows) (r .steps) (r .words) (r .cause) ++ lines (cutRows values (r .rows) (take (r .words) new))
+unfolding report firstLine sixLine told
 report-is r new values = refl
 
 module _ (ms ps ts : List ℤ) (budget : ℕ) (room new : List ℤ) (r : Matched) (q : told r new ≡ match ms ps ts budget room) where
@@ -73,10 +73,10 @@ module _ (ms ps ts : List ℤ) (budget : ℕ) (room new : List ℤ) (r : Matched
   pub few-words : length new ≡ length room → length room ≤ 4096 → length (take (r .words) new) ≤ 4096
   few-words e h = let a = so-many e in let b = counted e in omega arith
 
-  pub as-report : (old out : List ℕ) (rest : Rest) (values a b c d e : ℕ) → a ≡ r .answer → b ≡ r .place → c ≡ r .rows → d ≡ r .steps → e ≡ r .words → values ≡ variablesOf ps
-      → Text old out rest (fiveLine a b c d e ++ lines (cutRows values c (take (r .words) new)))
+  pub as-report : (old out : List ℕ) (rest : Rest) (values a b c d e f : ℕ) → a ≡ r .answer → b ≡ r .place → c ≡ r .rows → d ≡ r .steps → e ≡ r .words → f ≡ r .cause
+      → values ≡ variablesOf ps → Text old out rest (sixLine a b c d e f ++ lines (cutRows values c (take (r .words) new)))
       → Text old out rest (report (variablesOf ps) (match ms ps ts budget room))
-  as-report old out rest values a b c d e ha hb hc hd he hv t = rw (← q, report-is r new (variablesOf ps)) (rw (ha, hb, hc, hd, he, hv) at t)
+  as-report old out rest values a b c d e f ha hb hc hd he hf hv t = rw (← q, report-is r new (variablesOf ps)) (rw (ha, hb, hc, hd, he, hf, hv) at t)
 
   pub as-empty : (values n : ℕ) → values ≡ variablesOf ps → n ≡ emptyRows values (r .rows) (take (r .words) new)
       → n ≡ emptyReport (variablesOf ps) (match ms ps ts budget room)

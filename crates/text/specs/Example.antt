@@ -1,4 +1,4 @@
--- Document 01, section 9: the example, byte for byte.
+-- Document 01, section 9: the example, byte for byte; with No. 6 a sixth number stands on its first line.
 use Prim.Native.Nat.{ℕ}
 use mathlib.Core.Path.{_≡_, refl}
 use mathlib.Core.List.{List, [], _∷_}
@@ -14,7 +14,7 @@ input =
 
 unfoldable pub output : List ℕ
 output =
-    48 ∷ 32 ∷ 48 ∷ 32 ∷ 50 ∷ 32 ∷ 50 ∷ 50 ∷ 32 ∷ 52 ∷ 10 ∷  -- 0 0 2 22 4
+    48 ∷ 32 ∷ 48 ∷ 32 ∷ 50 ∷ 32 ∷ 50 ∷ 50 ∷ 32 ∷ 52 ∷ 32 ∷ 48 ∷ 10 ∷  -- 0 0 2 22 4 0
     48 ∷ 32 ∷ 50 ∷ 10 ∷  -- 0 2
     48 ∷ 32 ∷ 50 ∷ 10 ∷  -- 0 2
     []

@@ -22,10 +22,10 @@ unfoldable pub variablesOf : List ℤ → ℕ
 unfolding _then_ readPattern variables orZero
 variablesOf ps = orZero (readPattern ps then λ p. variables p true 0 0)
 
--- "The five numbers (answer, place, rows, steps, words written)".
+-- "The five numbers (answer, place, rows, steps, words written)", and with No. 6 the cause as a sixth.
 unfoldable pub firstLine : Matched → List ℕ
 unfolding lineOf
-firstLine m = lineOf (pos (m .answer) ∷ pos (m .place) ∷ pos (m .rows) ∷ pos (m .steps) ∷ pos (m .words) ∷ [])
+firstLine m = lineOf (pos (m .answer) ∷ pos (m .place) ∷ pos (m .rows) ∷ pos (m .steps) ∷ pos (m .words) ∷ pos (m .cause) ∷ [])
 
 -- "And then each row on its own line". (Answers 1 to 6 have no rows.)
 unfoldable pub report : (values : ℕ) → Matched → List ℕ

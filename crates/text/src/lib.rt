@@ -53,6 +53,7 @@ fn answered(m: &[i32], p: &[i32], t: &[i32], budget: u32, room: &mut [i32], out:
         r.rows,
         r.steps,
         n as u64,
+        wide(r.cause),
         &room[..n],
         values_of(p),
     )

@@ -18,7 +18,7 @@ use mir.Val.{Fits, SFits, toZ, ofZ, hbits}
 use mir.Facts.{toZ-ofZ}
 use Rattle.asking.specs.Decimal.{space}
 use Rattle.printing.specs.Decimal.{lastDigits, decimal, numeral, furtherOf, lineOf}
-use Rattle.printing.specs.Meaning.{put, Wrote, fiveLine}
+use Rattle.printing.specs.Meaning.{put, Wrote, sixLine}
 use Rattle.printing.proofs.Written.{same-long, and-then, one-byte, Left, left-all, left-some, left-none}
 
 -- ---- Digits.
@@ -236,7 +236,7 @@ line-short (z ∷ zs) h =
     let f = further-short zs in
     omega arith
 
--- ---- The line of the five numbers.
+-- ---- The line of the six numbers.
 
 module _ (l : List ℕ) (at n : ℕ) where
   pub next-number-in : at + 21 ≤ length l → at + 1 + length (decimal n) ≤ length (set l at 32)
@@ -251,23 +251,25 @@ module _ (l : List ℕ) (at n : ℕ) where
 
 pub ruleset next-rules = (next-number-in, next-wrote, next-short, kept-behind, needs)
 
-pub first-room : (l : List ℕ) (n : ℕ) → 105 ≤ length l → 0 + length (decimal n) ≤ length l
+pub first-room : (l : List ℕ) (n : ℕ) → 126 ≤ length l → 0 + length (decimal n) ≤ length l
 first-room l n h = let k = decimal-short n in omega arith
 
-module _ (l m₁ m₂ m₃ m₄ m₅ : List ℕ) (f g h i j a b c d e : ℕ)
-    (u : Wrote l m₁ 0 f (decimal a))
-    (v : Wrote m₁ m₂ f g (space ∷ decimal b))
-    (w : Wrote m₂ m₃ g h (space ∷ decimal c))
-    (x : Wrote m₃ m₄ h i (space ∷ decimal d))
-    (y : Wrote m₄ m₅ i j (space ∷ decimal e)) where
-  pub five-wrote : Wrote l (set m₅ j 10) 0 (j + 1) (fiveLine a b c d e)
-  unfolding fiveLine lineOf furtherOf numeral
-  five-wrote =
-      let n = set m₅ j 10 in
-      let k = and-then m₄ m₅ n i j (j + 1) (space ∷ decimal e) (10 ∷ []) y (one-byte m₅ j 10) in
-      let o = and-then m₃ m₄ n h i (j + 1) (space ∷ decimal d) _ x k in
-      let p = and-then m₂ m₃ n g h (j + 1) (space ∷ decimal c) _ w o in
-      let q = and-then m₁ m₂ n f g (j + 1) (space ∷ decimal b) _ v p in
-      and-then l m₁ n 0 f (j + 1) (decimal a) _ u q
+module _ (l m₁ m₂ m₃ m₄ m₅ m₆ : List ℕ) (g h i j k o a b c d e f : ℕ)
+    (u : Wrote l m₁ 0 g (decimal a))
+    (v : Wrote m₁ m₂ g h (space ∷ decimal b))
+    (w : Wrote m₂ m₃ h i (space ∷ decimal c))
+    (x : Wrote m₃ m₄ i j (space ∷ decimal d))
+    (y : Wrote m₄ m₅ j k (space ∷ decimal e))
+    (z : Wrote m₅ m₆ k o (space ∷ decimal f)) where
+  pub six-wrote : Wrote l (set m₆ o 10) 0 (o + 1) (sixLine a b c d e f)
+  unfolding sixLine lineOf furtherOf numeral
+  six-wrote =
+      let n = set m₆ o 10 in
+      let p = and-then m₅ m₆ n k o (o + 1) (space ∷ decimal f) (10 ∷ []) z (one-byte m₆ o 10) in
+      let q = and-then m₄ m₅ n j k (o + 1) (space ∷ decimal e) _ y p in
+      let r = and-then m₃ m₄ n i j (o + 1) (space ∷ decimal d) _ x q in
+      let s = and-then m₂ m₃ n h i (o + 1) (space ∷ decimal c) _ w r in
+      let t = and-then m₁ m₂ n g h (o + 1) (space ∷ decimal b) _ v s in
+      and-then l m₁ n 0 g (o + 1) (decimal a) _ u t
 
-pub ruleset five-rules = (first-room, five-wrote, needs)
+pub ruleset six-rules = (first-room, six-wrote, needs)

@@ -25,7 +25,7 @@ text-alone l m i text w h =
 
 -- A first line, and rows behind it.
 module _ (l m n line : List ℕ) (i : ℕ) (r : Rest) (values rows : ℕ) (ws : List ℤ) (w : Wrote l m 0 i line) (q : WroteRows m n i r values rows ws) where
-  pub text-rows : i ≤ 105 → length ws ≤ 4096 → 98304 ≤ length l → length n ≡ length m → Text l n r (line ++ lines (cutRows values rows ws))
+  pub text-rows : i ≤ 126 → length ws ≤ 4096 → 98304 ≤ length l → length n ≡ length m → Text l n r (line ++ lines (cutRows values rows ws))
   text-rows h f b s =
       let k = same-long l m 0 i line w in
       let e = w .ends in

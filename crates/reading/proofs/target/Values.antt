@@ -29,7 +29,7 @@ pub target-along : (s : List ℤ) (depth : ℕ) → Along s (target depth)
 unfolding Complete
 target-along s depth = along s (target depth) words (λ v. (deepest v ≤ depth) × (largest v ≤ 64) × Widths v) (target-sound depth) (target-complete depth)
 
-at-most-takes : Takes atMost64 (λ n. leb n 64)
+pub at-most-takes : Takes atMost64 (λ n. leb n 64)
 unfolding atMost64
 at-most-takes = record { by-tag = each; not-past = refl }
   where
@@ -113,7 +113,7 @@ module _ (s : List ℤ) (at t : ℕ) (e : t ≡ tagAt s at) where
     unfolding targetTags countFits valueFrom part-at
     row-wide k h = by-tag (suc d) ∙ rw h (opened-row (part-at (suc d)) s at width (λ n. within 2 n 4) width-takes tupled n q (target-along s d) (rw h at k))
 
-  one-or-two : (P : Type 0) → 1 ≤ t → t ≤ 2 → (t ≡ 1 → P) → (t ≡ 2 → P) → P
+  pub one-or-two : (P : Type 0) → 1 ≤ t → t ≤ 2 → (t ≡ 1 → P) → (t ≡ 2 → P) → P
   one-or-two P a b x y = go t a b x y
     where
       go : (k : ℕ) → 1 ≤ k → k ≤ 2 → (k ≡ 1 → P) → (k ≡ 2 → P) → P

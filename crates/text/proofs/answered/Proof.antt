@@ -9,6 +9,7 @@ answered-spec =
     (tie.spec
     (λ c κs. search answered-rules)
     (λ c κs. search answered-rules)
+    (λ c κs. search answered-rules)
     (λ c. search answered-rules)
     (λ c. search answered-rules)
     (λ c κs. search answered-rules)
