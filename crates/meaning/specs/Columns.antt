@@ -12,15 +12,15 @@ use lib.IntN.{ℤ, pos}
 use Rattle.rules.specs.Services.{accepted, Rule, ruleOf}
 use Rattle.words.specs.Words.{entries}
 use Rattle.promises.specs.Faults.{rule-accepted}
-use Rattle.program.specs.Program.{program}
-use Rattle.program.specs.Length.{instrs}
-use Rattle.program.specs.Lines.{Line, line, endLine, linesOf, variablesIn, Columns, columns, written, laid}
-use Rattle.program.specs.Meaning.{Means}
+use Rattle.meaning.specs.Program.{program}
+use Rattle.meaning.specs.Length.{instrs}
+use Rattle.program.specs.Lines.{Line, line, endLine, linesOf, variablesIn, Columns, columns, written, laid, getD-same}
+use Rattle.meaning.specs.Meaning.{Means}
 use Rattle.program.specs.Link.{opsOf, tosOf, tosBy, opsIn, bindingsIn, placed}
-use Rattle.program.specs.Linked.{link-leads}
-use Rattle.program.specs.Places.{tos-length, tos-low, placed-zeros}
-use Rattle.program.specs.Accepted.{lines-length, line-means, few-variables, program-fits}
+use Rattle.meaning.specs.Linked.{link-leads}
+use Rattle.meaning.specs.Places.{tos-length, tos-low, placed-zeros}
+use Rattle.meaning.specs.Accepted.{lines-length, line-means, few-variables, program-fits}
 use Rattle.program.specs.Bounds.{Small, line-small, Reserved, line-reserved}
 
 -- The line at a place of the arrays.
 unfoldable pub lineIn : Columns → ℕ → Line
@@ -92,11 +92,6 @@ laid-line pc (x ∷ ls) t (suc j) s h l =
 pub record Blank (t : Columns) : Type 0 where
   pub sized : Sized t
   pub ends : (pc : ℕ) → lineIn t pc ≡ endLine
-
-pub getD-same : {A : Type 0} (n i : ℕ) (a : A) → getD (replicate n a) i a ≡ a
-getD-same zero i a = refl
-getD-same (suc n) zero a = refl
-getD-same (suc n) (suc i) a = getD-same n i a
 
 zeros : ℕ → Columns
 zeros n = columns (replicate n 0) (replicate n 0) (replicate n 0) (replicate n 0) (replicate n (pos 0))

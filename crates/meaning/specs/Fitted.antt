@@ -18,13 +18,13 @@ use Rattle.promises.specs.Tests.{is-true, and-split}
 use Rattle.promises.specs.Readers.{then-ok}
 use Rattle.promises.specs.Numbering.{demand-ok}
 use Rattle.promises.specs.Written.{IsWidth, Widthsᵖ, WidthsAllᵖ}
-use Rattle.program.specs.Points.{listCons, multisetCons, joins, over, firstBy, whole, asConstant, asValue, asNil, tested, testBy, Sound, Loose, loose-wildcard, loose-variable}
-use Rattle.program.specs.Points.{Item, item, orElse, endOr, stop, Point, point, elsePlace, endPlace, cutting, finish, reserve, beyond, enter, beside, reserved, firstOf, othersOf, items, parted}
-use Rattle.program.specs.Points.{Follows, strips, drops, binds, tests, splits, aparts, keeps, chooses, denies, cuts, elses, closes, reserves, ends, after-end}
-use Rattle.program.specs.Length.{instrs, skip}
-use Rattle.program.specs.Program.{instrOf, followOf, pointAt, program}
-use Rattle.program.specs.Walk.{walk, walk-at, then-walk, first-walk, walk-reserved, bindsOf, Shut, shut-none, shut-item, shut-else, shut-end, shut-stop, side-through, lands}
-use Rattle.program.specs.Closed.{Closed, ClosedAll, none-closed, none-binds}
+use Rattle.meaning.specs.Points.{listCons, multisetCons, joins, over, firstBy, whole, asConstant, asValue, asNil, tested, testBy, Sound, Loose, loose-wildcard, loose-variable}
+use Rattle.meaning.specs.Points.{Item, item, orElse, endOr, stop, Point, point, elsePlace, endPlace, cutting, finish, reserve, beyond, enter, beside, reserved, firstOf, othersOf, items, parted}
+use Rattle.meaning.specs.Points.{Follows, strips, drops, binds, tests, splits, aparts, keeps, chooses, denies, cuts, elses, closes, reserves, ends, after-end}
+use Rattle.meaning.specs.Length.{instrs, skip}
+use Rattle.meaning.specs.Program.{instrOf, followOf, pointAt, program}
+use Rattle.meaning.specs.Walk.{walk, walk-at, then-walk, first-walk, walk-reserved, bindsOf, Shut, shut-none, shut-item, shut-else, shut-end, shut-stop, side-through, lands}
+use Rattle.meaning.specs.Closed.{Closed, ClosedAll, none-closed, none-binds}
 
 -- ---- What is to do fits, its tuples have widths from 2 to 4, and no variable stands inside an or or a not.
 pub record Fits (p : Pattern) (m : Matcher) (ms ks : List Matcher) : Type 0 where

@@ -6,7 +6,7 @@ use mathlib.Core.Bool.{true, false}
 use mathlib.Core.List.{List, [], _∷_}
 use Rattle.rules.specs.Forms.{Matcher, Matchers, Pattern, wildcard, nil, variable, constant, value, cons, join, tuple, both, either, never, Patterns, noPatterns, _▸ᵖ_, countᵖ}
 use Rattle.rules.specs.Fit.{element, members, isSomething}
-use Rattle.program.specs.Points.{Item, item, orElse, endOr, stop, Point, point, elsePlace, endPlace, cutting, finish, reserve, beyond, beside, reserved, firstOf, othersOf, items, parted}
+use Rattle.meaning.specs.Points.{Item, item, orElse, endOr, stop, Point, point, elsePlace, endPlace, cutting, finish, reserve, beyond, beside, reserved, firstOf, othersOf, items, parted}
 
 -- An or has two places more than its sides and itself, a not one more: `elsePlace` and `endPlace`, `cutting`.
 unfoldable mutual

@@ -13,16 +13,16 @@ use Rattle.rules.specs.Forms.{Matcher, something, Matchers, Pattern, wildcard, 
 use Rattle.rules.specs.Fit.{element, isSomething, members}
 use Rattle.rules.specs.Services.{Rule}
 use Rattle.promises.specs.Faults.{WellFormed}
-use Rattle.program.specs.Points.{Kind, listCons, multisetCons, joins, over, firstBy, whole, Test, asConstant, asValue, asNil, tested, testBy, Loose, loose-wildcard, loose-variable}
-use Rattle.program.specs.Points.{Instr, strip, keep, other, close, drop as drops-to, bind, test, split, apart, choice, deny, cutAt, end}
-use Rattle.program.specs.Points.{Item, item, orElse, endOr, stop, Point, point, elsePlace, endPlace, cutting, finish, reserve, beyond, beside, from, reserved, firstOf, othersOf, items, parted}
-use Rattle.program.specs.Points.{Follows, strips, drops, binds, tests, splits, aparts, keeps, chooses, denies, cuts, elses, closes, reserves, ends, after-end}
-use Rattle.program.specs.Length.{instrs, instrsParts, skip}
-use Rattle.program.specs.Program.{instrOf, pointAt, followOf, program}
+use Rattle.meaning.specs.Points.{Kind, listCons, multisetCons, joins, over, firstBy, whole, Test, asConstant, asValue, asNil, tested, testBy, Loose, loose-wildcard, loose-variable}
+use Rattle.meaning.specs.Points.{Instr, strip, keep, other, close, drop as drops-to, bind, test, split, apart, choice, deny, cutAt, end}
+use Rattle.meaning.specs.Points.{Item, item, orElse, endOr, stop, Point, point, elsePlace, endPlace, cutting, finish, reserve, beyond, beside, from, reserved, firstOf, othersOf, items, parted}
+use Rattle.meaning.specs.Points.{Follows, strips, drops, binds, tests, splits, aparts, keeps, chooses, denies, cuts, elses, closes, reserves, ends, after-end}
+use Rattle.meaning.specs.Length.{instrs, instrsParts, skip}
+use Rattle.meaning.specs.Program.{instrOf, pointAt, followOf, program}
 use Rattle.program.specs.Lines.{Line, endLine, linesOf, variablesIn}
 use Rattle.program.specs.Link.{keeps as keeping, takes, top, under, toBy, landBy, keptBy, Linked, linked, linkedBy, linkFrom, opsOf, tosOf}
-use Rattle.program.specs.Meaning.{Means, means-end, means-strip, means-drop, means-bind, means-constant, means-integer, means-value, means-nil, means-list, means-multiset, means-join, means-tuple, means-keep, means-choice, means-deny, means-cut, means-other, means-close, Leads}
-use Rattle.program.specs.Accepted.{follows, lines-length, line-means, last-beyond}
+use Rattle.meaning.specs.Meaning.{Means, means-end, means-strip, means-drop, means-bind, means-constant, means-integer, means-value, means-nil, means-list, means-multiset, means-join, means-tuple, means-keep, means-choice, means-deny, means-cut, means-other, means-close, Leads}
+use Rattle.meaning.specs.Accepted.{follows, lines-length, line-means, last-beyond}
 
 -- ---- What the pass has found when it comes to a place.
 

@@ -15,16 +15,16 @@ use Rattle.promises.specs.Written.{patternWords, length-pattern-words, IsWidth,
 use Rattle.promises.specs.ReadMatcher.{matcher-read}
 use Rattle.promises.specs.ReadPattern.{pattern-read}
 use Rattle.promises.specs.Faults.{WellFormed, rule-accepted}
-use Rattle.program.specs.Points.{Instr, Point, point, elsePlace, endPlace, cutting, finish, reserve, beyond, firstOf, othersOf, Follows, after-end}
-use Rattle.program.specs.Length.{instrs, instrsParts, toCome, all-some}
-use Rattle.program.specs.Program.{pointAt, followOf, program}
-use Rattle.program.specs.Walk.{in-range}
-use Rattle.program.specs.Closed.{Closed, closed-is}
-use Rattle.program.specs.Fitted.{program-follows}
+use Rattle.meaning.specs.Points.{Instr, Point, point, elsePlace, endPlace, cutting, finish, reserve, beyond, firstOf, othersOf, Follows, after-end}
+use Rattle.meaning.specs.Length.{instrs, instrsParts, toCome, all-some}
+use Rattle.meaning.specs.Program.{pointAt, followOf, program}
+use Rattle.meaning.specs.Walk.{in-range}
+use Rattle.meaning.specs.Closed.{Closed, closed-is}
+use Rattle.meaning.specs.Fitted.{program-follows}
 use Rattle.program.specs.Lines.{Line, endLine, linesFrom, linesOf, variablesIn}
-use Rattle.program.specs.Meaning.{MatcherAt, whole-matcher, Means, Leads}
-use Rattle.program.specs.Numbered.{Numbered, numbered-end, numbered-reserve, numbered-at}
-use Rattle.program.specs.Compiled.{itemWords, parts-none, Stands, at-tag, at-wildcard, at-variable, at-else, at-close, at-cut, at-reserve, at-end, at-beyond, Goes, goes}
+use Rattle.meaning.specs.Meaning.{MatcherAt, whole-matcher, Means, Leads}
+use Rattle.meaning.specs.Numbered.{Numbered, numbered-end, numbered-reserve, numbered-at}
+use Rattle.meaning.specs.Compiled.{itemWords, parts-none, Stands, at-tag, at-wildcard, at-variable, at-else, at-close, at-cut, at-reserve, at-end, at-beyond, Goes, goes}
 
 -- ---- 256 words make at most 639 instructions before the end.
 

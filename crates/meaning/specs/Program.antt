@@ -7,9 +7,9 @@ use lib.IntN.{pos, negsuc}
 use Rattle.rules.specs.Forms.{Matcher, something, integer, list, multiset, tupleOf}
 use Rattle.rules.specs.Forms.{Pattern, wildcard, nil, variable, constant, value, cons, join, tuple, both, either, never, countᵖ}
 use Rattle.rules.specs.Fit.{element, members, isSomething}
-use Rattle.program.specs.Points.{listCons, multisetCons, joins, asConstant, asValue, asNil, Instr, strip, keep, other, close, drop, bind, test, split, apart, choice, deny, cutAt, end}
-use Rattle.program.specs.Points.{item, orElse, endOr, stop, Point, point, elsePlace, endPlace, cutting, finish, reserve, beyond, beside, from, reserved, parted}
-use Rattle.program.specs.Length.{instrs, skip}
+use Rattle.meaning.specs.Points.{listCons, multisetCons, joins, asConstant, asValue, asNil, Instr, strip, keep, other, close, drop, bind, test, split, apart, choice, deny, cutAt, end}
+use Rattle.meaning.specs.Points.{item, orElse, endOr, stop, Point, point, elsePlace, endPlace, cutting, finish, reserve, beyond, beside, from, reserved, parted}
+use Rattle.meaning.specs.Length.{instrs, skip}
 
 -- The instruction at the place pc, where P is to do.
 unfoldable pub instrOf : (pc : ℕ) → (P : Point) → Instr

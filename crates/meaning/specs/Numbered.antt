@@ -17,9 +17,9 @@ use Rattle.promises.specs.Readers.{then-ok}
 use Rattle.promises.specs.Written.{variableTags}
 use Rattle.promises.specs.Pairing.{same-eq}
 use Rattle.promises.specs.Numbering.{variables-found, demand-ok}
-use Rattle.program.specs.Points.{Item, item, orElse, endOr, stop, Point, point, elsePlace, endPlace, cutting, finish, reserve, beyond, beside, reserved, firstOf, othersOf, items, parted}
-use Rattle.program.specs.Program.{followOf, pointAt}
-use Rattle.program.specs.Length.{toCome, come-reserved, come-parted, all-some}
+use Rattle.meaning.specs.Points.{Item, item, orElse, endOr, stop, Point, point, elsePlace, endPlace, cutting, finish, reserve, beyond, beside, reserved, firstOf, othersOf, items, parted}
+use Rattle.meaning.specs.Program.{followOf, pointAt}
+use Rattle.meaning.specs.Length.{toCome, come-reserved, come-parted, all-some}
 
 -- n variables stand to the left of what waits.
 pub data Waits : ℕ → List Item → Type 0 where

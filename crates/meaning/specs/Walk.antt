@@ -7,9 +7,9 @@ use mathlib.Core.List.{List, [], _∷_, _++_, append-nil, append-assoc}
 use Rattle.rules.specs.Forms.{Matcher, something, integer, list, multiset, tupleOf, Matchers}
 use Rattle.rules.specs.Forms.{Pattern, wildcard, nil, variable, constant, value, cons, join, tuple, both, either, never, Patterns, noPatterns, _▸ᵖ_, countᵖ}
 use Rattle.rules.specs.Fit.{element, members, isSomething}
-use Rattle.program.specs.Points.{Item, item, orElse, endOr, stop, Point, point, elsePlace, endPlace, cutting, finish, reserve, beyond, enter, beside, reserved, firstOf, othersOf, items, parted}
-use Rattle.program.specs.Length.{instrs, instrsParts, instrsAll, skip, toCome, come-beside, come-reserved, come-parted}
-use Rattle.program.specs.Program.{pointAt, followOf}
+use Rattle.meaning.specs.Points.{Item, item, orElse, endOr, stop, Point, point, elsePlace, endPlace, cutting, finish, reserve, beyond, enter, beside, reserved, firstOf, othersOf, items, parted}
+use Rattle.meaning.specs.Length.{instrs, instrsParts, instrsAll, skip, toCome, come-beside, come-reserved, come-parted}
+use Rattle.meaning.specs.Program.{pointAt, followOf}
 
 -- ---- How many places are to come.
 

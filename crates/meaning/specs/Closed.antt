@@ -11,8 +11,8 @@ use Rattle.rules.specs.Fit.{element, members}
 use Rattle.promises.specs.Readers.{then-ok}
 use Rattle.promises.specs.Written.{variableTags, variableTagsAll}
 use Rattle.promises.specs.Numbering.{none-inside}
-use Rattle.program.specs.Points.{firstOf, othersOf}
-use Rattle.program.specs.Walk.{bindsOf, bindsParts}
+use Rattle.meaning.specs.Points.{firstOf, othersOf}
+use Rattle.meaning.specs.Walk.{bindsOf, bindsParts}
 
 unfoldable mutual
   unfolding variableTags
