@@ -13,14 +13,14 @@ use Rattle.rules.specs.Fit.{fits, fitsValue}
 use Rattle.rules.specs.Causes.{causeOf}
 use Rattle.rules.specs.Services.{test, ruleOf, targetOf, causeIn}
 use Rattle.reading.specs.Tests.{tested}
-use Rattle.reading.specs.Targets.{found}
+use Rattle.targets.specs.Targets.{found}
 use Rattle.numbering.specs.Variables.{counted, varsOf}
 use Rattle.fitting.specs.Fitting.{fitOf}
 use Rattle.unfit.specs.Unfit.{fitFrom}
 use Rattle.reading.specs.declared.Tested.{Tested}
 use Rattle.reading.specs.declared.Tested.the-variants.{Passed, Fault}
-use Rattle.reading.specs.declared.target.Found.{Found}
-use Rattle.reading.specs.declared.target.Found.the-variants as finds
+use Rattle.targets.specs.declared.Found.{Found}
+use Rattle.targets.specs.declared.Found.the-variants as finds
 use Rattle.numbering.specs.declared.Counted.{Counted}
 use Rattle.numbering.specs.declared.Counted.the-variants as counts
 use Rattle.reading.specs.declared.Ended.{Ended}
