@@ -18,7 +18,7 @@ use Rattle.promises.specs.ReadTarget.{target-complete, target-read}
 use Rattle.words.specs.Words.{tagAt}
 use Rattle.reading.specs.Ends.{endOf, onward, within}
 use Rattle.shapes.specs.Shapes.{widthFits}
-use Rattle.reading.specs.Targets.{valueFrom}
+use Rattle.targets.specs.Targets.{valueFrom}
 use Rattle.unfit.specs.Unfit.{opensAt, underTag, membersOf, nextMember, byMembers, inEach, insideFrom, fitFrom}
 use Rattle.reading.specs.declared.Ended.{Ended}
 use Rattle.reading.specs.declared.Ended.the-variants.{End, Bad}

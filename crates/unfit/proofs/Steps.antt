@@ -16,7 +16,7 @@ use Rattle.words.proofs.Signed as signed
 use Rattle.reading.specs.Ends.{onward, within}
 use Rattle.matchers.specs.Places.{matcherEnd}
 use Rattle.shapes.specs.Shapes.{widthFits}
-use Rattle.reading.specs.Targets.{valueFrom}
+use Rattle.targets.specs.Targets.{valueFrom}
 use Rattle.unfit.specs.Unfit.{opensAt, underTag, membersOf, nextMember, byMembers, inEach, insideFrom, fitFrom}
 use Rattle.reading.specs.declared.Ended.{Ended}
 use Rattle.reading.specs.declared.Ended.the-variants.{End, Bad}

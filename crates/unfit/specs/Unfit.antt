@@ -8,7 +8,7 @@ use Rattle.words.specs.Words.{tagAt}
 use Rattle.reading.specs.Ends.{onward, within}
 use Rattle.matchers.specs.Places.{matcherEnd}
 use Rattle.shapes.specs.Shapes.{widthFits}
-use Rattle.reading.specs.Targets.{valueFrom}
+use Rattle.targets.specs.Targets.{valueFrom}
 use Rattle.reading.specs.declared.Ended.{Ended}
 use Rattle.reading.specs.declared.Ended.the-variants.{End, Bad}
 use Rattle.unfit.specs.declared.Members.{Members}

@@ -2,7 +2,7 @@
 use matchers::matcher_end;
 use reading::Ended;
 use reading::between;
-use reading::target::value_end;
+use targets::value_end;
 use shapes::width_fits;
 use words::tag_at;
 ghost use mathlib.Core.Path.{_≡_};

@@ -9,7 +9,7 @@ use Rattle.unfit.proofs.fit_end.Reads as fit-end
 use Rattle.unfit.proofs.fit_end.Kinds as fit-end-kinds
 use Rattle.unfit.proofs.+fit_end.Lts-fit_end as fit-end-lts
 use Rattle.words.proofs.tag_at.Reads as tag-at-reads
-use Rattle.reading.proofs.target.value_end.Reads as value-end-reads
+use Rattle.targets.proofs.value_end.Reads as value-end-reads
 use Rattle.unfit.proofs.opens.Reads as opens-reads
 use Rattle.unfit.proofs.members_of.Reads as members-of-reads
 use Rattle.unfit.proofs.next_member.Reads as next-member-reads
