@@ -2,8 +2,8 @@
 use matchers::matcher_end;
 use reading::Ended;
 use reading::between;
-use targets::value_end;
 use shapes::width_fits;
+use targets::value_end;
 use words::tag_at;
 ghost use mathlib.Core.Path.{_≡_};
 ghost use Prim.Native.Nat.{_+_, _<_, _^_};
