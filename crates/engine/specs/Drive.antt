@@ -12,8 +12,8 @@ use Rattle.rules.specs.Forms.{Matcher}
 use Rattle.rules.specs.Equality.{Bindings}
 use Rattle.rules.specs.Search.{State, row, Run, run}
 use Rattle.engine.specs.Machine.{Machine, passing, writing, filling, stepOn, once, times, answerBy, told, opened, run-steps}
-use Rattle.program.specs.Points.{Instr, strip, keep, other, close, drop, bind, test, split, apart, choice, deny, cutAt, end, Point, resume}
-use Rattle.program.specs.Points.{Follows, strips, drops, binds, tests, splits, aparts, keeps, chooses, denies, cuts, ends}
+use Rattle.meaning.specs.Points.{Instr, strip, keep, other, close, drop, bind, test, split, apart, choice, deny, cutAt, end, Point, resume}
+use Rattle.meaning.specs.Points.{Follows, strips, drops, binds, tests, splits, aparts, keeps, chooses, denies, cuts, ends}
 use Rattle.engine.specs.Held.{Data}
 use Rattle.engine.specs.Engine.{Conf, exec, settle}
 use Rattle.engine.specs.Rep.{Bound, bound-none, bound, At, at, at-cut, done, Rep, over-all, live}

@@ -3,7 +3,7 @@ use Prim.Native.Nat.{ℕ, zero, suc, _+_}
 use mathlib.Core.Bool.{Bool, true, false}
 use mathlib.Core.Option.{Option, none, some}
 use lib.Dec.{eqb}
-use Rattle.program.specs.Points.{Test, asConstant, asValue, asNil, Instr, strip, keep, other, close, drop, bind, test, split, apart, choice, deny, cutAt, end}
+use Rattle.meaning.specs.Points.{Test, asConstant, asValue, asNil, Instr, strip, keep, other, close, drop, bind, test, split, apart, choice, deny, cutAt, end}
 use Rattle.engine.specs.Held.{Picked, Data}
 
 -- A table with the entry i changed.

@@ -9,7 +9,7 @@ use Rattle.rules.specs.Forms.{Matcher, integer, tupleOf, Matchers, noMatchers, 
 use Rattle.rules.specs.Fit.{takes, solid, sameShape}
 use Rattle.rules.specs.Equality.{raised, equalTo, isConstant, isEmpty}
 use Rattle.rules.specs.Search.{Halves}
-use Rattle.program.specs.Points.{Kind, over, firstBy, halves}
+use Rattle.meaning.specs.Points.{Kind, over, firstBy, halves}
 
 -- A choice taken: its two parts, and what is left to choose from, if anything is.
 pub record Picked (Held Rem : Type 0) : Type 0 where

@@ -10,7 +10,7 @@ use lib.Dec.{eqb, T, eqb→eq, eqb-refl}
 use Rattle.rules.specs.Forms.{Matcher, Pattern, Value}
 use Rattle.rules.specs.Equality.{Bindings}
 use Rattle.rules.specs.Search.{Halves, Atom, atom, cut, State, state}
-use Rattle.program.specs.Points.{Kind, over, firstBy, branch, Instr, split, choice, deny, Item, item, orElse, endOr, stop, Point, point, cutting, finish, enter, from, known, within, inside}
+use Rattle.meaning.specs.Points.{Kind, over, firstBy, branch, Instr, split, choice, deny, Item, item, orElse, endOr, stop, Point, point, cutting, finish, enter, from, known, within, inside}
 use Rattle.engine.specs.Held.{Data}
 use Rattle.engine.specs.Engine.{put, Slot, Conf}
 

@@ -14,9 +14,9 @@ use Rattle.rules.specs.Fit.{members, isSomething}
 use Rattle.rules.specs.Reading.{entry}
 use Rattle.rules.specs.Equality.{Bindings, raised, equalTo, isValue}
 use Rattle.rules.specs.Search.{Halves, Atom, State, state, dropIf, atoms, apart as takeApart, after, cutBack}
-use Rattle.program.specs.Points.{Kind, over, firstBy, halves, branch, after-whole, Test, asConstant, asValue, asNil, testBy, passes, Sound, after-test}
-use Rattle.program.specs.Points.{Instr, split, apart, Item, item, orElse, endOr, stop, Point, point, cutting, finish, enter, from, known, within, inside, firstOf, othersOf, items}
-use Rattle.program.specs.Points.{resume, Follows, after-loose, strips, drops, binds, tests, splits, aparts, keeps, chooses, denies, cuts, ends}
+use Rattle.meaning.specs.Points.{Kind, over, firstBy, halves, branch, after-whole, Test, asConstant, asValue, asNil, testBy, passes, Sound, after-test}
+use Rattle.meaning.specs.Points.{Instr, split, apart, Item, item, orElse, endOr, stop, Point, point, cutting, finish, enter, from, known, within, inside, firstOf, othersOf, items}
+use Rattle.meaning.specs.Points.{resume, Follows, after-loose, strips, drops, binds, tests, splits, aparts, keeps, chooses, denies, cuts, ends}
 use Rattle.engine.specs.Held.{Data, Opened, Parts}
 use Rattle.engine.specs.Engine.{put, Slot, Conf, Turn, on, back, check, next, pushed, opening, kept, keptHere, framed, framedHere, without, keeping, parting, exec, slotAfter, topAfter, chosen, resumed, choose, nextChoice, settle}
 use Rattle.engine.specs.Rep.{Waits, waits-none, waits, waits-else, waits-end, waits-cut, Bound, bound-none, bound, At, at, at-cut, done, Chain, shut, open-at, choice-at, deny-at, Rep, over-all, live, put-same, put-below, waits-agree, bound-agree, chain-agree}

@@ -15,17 +15,17 @@ use Rattle.rules.specs.Reading.{ok}
 use Rattle.rules.specs.Fit.{fits}
 use Rattle.rules.specs.Search.{State, run, start}
 use Rattle.promises.specs.Written.{Widthsᵖ}
-use Rattle.program.specs.Closed.{Closed}
+use Rattle.meaning.specs.Closed.{Closed}
 use Rattle.engine.specs.Machine.{opened}
-use Rattle.program.specs.Points.{Instr, Point, known, within, inside}
+use Rattle.meaning.specs.Points.{Instr, Point, known, within, inside}
 use Rattle.engine.specs.Held.{Data}
 use Rattle.engine.specs.Engine.{Slot, Conf, put}
 use Rattle.engine.specs.Rep.{waits-none, bound-none, At, at, at-cut, done, shut, Rep, live}
 use Rattle.engine.specs.Drive.{Engine, advance, turn, turns, reports, Same, running, engine-runs}
-use Rattle.program.specs.Length.{instrs, instrsAll, toCome, all-some}
-use Rattle.program.specs.Program.{program, pointAt}
-use Rattle.program.specs.Walk.{in-range}
-use Rattle.program.specs.Fitted.{program-follows}
+use Rattle.meaning.specs.Length.{instrs, instrsAll, toCome, all-some}
+use Rattle.meaning.specs.Program.{program, pointAt}
+use Rattle.meaning.specs.Walk.{in-range}
+use Rattle.meaning.specs.Fitted.{program-follows}
 
 -- The engine before the first step. The slots and the entries for bindings may hold anything.
 unfoldable pub fresh : (D : Data) → D .Held → (ℕ → Slot D) → (ℕ → D .Held) → ℕ → Engine D

@@ -1,2 +1,5 @@
--- What the proofs of several functions use.
-pub mod Standing
+-- What the proofs of test 4 use.
+pub mod Stack
+pub mod Tags
+pub mod Steps
+pub mod Walked

@@ -10,14 +10,14 @@ use Rattle.rules.specs.Numbers.{same}
 use Rattle.rules.specs.Reading.{entry}
 use Rattle.words.specs.Words.{tagZ, tagAt}
 use Rattle.matchers.specs.Places.{matcherEnd}
-use Rattle.fitting.specs.Shapes.{widthFits, shapes}
+use Rattle.shapes.specs.Shapes.{widthFits, shapes}
 use Rattle.reading.specs.Table.{rowOf}
 use Rattle.reading.specs.declared.table.Row.{Row}
 use Rattle.reading.specs.declared.table.Row.the-variants as row
 use Rattle.reading.specs.declared.Tested.{Tested}
 use Rattle.reading.specs.declared.Tested.the-variants.{Passed, Fault}
-use Rattle.fitting.specs.declared.fit.Here.{Here}
-use Rattle.fitting.specs.declared.fit.Here.the-variants.{Misfit, Leaf, Bind, One, Parts, Wide}
+use Rattle.fitting.specs.declared.Here.{Here}
+use Rattle.fitting.specs.declared.Here.the-variants.{Misfit, Leaf, Bind, One, Parts, Wide}
 
 -- n matchers, one after the other, the first at the index i of a matcher's words.
 unfoldable pub membersAt : List ℤ → (n i : ℕ) → List ℕ

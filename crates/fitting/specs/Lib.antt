@@ -1,5 +1,2 @@
--- The machine's view of the tests 3, 4 and 6.
-pub mod Variables
-pub mod Shapes
+-- The machine's view of test 4.
 pub mod Fitting
-pub mod Unfit

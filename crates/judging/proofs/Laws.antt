@@ -13,25 +13,25 @@ use Rattle.rules.specs.Fit.{fits, fitsValue}
 use Rattle.rules.specs.Causes.{causeOf}
 use Rattle.rules.specs.Services.{test, ruleOf, targetOf, causeIn}
 use Rattle.reading.specs.Tests.{tested}
-use Rattle.reading.specs.Targets.{found}
-use Rattle.fitting.specs.Variables.{counted, varsOf}
+use Rattle.targets.specs.Targets.{found}
+use Rattle.numbering.specs.Variables.{counted, varsOf}
 use Rattle.fitting.specs.Fitting.{fitOf}
-use Rattle.fitting.specs.Unfit.{fitFrom}
+use Rattle.unfit.specs.Unfit.{fitFrom}
 use Rattle.reading.specs.declared.Tested.{Tested}
 use Rattle.reading.specs.declared.Tested.the-variants.{Passed, Fault}
-use Rattle.reading.specs.declared.target.Found.{Found}
-use Rattle.reading.specs.declared.target.Found.the-variants as finds
-use Rattle.fitting.specs.declared.variables.Counted.{Counted}
-use Rattle.fitting.specs.declared.variables.Counted.the-variants as counts
+use Rattle.targets.specs.declared.Found.{Found}
+use Rattle.targets.specs.declared.Found.the-variants as finds
+use Rattle.numbering.specs.declared.Counted.{Counted}
+use Rattle.numbering.specs.declared.Counted.the-variants as counts
 use Rattle.reading.specs.declared.Ended.{Ended}
 use Rattle.reading.specs.declared.Ended.the-variants.{End, Bad}
 use Rattle.judging.specs.Judgements.{judgement, targetJudgement, targetUnder}
 use Rattle.judging.specs.declared.Judgement.the-variants.{Accepted, Refused}
 use Rattle.judging.specs.declared.TargetJudgement.the-variants as targets
 use Rattle.reading.proofs.After.{after}
-use Rattle.fitting.proofs.variables.Walked as walked
-use Rattle.fitting.proofs.fit.Walked as fitted
-use Rattle.fitting.proofs.unfit.Fitted as unfit
+use Rattle.numbering.proofs.Walked as walked
+use Rattle.fitting.proofs.Walked as fitted
+use Rattle.unfit.proofs.Fitted as unfit
 
 -- ---- A verdict from what the code found.
 

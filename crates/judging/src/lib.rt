@@ -1,14 +1,12 @@
 // The tests in document 01's order: 1 to 4 over matcher and pattern, 5 and 6 over a target.
-use fitting::fit;
-use fitting::unfit::fit_end;
-use fitting::variables;
-use fitting::variables::Counted;
+use numbering::Counted;
 use reading::Ended;
 use reading::Tested;
 use reading::matcher::test_matcher;
 use reading::pattern::test_pattern;
-use reading::target::Found;
-use reading::target::test_target;
+use targets::Found;
+use targets::test_target;
+use unfit::fit_end;
 ghost use mathlib.Core.Path.{_≡_};
 ghost use Rattle.rules.specs.Services.{ruleOf};
 ghost use Rattle.judging.specs.Judgements.{judgement, targetJudgement, targetUnder};
@@ -49,11 +47,11 @@ pub fn rule_refused(m: &[i32], p: &[i32]) -> Judgement
     if let Tested::Fault(i) = b {
         return Judgement::Refused(PATTERN, i);
     }
-    let c = variables::walk(p);
+    let c = numbering::walk(p);
     if let Counted::Fault(i) = c {
         return Judgement::Refused(VARIABLE, i);
     }
-    let d = fit::walk(m, p);
+    let d = fitting::walk(m, p);
     if let Tested::Fault(i) = d {
         return Judgement::Refused(MISFIT, i);
     }

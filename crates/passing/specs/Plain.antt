@@ -16,16 +16,16 @@ use Rattle.rules.specs.Always.{tags, tagsAll, noneFails, alwaysTrue}
 use Rattle.rules.specs.Services.{accepted, Rule, ruleOf}
 use Rattle.promises.specs.Faults.{WellFormed, rule-accepted}
 use Rattle.words.specs.Words.{entries}
-use Rattle.program.specs.Points.{Test, asConstant, asValue, asNil, tested, testBy, Kind, listCons, multisetCons, joins, whole, over, firstBy, loose-wildcard, loose-variable}
-use Rattle.program.specs.Points.{Instr, strip, keep, other, close, drop, bind, test, split, apart, choice, deny, cutAt, end, Item, item, orElse, endOr, stop}
-use Rattle.program.specs.Points.{Point, point, elsePlace, endPlace, cutting, finish, reserve, beyond, beside, reserved, firstOf, othersOf, items, parted}
-use Rattle.program.specs.Points.{Follows, strips, drops, binds, tests, splits, aparts, keeps, chooses, denies, cuts, elses, closes, reserves, ends, after-end}
-use Rattle.program.specs.Length.{instrs}
-use Rattle.program.specs.Program.{followOf, pointAt, program}
+use Rattle.meaning.specs.Points.{Test, asConstant, asValue, asNil, tested, testBy, Kind, listCons, multisetCons, joins, whole, over, firstBy, loose-wildcard, loose-variable}
+use Rattle.meaning.specs.Points.{Instr, strip, keep, other, close, drop, bind, test, split, apart, choice, deny, cutAt, end, Item, item, orElse, endOr, stop}
+use Rattle.meaning.specs.Points.{Point, point, elsePlace, endPlace, cutting, finish, reserve, beyond, beside, reserved, firstOf, othersOf, items, parted}
+use Rattle.meaning.specs.Points.{Follows, strips, drops, binds, tests, splits, aparts, keeps, chooses, denies, cuts, elses, closes, reserves, ends, after-end}
+use Rattle.meaning.specs.Length.{instrs}
+use Rattle.meaning.specs.Program.{followOf, pointAt, program}
 use Rattle.program.specs.Lines.{Line, endLine, Columns}
-use Rattle.program.specs.Meaning.{Means, means-end, means-strip, means-drop, means-bind, means-constant, means-integer, means-value, means-nil, means-list, means-multiset, means-join, means-tuple, means-keep, means-choice, means-deny, means-cut, means-other, means-close}
-use Rattle.program.specs.Accepted.{follows, last-beyond}
-use Rattle.program.specs.Columns.{lineIn, Holds}
+use Rattle.meaning.specs.Meaning.{Means, means-end, means-strip, means-drop, means-bind, means-constant, means-integer, means-value, means-nil, means-list, means-multiset, means-join, means-tuple, means-keep, means-choice, means-deny, means-cut, means-other, means-close}
+use Rattle.meaning.specs.Accepted.{follows, last-beyond}
+use Rattle.meaning.specs.Columns.{lineIn, Holds}
 use Rattle.passing.specs.Scan.{lineFails, noneFrom}
 
 -- ---- What a line tells of its instruction.

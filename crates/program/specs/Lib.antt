@@ -1,21 +1,8 @@
--- The program of a rule, to be read in this order.
-pub mod Points
-pub mod Length
-pub mod Program
-pub mod Walk
-pub mod Closed
-pub mod Fitted
+-- The lines of a rule's program, to be read in this order.
 pub mod Lines
 pub mod Link
 pub mod Stack
 pub mod Pile
 pub mod Worked
-pub mod Meaning
-pub mod Numbered
-pub mod Compiled
-pub mod Accepted
-pub mod Linked
 pub mod Made
 pub mod Bounds
-pub mod Places
-pub mod Columns

@@ -5,7 +5,7 @@ use mathlib.Core.Bool.{true, false, cond}
 use mathlib.Core.List.{List, [], _∷_, _++_}
 use native.Mathlib.Omega.{arith}
 use borrow.Author.Tests.{ne-eqb}
-use lib.ListN.{length, getD, set}
+use lib.ListN.{length, getD, set, replicate}
 use lib.Dec.{eqb, ltb}
 use lib.IntN.{ℤ, pos}
 use Rattle.words.specs.Words.{tagZ, tagAt}
@@ -214,6 +214,12 @@ unfoldable pub laid : ℕ → List Line → Columns → Columns
 unfolding written
 laid pc [] t = t
 laid pc (l ∷ ls) t = laid (suc pc) ls (written pc l t)
+
+-- An array of one value has it at every index, and beyond its end.
+pub getD-same : {A : Type 0} (n i : ℕ) (a : A) → getD (replicate n a) i a ≡ a
+getD-same zero i a = refl
+getD-same (suc n) zero a = refl
+getD-same (suc n) (suc i) a = getD-same n i a
 
 -- ---- The lines by the tag of the first word, as the code takes it.
 

@@ -4,12 +4,13 @@ use mathlib.Core.Bool.{Bool, true, false, cond}
 use mathlib.Core.List.{List}
 use Prim.Native.Nat.{ℕ, zero, suc, _+_, _-_, _^_, _<_, _≤_}
 use native.Mathlib.Omega.{arith}
-use borrow.Author.Tests.{leb-true, ltb-false}
+use borrow.Author.Tests.{leb-true, ltb-false, le-leb, le-ltb}
 use mir.Syntax.{w64}
 use mir.Val.{Fits}
 use lib.Dec.{ltb, leb}
 use lib.ListN.{length}
 use lib.IntN.{ℤ}
+use Rattle.promises.specs.Written.{IsWidth}
 use Rattle.words.specs.Words.{tagAt}
 use Rattle.words.proofs.Signed as signed
 use Rattle.reading.specs.Ends.{onward, inRow, within}
@@ -51,6 +52,10 @@ width-most n = go (ltb n 2) refl
     go : (b : Bool) → ltb n 2 ≡ b → cond b false (leb n 4) ≡ true → (2 ≤ n) × (n ≤ 4)
     go true e h = let z : _≡_ {A = ℕ} 0 1 = cc in absurd (omega arith)
     go false e h = (ltb-false n 2 e, leb-true n 4 h)
+
+pub is-width : (k : ℕ) → IsWidth k → within 2 k 4 ≡ true
+unfolding IsWidth within
+is-width k h = rw (le-ltb k 2 (h .0), le-leb k 4 (h .1))
 
 pub width-low : (n : ℕ) → within 2 n 4 ≡ true → n < 2147483648
 width-low n h = let x = width-most n h .1 in omega arith

@@ -1,8 +1,7 @@
-// The tests 1, 2 and 5 of document 01 on slices of words, one module a test, and section 2's tag table: the words are one whole form.
+// The tests 1 and 2 of document 01 on slices of words, one module a test, and section 2's tag table: the words are one whole form.
 pub mod matcher;
 pub mod pattern;
 pub mod table;
-pub mod target;
 
 ghost use mathlib.Core.Path.{_≡_};
 ghost use Rattle.reading.specs.Ends.{wholeAt, within};

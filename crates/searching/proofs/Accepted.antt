@@ -13,10 +13,10 @@ use Rattle.rules.specs.Services.{Rule, Matched, match}
 use Rattle.promises.specs.ReadPattern.{pattern-read}
 use Rattle.promises.specs.Faults.{Sane, match-ran}
 use Rattle.words.specs.Words.{entries}
-use Rattle.program.specs.Closed.{closed-is}
-use Rattle.program.specs.Length.{instrs}
+use Rattle.meaning.specs.Closed.{closed-is}
+use Rattle.meaning.specs.Length.{instrs}
 use Rattle.program.specs.Lines.{Line, columns}
-use Rattle.program.specs.Columns.{lineIn, Holds}
+use Rattle.meaning.specs.Columns.{lineIn, Holds}
 use Rattle.holding.specs.Places.{Target}
 use Rattle.holding.proofs.Accepted.{read-target, read-tag}
 use Rattle.searching.specs.Run.{env}

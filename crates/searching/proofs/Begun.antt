@@ -9,7 +9,7 @@ use lib.IntN.{ℤ}
 use Rattle.rules.specs.Fit.{fits}
 use Rattle.words.specs.Words.{entries}
 use Rattle.program.specs.Lines.{Line}
-use Rattle.program.specs.Columns.{lineIn}
+use Rattle.meaning.specs.Columns.{lineIn}
 use Rattle.holding.specs.Places.{Target, Tag, marksAt}
 use Rattle.holding.specs.Held.{Held, wholeAt}
 use Rattle.rows.specs.Row.{nothing}

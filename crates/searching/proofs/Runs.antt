@@ -14,8 +14,8 @@ use lib.IntN.{ℤ}
 use borrow.Author.Tests.{eqb-true, eqb-false, ltb-true, ltb-false, le-leb, lt-leb}
 use Rattle.rules.specs.Forms.{words}
 use Rattle.rules.specs.Search.{row}
-use Rattle.program.specs.Points.{Instr, bind, end}
-use Rattle.program.specs.Meaning.{Means, means-end, means-strip, means-drop, means-bind, means-constant, means-integer, means-value, means-nil, means-list, means-multiset, means-join, means-tuple, means-keep, means-choice, means-deny, means-cut, means-other, means-close}
+use Rattle.meaning.specs.Points.{Instr, bind, end}
+use Rattle.meaning.specs.Meaning.{Means, means-end, means-strip, means-drop, means-bind, means-constant, means-integer, means-value, means-nil, means-list, means-multiset, means-join, means-tuple, means-keep, means-choice, means-deny, means-cut, means-other, means-close}
 use Rattle.program.specs.Lines.{Line}
 use Rattle.engine.specs.Held.{Data}
 use Rattle.engine.specs.Engine.{Conf, back, exec, settle}

@@ -16,10 +16,10 @@ use Rattle.rules.specs.Fit.{isInteger}
 use Rattle.rules.specs.Numbers.{same}
 use Rattle.rules.specs.Equality.{equal}
 use Rattle.words.specs.Words.{entries}
-use Rattle.program.specs.Points.{asValue, Instr, bind, strip, test, apart}
+use Rattle.meaning.specs.Points.{asValue, Instr, bind, strip, test, apart}
 use Rattle.matchers.specs.Places.{matcherAt}
 use Rattle.matchers.proofs.Matchers.{matcher-at}
-use Rattle.program.specs.Meaning.{Means, means-end, means-strip, means-drop, means-bind, means-constant, means-integer, means-value, means-nil, means-list, means-multiset, means-join, means-tuple, means-keep, means-choice, means-deny, means-cut, means-other, means-close}
+use Rattle.meaning.specs.Meaning.{Means, means-end, means-strip, means-drop, means-bind, means-constant, means-integer, means-value, means-nil, means-list, means-multiset, means-join, means-tuple, means-keep, means-choice, means-deny, means-cut, means-other, means-close}
 use Rattle.engine.specs.Engine.{put, Slot, Conf, Turn, on, back, check, next, pushed, opening, keptHere, framedHere, without, parting, exec, slotAfter, topAfter, chosen, resumed, choose, nextChoice}
 use Rattle.engine.specs.Whole.{table-set}
 use Rattle.marks.specs.Marks.{clear}

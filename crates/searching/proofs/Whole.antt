@@ -19,12 +19,12 @@ use Rattle.rules.specs.Search as search
 use Rattle.rules.specs.Search.{start}
 use Rattle.rules.specs.Services.{carriedOut}
 use Rattle.promises.specs.Written.{Widthsᵖ}
-use Rattle.program.specs.Points.{Instr}
-use Rattle.program.specs.Program.{program, pointAt}
-use Rattle.program.specs.Fitted.{program-follows}
-use Rattle.program.specs.Closed.{Closed}
-use Rattle.program.specs.Length.{instrs}
-use Rattle.program.specs.Meaning.{Means}
+use Rattle.meaning.specs.Points.{Instr}
+use Rattle.meaning.specs.Program.{program, pointAt}
+use Rattle.meaning.specs.Fitted.{program-follows}
+use Rattle.meaning.specs.Closed.{Closed}
+use Rattle.meaning.specs.Length.{instrs}
+use Rattle.meaning.specs.Meaning.{Means}
 use Rattle.engine.specs.Held.{Data}
 use Rattle.engine.specs.Machine.{Machine, once, opened}
 use Rattle.engine.specs.Drive as drive

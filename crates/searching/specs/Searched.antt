@@ -12,9 +12,9 @@ use Rattle.rules.specs.Search.{start}
 use Rattle.rules.specs.Services.{Rule, Matched, carriedOut}
 use Rattle.promises.specs.Written.{Widthsᵖ}
 use Rattle.words.specs.Words.{entries}
-use Rattle.program.specs.Closed.{Closed}
+use Rattle.meaning.specs.Closed.{Closed}
 use Rattle.program.specs.Lines.{columns}
-use Rattle.program.specs.Columns.{Holds}
+use Rattle.meaning.specs.Columns.{Holds}
 use Rattle.holding.specs.Held.{wholeAt}
 use Rattle.rows.specs.Row.{nothing}
 use Rattle.rows.specs.declared.Binding.{Binding}

@@ -11,10 +11,10 @@ use Rattle.rules.specs.Services.{Judged, accepted, refused, test, Rule, ruleOf,
 use Rattle.rules.specs.Services as paper
 use Rattle.promises.specs.Faults.{rule-accepted, Sane, sane-exactly}
 use Rattle.words.specs.Words.{entries}
-use Rattle.program.specs.Accepted.{matcher-short, pattern-short}
+use Rattle.meaning.specs.Accepted.{matcher-short, pattern-short}
 use Rattle.program.specs.Lines.{columns, linesOf, laid}
 use Rattle.program.specs.Link.{opsIn, bindingsIn, tosBy, placed}
-use Rattle.program.specs.Columns.{Holds, compiled-zeros}
+use Rattle.meaning.specs.Columns.{Holds, compiled-zeros}
 use Rattle.holding.specs.Places.{Target}
 use Rattle.searching.specs.Run.{env}
 use Rattle.searching.specs.Valid.{Fine}

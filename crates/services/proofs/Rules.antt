@@ -17,10 +17,10 @@ use Rattle.rules.specs.Services as paper
 use Rattle.promises.specs.Tests.{leb-true, leb-false}
 use Rattle.words.specs.Words.{tagZ}
 use Rattle.words.specs.Words.{entries}
-use Rattle.program.specs.Accepted.{matcher-short, pattern-short}
+use Rattle.meaning.specs.Accepted.{matcher-short, pattern-short}
 use Rattle.program.specs.Lines.{columns, linesOf, laid}
 use Rattle.program.specs.Link.{tosBy, opsIn, bindingsIn, placed}
-use Rattle.program.specs.Columns.{Holds, compiled-zeros}
+use Rattle.meaning.specs.Columns.{Holds, compiled-zeros}
 use Rattle.passing.specs.Scan.{noneFrom}
 use Rattle.passing.specs.Plain.{plain-is}
 use Rattle.judging.specs.Judgements.{judgement}

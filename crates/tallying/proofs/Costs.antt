@@ -14,11 +14,11 @@ use Rattle.rules.specs.Forms.{Matcher, Pattern, Matchers, noMatchers, _▸ᵐ_,
 use Rattle.rules.specs.Forms.{list, multiset, tuple}
 use Rattle.rules.specs.Fit.{element, members, isSomething, isInteger}
 use Rattle.rules.specs.Review.{leafSteps, consFactor, factor, factorAll, summed, summedAll}
-use Rattle.program.specs.Points.{listCons, multisetCons, joins, Test, asConstant, asValue, asNil, tested, testBy, over, firstBy, whole}
-use Rattle.program.specs.Points.{loose-wildcard, loose-variable, Instr, strip, keep, other, close, drop, bind, test, split, apart, choice, deny, cutAt, end}
-use Rattle.program.specs.Points.{Item, item, orElse, endOr, stop, Point, point, elsePlace, endPlace, cutting, finish, reserve, beyond, beside, reserved, firstOf, othersOf, items, parted}
-use Rattle.program.specs.Points.{Follows, strips, drops, binds, tests, splits, aparts, keeps, chooses, denies, cuts, elses, closes, reserves, ends, after-end}
-use Rattle.program.specs.Program.{followOf}
+use Rattle.meaning.specs.Points.{listCons, multisetCons, joins, Test, asConstant, asValue, asNil, tested, testBy, over, firstBy, whole}
+use Rattle.meaning.specs.Points.{loose-wildcard, loose-variable, Instr, strip, keep, other, close, drop, bind, test, split, apart, choice, deny, cutAt, end}
+use Rattle.meaning.specs.Points.{Item, item, orElse, endOr, stop, Point, point, elsePlace, endPlace, cutting, finish, reserve, beyond, beside, reserved, firstOf, othersOf, items, parted}
+use Rattle.meaning.specs.Points.{Follows, strips, drops, binds, tests, splits, aparts, keeps, chooses, denies, cuts, elses, closes, reserves, ends, after-end}
+use Rattle.meaning.specs.Program.{followOf}
 use Rattle.tallying.specs.Tally.{stepOf, factorOf, nextOf, reservedAfter, topOf, restOf, keptOf, sumFrom}
 
 -- The count of what is still to do after the product e, the end included; ss are the products that are kept.

@@ -10,16 +10,16 @@ use Rattle.rules.specs.Fit.{isInteger}
 use Rattle.rules.specs.Review.{factor, summed, formula}
 use Rattle.rules.specs.Services.{accepted, Rule, ruleOf}
 use Rattle.promises.specs.Faults.{rule-accepted}
-use Rattle.program.specs.Points.{Instr, Point}
-use Rattle.program.specs.Program.{instrOf, pointAt, program}
-use Rattle.program.specs.Length.{instrs, toCome}
-use Rattle.program.specs.Walk.{in-range}
+use Rattle.meaning.specs.Points.{Instr, Point}
+use Rattle.meaning.specs.Program.{instrOf, pointAt, program}
+use Rattle.meaning.specs.Length.{instrs, toCome}
+use Rattle.meaning.specs.Walk.{in-range}
 use Rattle.program.specs.Lines.{Line, Columns}
-use Rattle.program.specs.Meaning.{Means, means-end, means-strip, means-drop, means-bind, means-constant, means-integer, means-value, means-nil, means-list, means-multiset, means-join, means-tuple}
-use Rattle.program.specs.Meaning.{means-keep, means-choice, means-deny, means-cut, means-other, means-close}
-use Rattle.program.specs.Numbered.{Numbered, numbered-at}
-use Rattle.program.specs.Accepted.{one-finish, follows}
-use Rattle.program.specs.Columns.{lineIn, Holds}
+use Rattle.meaning.specs.Meaning.{Means, means-end, means-strip, means-drop, means-bind, means-constant, means-integer, means-value, means-nil, means-list, means-multiset, means-join, means-tuple}
+use Rattle.meaning.specs.Meaning.{means-keep, means-choice, means-deny, means-cut, means-other, means-close}
+use Rattle.meaning.specs.Numbered.{Numbered, numbered-at}
+use Rattle.meaning.specs.Accepted.{one-finish, follows}
+use Rattle.meaning.specs.Columns.{lineIn, Holds}
 use Rattle.tallying.specs.Tally.{sumFrom}
 use Rattle.words.specs.Words.{entries}
 use Rattle.tallying.proofs.Costs.{numberBy, countAt, countLater, none-point, sum-is}

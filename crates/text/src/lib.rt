@@ -1,8 +1,8 @@
 // The trial program's text: from its input to what it prints.
 use asking::question::Asked;
 use asking::question::read_input;
-use fitting::variables::Counted;
-use fitting::variables::count_variables;
+use numbering::Counted;
+use numbering::count_variables;
 use printing::report::put_report;
 use printing::report::put_unreadable;
 use printing::rows::Rest;

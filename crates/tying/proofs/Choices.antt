@@ -23,7 +23,7 @@ use Rattle.holding.specs.Held.{Held, heldAt, left}
 use Rattle.rows.specs.Row.{holds}
 use Rattle.rows.specs.declared.Binding.{Binding}
 use Rattle.holding.proofs.Held.{held-collection, marks-all, held-64, held-less, held-clear, held-some, whole-held, whole-value, next-in, next-64, next-tag, next-value}
-use Rattle.program.specs.Points.{Kind, listCons, multisetCons, joins, over, firstBy, halves}
+use Rattle.meaning.specs.Points.{Kind, listCons, multisetCons, joins, over, firstBy, halves}
 use Rattle.engine.specs.Held.{Picked, Opened}
 use Rattle.stepping.specs.Steps.{when, opensOf, noneOf, longerOf}
 use Rattle.tying.specs.Fitting.{Fine}

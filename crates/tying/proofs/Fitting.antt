@@ -13,7 +13,7 @@ use Rattle.rules.specs.Fit.{fitsAll, fitsValue, fitsEach}
 use Rattle.rules.specs.Equality.{Pick, picks, behind}
 use Rattle.rules.specs.Search.{consHalves, joinHalves, Cut, cuts, longer}
 use Rattle.promises.specs.Readers.{then-ok}
-use Rattle.program.specs.Points.{Kind, listCons, multisetCons, joins, over, firstBy, halves}
+use Rattle.meaning.specs.Points.{Kind, listCons, multisetCons, joins, over, firstBy, halves}
 use Rattle.tying.specs.Fitting.{Each, Fitting, FittingEach, Fine}
 
 each-fits : (f : Value → ℕ → Verdict (Unit {0})) (P : Value → Type 0) → ((v : Value) (at : ℕ) → f v at ≡ ok tt → P v) → (vs : Values) (at : ℕ) → fitsAll f vs at ≡ ok tt → Each P vs

@@ -2,7 +2,7 @@
 use mathlib.Core.List.{List, [], _∷_}
 use Rattle.rules.specs.Forms.{Matcher, something, integer, list, multiset, tupleOf, Matchers, noMatchers, _▸ᵐ_, Value, int, collection, tupled, Values, empty, _▸_}
 use Rattle.rules.specs.Search.{Halves}
-use Rattle.program.specs.Points.{Kind, over, firstBy}
+use Rattle.meaning.specs.Points.{Kind, over, firstBy}
 
 -- Every element.
 unfoldable pub Each : (Value → Type 0) → Values → Type 0

@@ -20,7 +20,7 @@ use Rattle.holding.specs.Held.{Held, wholeAt}
 use Rattle.rows.specs.Row.{holds}
 use Rattle.equality.specs.Equality.{isSum}
 use Rattle.rows.specs.declared.Binding.{Binding}
-use Rattle.program.specs.Points.{Kind, listCons, multisetCons, joins}
+use Rattle.meaning.specs.Points.{Kind, listCons, multisetCons, joins}
 use Rattle.engine.specs.Held.{Picked}
 use Rattle.stepping.specs.Steps.{when, opensOf, noneOf, longerOf}
 use Rattle.tying.specs.Fitting.{Fitting, Fine}

@@ -1,3 +1,0 @@
--- What the proofs on shapes use.
-pub mod Steps
-pub mod Shaped

@@ -1,7 +1,0 @@
--- `fitting::shape::width_fits` meets its contract. Assumes nothing.
-use Rattle.fitting.proofs.shape.Steps.{word-rules}
-use Rattle.fitting.proofs.shape.width_fits.Statement.{statement}
-use Rattle.fitting.proofs.shape.width_fits.Tie as tie
-
-pub width-fits-spec : {M : Type 1} → statement M
-width-fits-spec = tie.close (tie.spec (λ c κs. search word-rules) (λ c. search word-rules) (λ c. search word-rules))

@@ -1,0 +1,13 @@
+-- `fitting::tuple_at` meets its contract. Assumes nothing.
+use Rattle.fitting.proofs.Tags.{tuple-rules}
+use Rattle.fitting.proofs.tuple_at.Statement.{statement}
+use Rattle.fitting.proofs.tuple_at.Tie as tie
+
+pub tuple-at-spec : {M : Type 1} → statement M
+tuple-at-spec = tie.close (tie.spec
+    (λ c. search tuple-rules)
+    (λ c κs. search tuple-rules)
+    (λ c κs. search tuple-rules)
+    (λ c. search tuple-rules)
+    (λ c. search tuple-rules)
+    (λ c. search tuple-rules))

@@ -1,0 +1,2 @@
+-- The machine's view of test 3.
+pub mod Variables

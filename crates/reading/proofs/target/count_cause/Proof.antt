@@ -1,7 +1,0 @@
--- `reading::target::count_cause` meets its contract. Assumes nothing.
-use Rattle.reading.proofs.target.Steps.{cause-rules}
-use Rattle.reading.proofs.target.count_cause.Statement.{statement}
-use Rattle.reading.proofs.target.count_cause.Tie as tie
-
-pub count-cause-spec : {M : Type 1} → statement M
-count-cause-spec = tie.close (tie.spec (λ c. search cause-rules) (λ c. search cause-rules))

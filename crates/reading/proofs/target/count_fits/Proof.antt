@@ -1,7 +1,0 @@
--- `reading::target::count_fits` meets its contract. Assumes nothing.
-use Rattle.reading.proofs.target.Steps.{count-rules}
-use Rattle.reading.proofs.target.count_fits.Statement.{statement}
-use Rattle.reading.proofs.target.count_fits.Tie as tie
-
-pub count-fits-spec : {M : Type 1} → statement M
-count-fits-spec = tie.close (tie.spec (λ c κs. search count-rules) (λ c. search count-rules) (λ c. search count-rules))

@@ -1,0 +1,2 @@
+-- The machine's view of shapes.
+pub mod Shapes

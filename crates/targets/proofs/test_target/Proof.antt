@@ -1,0 +1,11 @@
+-- `targets::test_target` meets its contract. Assumes nothing.
+use Rattle.targets.proofs.Steps.{whole-rules}
+use Rattle.targets.proofs.test_target.Statement.{statement}
+use Rattle.targets.proofs.test_target.Tie as tie
+
+pub test-target-spec : {M : Type 1} → statement M
+test-target-spec = tie.close (tie.spec
+    (λ c. search whole-rules)
+    (λ c κs. search whole-rules)
+    (λ c κs. search whole-rules)
+    (λ c. search whole-rules))

@@ -1,0 +1,2 @@
+-- The machine's view of test 6.
+pub mod Unfit
