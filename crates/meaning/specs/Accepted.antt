@@ -21,7 +21,7 @@ use Rattle.meaning.specs.Program.{pointAt, followOf, program}
 use Rattle.meaning.specs.Walk.{in-range}
 use Rattle.meaning.specs.Closed.{Closed, closed-is}
 use Rattle.meaning.specs.Fitted.{program-follows}
-use Rattle.program.specs.Lines.{Line, endLine, linesFrom, linesOf, variablesIn}
+use Rattle.lines.specs.Lines.{Line, endLine, linesFrom, linesOf, variablesIn}
 use Rattle.meaning.specs.Meaning.{MatcherAt, whole-matcher, Means, Leads}
 use Rattle.meaning.specs.Numbered.{Numbered, numbered-end, numbered-reserve, numbered-at}
 use Rattle.meaning.specs.Compiled.{itemWords, parts-none, Stands, at-tag, at-wildcard, at-variable, at-else, at-close, at-cut, at-reserve, at-end, at-beyond, Goes, goes}

@@ -14,13 +14,13 @@ use Rattle.words.specs.Words.{entries}
 use Rattle.promises.specs.Faults.{rule-accepted}
 use Rattle.meaning.specs.Program.{program}
 use Rattle.meaning.specs.Length.{instrs}
-use Rattle.program.specs.Lines.{Line, line, endLine, linesOf, variablesIn, Columns, columns, written, laid, getD-same}
+use Rattle.lines.specs.Lines.{Line, line, endLine, linesOf, variablesIn, Columns, columns, written, laid, getD-same}
 use Rattle.meaning.specs.Meaning.{Means}
-use Rattle.program.specs.Link.{opsOf, tosOf, tosBy, opsIn, bindingsIn, placed}
+use Rattle.lines.specs.Link.{opsOf, tosOf, tosBy, opsIn, bindingsIn, placed}
 use Rattle.meaning.specs.Linked.{link-leads}
 use Rattle.meaning.specs.Places.{tos-length, tos-low, placed-zeros}
 use Rattle.meaning.specs.Accepted.{lines-length, line-means, few-variables, program-fits}
-use Rattle.program.specs.Bounds.{Small, line-small, Reserved, line-reserved}
+use Rattle.lines.specs.Bounds.{Small, line-small, Reserved, line-reserved}
 
 -- The line at a place of the arrays.
 unfoldable pub lineIn : Columns → ℕ → Line

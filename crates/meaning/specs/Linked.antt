@@ -19,8 +19,8 @@ use Rattle.meaning.specs.Points.{Item, item, orElse, endOr, stop, Point,
 use Rattle.meaning.specs.Points.{Follows, strips, drops, binds, tests, splits, aparts, keeps, chooses, denies, cuts, elses, closes, reserves, ends, after-end}
 use Rattle.meaning.specs.Length.{instrs, instrsParts, skip}
 use Rattle.meaning.specs.Program.{instrOf, pointAt, followOf, program}
-use Rattle.program.specs.Lines.{Line, endLine, linesOf, variablesIn}
-use Rattle.program.specs.Link.{keeps as keeping, takes, top, under, toBy, landBy, keptBy, Linked, linked, linkedBy, linkFrom, opsOf, tosOf}
+use Rattle.lines.specs.Lines.{Line, endLine, linesOf, variablesIn}
+use Rattle.lines.specs.Link.{keeps as keeping, takes, top, under, toBy, landBy, keptBy, Linked, linked, linkedBy, linkFrom, opsOf, tosOf}
 use Rattle.meaning.specs.Meaning.{Means, means-end, means-strip, means-drop, means-bind, means-constant, means-integer, means-value, means-nil, means-list, means-multiset, means-join, means-tuple, means-keep, means-choice, means-deny, means-cut, means-other, means-close, Leads}
 use Rattle.meaning.specs.Accepted.{follows, lines-length, line-means, last-beyond}
 

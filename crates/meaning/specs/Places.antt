@@ -8,8 +8,8 @@ use borrow.Author.Tests.{ltb-true, ltb-false}
 use lib.Dec.{eqb, ltb}
 use lib.ListN.{length, getD, set, length-set, replicate, length-replicate, List·getD-eq-default}
 use lib.Seq.{getD-set-same, getD-set-other}
-use Rattle.program.specs.Lines.{Line}
-use Rattle.program.specs.Link.{keeps, takes, top, under, toBy, landBy, keptBy, Linked, linkedBy, linkFrom, placed, opsOf, tosOf}
+use Rattle.lines.specs.Lines.{Line}
+use Rattle.lines.specs.Link.{keeps, takes, top, under, toBy, landBy, keptBy, Linked, linkedBy, linkFrom, placed, opsOf, tosOf}
 
 -- ---- As many as lines.
 

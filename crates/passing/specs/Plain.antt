@@ -22,7 +22,7 @@ use Rattle.meaning.specs.Points.{Point, point, elsePlace, endPlace, cutting, fi
 use Rattle.meaning.specs.Points.{Follows, strips, drops, binds, tests, splits, aparts, keeps, chooses, denies, cuts, elses, closes, reserves, ends, after-end}
 use Rattle.meaning.specs.Length.{instrs}
 use Rattle.meaning.specs.Program.{followOf, pointAt, program}
-use Rattle.program.specs.Lines.{Line, endLine, Columns}
+use Rattle.lines.specs.Lines.{Line, endLine, Columns}
 use Rattle.meaning.specs.Meaning.{Means, means-end, means-strip, means-drop, means-bind, means-constant, means-integer, means-value, means-nil, means-list, means-multiset, means-join, means-tuple, means-keep, means-choice, means-deny, means-cut, means-other, means-close}
 use Rattle.meaning.specs.Accepted.{follows, last-beyond}
 use Rattle.meaning.specs.Columns.{lineIn, Holds}

@@ -1,25 +1,25 @@
 // The first pass: a line for each state that a run can take up there, the places of ors and nots at which none is, and the end.
-use super::ends::close;
-use super::ends::other;
-use super::lines::divide;
-use super::lines::leaf;
-use super::lines::put;
-use super::parts::behind_by;
-use super::parts::first_under;
-use super::parts::from_by;
-use super::parts::pop;
-use super::parts::second_under;
-use super::parts::slot_by;
-use super::parts::wide;
-use super::tags::op_of;
-use super::tags::operands;
-use super::tags::reserved;
+use laying::divide;
+use laying::ends::close;
+use laying::ends::other;
+use laying::leaf;
+use laying::put;
+use parts::behind_by;
+use parts::first_under;
+use parts::from_by;
+use parts::pop;
+use parts::second_under;
+use parts::slot_by;
+use parts::tags::op_of;
+use parts::tags::operands;
+use parts::tags::reserved;
+use parts::wide;
 use words::ENTRIES;
 use words::tag_at;
 ghost use mathlib.Core.Path.{_≡_};
 ghost use Prim.Native.Nat.{suc, _<_, _≤_};
 ghost use lib.ListN.{length};
-ghost use Rattle.program.specs.Lines.{linesOf, columns, laid};
+ghost use Rattle.lines.specs.Lines.{linesOf, columns, laid};
 
 // The rule's lines from the first entry on: the place of the last.
 pub fn lay(

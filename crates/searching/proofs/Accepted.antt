@@ -15,7 +15,7 @@ use Rattle.promises.specs.Faults.{Sane, match-ran}
 use Rattle.words.specs.Words.{entries}
 use Rattle.meaning.specs.Closed.{closed-is}
 use Rattle.meaning.specs.Length.{instrs}
-use Rattle.program.specs.Lines.{Line, columns}
+use Rattle.lines.specs.Lines.{Line, columns}
 use Rattle.meaning.specs.Columns.{lineIn, Holds}
 use Rattle.holding.specs.Places.{Target}
 use Rattle.holding.proofs.Accepted.{read-target, read-tag}

@@ -8,7 +8,7 @@ use lib.Pow.{pow-pos}
 use lib.IntN.{ℤ}
 use Rattle.rules.specs.Fit.{fits}
 use Rattle.words.specs.Words.{entries}
-use Rattle.program.specs.Lines.{Line}
+use Rattle.lines.specs.Lines.{Line}
 use Rattle.meaning.specs.Columns.{lineIn}
 use Rattle.holding.specs.Places.{Target, Tag, marksAt}
 use Rattle.holding.specs.Held.{Held, wholeAt}

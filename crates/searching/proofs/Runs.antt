@@ -16,7 +16,7 @@ use Rattle.rules.specs.Forms.{words}
 use Rattle.rules.specs.Search.{row}
 use Rattle.meaning.specs.Points.{Instr, bind, end}
 use Rattle.meaning.specs.Meaning.{Means, means-end, means-strip, means-drop, means-bind, means-constant, means-integer, means-value, means-nil, means-list, means-multiset, means-join, means-tuple, means-keep, means-choice, means-deny, means-cut, means-other, means-close}
-use Rattle.program.specs.Lines.{Line}
+use Rattle.lines.specs.Lines.{Line}
 use Rattle.engine.specs.Held.{Data}
 use Rattle.engine.specs.Engine.{Conf, back, exec, settle}
 use Rattle.engine.specs.Drive.{Engine, rowFrom, passed, wrote, filled, rowDone, result, advance, turn}

@@ -12,7 +12,7 @@ use Rattle.holding.specs.Held.{put}
 use Rattle.rows.specs.Row.{bound, nothing}
 use Rattle.equality.specs.Equality.{equalAt, isSum}
 use Rattle.rows.specs.declared.Binding.{Binding}
-use Rattle.program.specs.Lines.{Line, line}
+use Rattle.lines.specs.Lines.{Line, line}
 use Rattle.stepping.specs.declared.State.{State}
 use Rattle.stepping.specs.Steps.{when, Tables, Turned, counted, dropped, stepOf, pickOf}
 

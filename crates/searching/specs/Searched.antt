@@ -13,7 +13,7 @@ use Rattle.rules.specs.Services.{Rule, Matched, carriedOut}
 use Rattle.promises.specs.Written.{Widthsᵖ}
 use Rattle.words.specs.Words.{entries}
 use Rattle.meaning.specs.Closed.{Closed}
-use Rattle.program.specs.Lines.{columns}
+use Rattle.lines.specs.Lines.{columns}
 use Rattle.meaning.specs.Columns.{Holds}
 use Rattle.holding.specs.Held.{wholeAt}
 use Rattle.rows.specs.Row.{nothing}

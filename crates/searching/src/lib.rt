@@ -14,7 +14,7 @@ use words::ENTRIES;
 ghost use mathlib.Core.Path.{_≡_};
 ghost use Prim.Native.Nat.{_-_, _<_};
 ghost use lib.ListN.{length};
-ghost use Rattle.program.specs.Lines.{columns};
+ghost use Rattle.lines.specs.Lines.{columns};
 ghost use Rattle.holding.specs.Places.{Target};
 ghost use Rattle.stepping.specs.Steps.{tables};
 ghost use Rattle.searching.specs.Run.{env, run, runOf, answerOf, matched};

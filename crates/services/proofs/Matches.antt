@@ -12,8 +12,8 @@ use Rattle.rules.specs.Services as paper
 use Rattle.promises.specs.Faults.{rule-accepted, Sane, sane-exactly}
 use Rattle.words.specs.Words.{entries}
 use Rattle.meaning.specs.Accepted.{matcher-short, pattern-short}
-use Rattle.program.specs.Lines.{columns, linesOf, laid}
-use Rattle.program.specs.Link.{opsIn, bindingsIn, tosBy, placed}
+use Rattle.lines.specs.Lines.{columns, linesOf, laid}
+use Rattle.lines.specs.Link.{opsIn, bindingsIn, tosBy, placed}
 use Rattle.meaning.specs.Columns.{Holds, compiled-zeros}
 use Rattle.holding.specs.Places.{Target}
 use Rattle.searching.specs.Run.{env}

@@ -18,8 +18,8 @@ use Rattle.promises.specs.Tests.{leb-true, leb-false}
 use Rattle.words.specs.Words.{tagZ}
 use Rattle.words.specs.Words.{entries}
 use Rattle.meaning.specs.Accepted.{matcher-short, pattern-short}
-use Rattle.program.specs.Lines.{columns, linesOf, laid}
-use Rattle.program.specs.Link.{tosBy, opsIn, bindingsIn, placed}
+use Rattle.lines.specs.Lines.{columns, linesOf, laid}
+use Rattle.lines.specs.Link.{tosBy, opsIn, bindingsIn, placed}
 use Rattle.meaning.specs.Columns.{Holds, compiled-zeros}
 use Rattle.passing.specs.Scan.{noneFrom}
 use Rattle.passing.specs.Plain.{plain-is}

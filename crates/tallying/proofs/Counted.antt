@@ -14,7 +14,7 @@ use Rattle.meaning.specs.Points.{Instr, Point}
 use Rattle.meaning.specs.Program.{instrOf, pointAt, program}
 use Rattle.meaning.specs.Length.{instrs, toCome}
 use Rattle.meaning.specs.Walk.{in-range}
-use Rattle.program.specs.Lines.{Line, Columns}
+use Rattle.lines.specs.Lines.{Line, Columns}
 use Rattle.meaning.specs.Meaning.{Means, means-end, means-strip, means-drop, means-bind, means-constant, means-integer, means-value, means-nil, means-list, means-multiset, means-join, means-tuple}
 use Rattle.meaning.specs.Meaning.{means-keep, means-choice, means-deny, means-cut, means-other, means-close}
 use Rattle.meaning.specs.Numbered.{Numbered, numbered-at}

@@ -1,0 +1,13 @@
+-- `linking::place_by` meets its contract. Assumes nothing.
+use Rattle.linking.proofs.Pass.{place-rules}
+use Rattle.linking.proofs.place_by.Statement.{statement}
+use Rattle.linking.proofs.place_by.Tie as tie
+
+pub place-by-spec : {M : Type 1} → statement M
+place-by-spec =
+    tie.close
+    (tie.spec
+    (λ c. search place-rules)
+    (λ c. search place-rules)
+    (λ c. search place-rules)
+    (λ c. search place-rules))

@@ -1,7 +1,0 @@
--- `program::lines::leaf` meets its contract. Assumes nothing.
-use Rattle.program.proofs.Laws.{leaf-rules}
-use Rattle.program.proofs.lines.leaf.Statement.{statement}
-use Rattle.program.proofs.lines.leaf.Tie as tie
-
-pub leaf-spec : {M : Type 1} → statement M
-leaf-spec = tie.close (tie.spec (λ c κs. search leaf-rules) (λ c κs. search leaf-rules) (λ c. search leaf-rules) (λ c. search leaf-rules))

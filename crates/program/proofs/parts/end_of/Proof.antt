@@ -1,7 +1,0 @@
--- `program::parts::end_of` meets its contract. Assumes nothing.
-use Rattle.program.proofs.Laws.{end-rules}
-use Rattle.program.proofs.parts.end_of.Statement.{statement}
-use Rattle.program.proofs.parts.end_of.Tie as tie
-
-pub end-of-spec : {M : Type 1} → statement M
-end-of-spec = tie.close (tie.spec (λ c κs. search end-rules) (λ c κs. search end-rules) (λ c. search end-rules) (λ c. search end-rules))
