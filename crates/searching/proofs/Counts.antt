@@ -16,7 +16,9 @@ use Rattle.holding.specs.Places.{elementAt}
 use Rattle.holding.specs.Held.{wholeAt, put}
 use Rattle.rows.specs.Row.{bound}
 use Rattle.stepping.specs.declared.State.{State}
-use Rattle.stepping.specs.Steps.{when, Tables, Turned, turned, counted, moved, lived, topped, dropped, pushed, pushedIn, passesOf, noneOf, opensOf, splitOf, isWide, apartAt, apartOf, keptAt, keptIn, framedAt, framedIn, cutTo, sidesOf, divideOf, stepBy, stepOf, topLeft, longerOf, joinOf, joinBy, consOf, consBy, resumedAt, resumedBy, resumeOf, choiceOf, pickOf}
+use Rattle.leaves.specs.Leaves.{when, passesOf, noneOf, opensOf, isWide, longerOf}
+use Rattle.stepping.specs.Steps.{Tables, Turned, turned, counted, moved, lived, topped, dropped, pushed, pushedIn, splitOf, apartAt, apartOf, keptAt, keptIn, framedAt, framedIn, cutTo, sidesOf, divideOf, stepBy, stepOf}
+use Rattle.choosing.specs.Choices.{topLeft, joinOf, joinBy, consOf, consBy, resumedAt, resumedBy, resumeOf, choiceOf, pickOf}
 use Rattle.searching.specs.Run.{Env, Run, run, Ended, ended, filled, wrote, endBy, endOf, afterTurn, afterEnd, takeEnd, takeBind, takeStep, takeOf, asked, settled, runOf}
 use Rattle.rows.proofs.Room.{length-put}
 use Rattle.searching.proofs.Room.{put-after}

@@ -15,7 +15,9 @@ use Rattle.marks.proofs.Places.{low-digit, digit-le}
 use Rattle.words.specs.Words.{entries}
 use Rattle.holding.specs.Places.{Tag, marksAt}
 use Rattle.holding.specs.Held.{Held, wholeAt}
-use Rattle.stepping.specs.Steps.{when, Tables, nowLeft, Frame}
+use Rattle.leaves.specs.Leaves.{when, nowLeft}
+use Rattle.stepping.specs.Steps.{Tables}
+use Rattle.choosing.specs.Choices.{Frame}
 use Rattle.searching.specs.Valid.{Long}
 
 -- ---- By cases.

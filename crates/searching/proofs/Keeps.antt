@@ -21,7 +21,9 @@ use Rattle.rows.proofs.Room.{length-put}
 use Rattle.rows.specs.Row.{bound, Bound, nothing}
 use Rattle.rows.specs.declared.Binding.{Binding}
 use Rattle.stepping.specs.declared.State.{State}
-use Rattle.stepping.specs.Steps.{when, Tables, Turned, tables, counted, moved, lived, dropped, pushed, pushedIn, passesOf, noneOf, opensOf, splitOf, stored, isWide, partMarks, apartAt, apartAts, apartBacks, apartOf, keptAt, keptIn, framedAt, framedIn, cutTo, sidesOf, divideOf, stepBy, stepOf, Frame, Picks}
+use Rattle.leaves.specs.Leaves.{when, passesOf, noneOf, opensOf, stored, isWide, partMarks}
+use Rattle.stepping.specs.Steps.{Tables, Turned, tables, counted, moved, lived, dropped, pushed, pushedIn, splitOf, apartAt, apartAts, apartBacks, apartOf, keptAt, keptIn, framedAt, framedIn, cutTo, sidesOf, divideOf, stepBy, stepOf}
+use Rattle.choosing.specs.Choices.{Frame, Picks}
 use Rattle.searching.specs.Run.{Env, Run, run, Ended, filled, wrote, endBy, endOf, asked, afterTurn, afterEnd, takeEnd, takeBind, takeStep, takeOf}
 use Rattle.searching.specs.Valid.{Fine, Valid}
 use Rattle.searching.proofs.Parts.{by-range, stored-length, stored-before, stored-after, stored-at}

@@ -21,7 +21,9 @@ use Rattle.equality.specs.Equality.{equalAt, isSum}
 use Rattle.rows.specs.declared.Binding.{Binding}
 use Rattle.holding.proofs.Elements.{second}
 use Rattle.stepping.specs.declared.State.{State}
-use Rattle.stepping.specs.Steps.{when, Tables, Turned, tables, turned, counted, dropped, stepBy, stepOf, passesOf, pickOf, settleOf, Steps, Slots, PicksIf}
+use Rattle.leaves.specs.Leaves.{when, passesOf}
+use Rattle.stepping.specs.Steps.{Tables, Turned, tables, turned, counted, dropped, stepBy, stepOf, Steps}
+use Rattle.choosing.specs.Choices.{pickOf, settleOf, Slots, PicksIf}
 use Rattle.searching.specs.Run.{Env, Run, run, Ended, ended, filled, wrote, endBy, endOf, askOf, boundAt, asked, afterTurn, afterEnd, takeEnd, takeBind, takeStep, takeOf, taken, settled, runOf}
 use Rattle.searching.specs.Valid.{Fine, Valid, Given, Rows, Takes}
 use Rattle.searching.proofs.Keeps.{take-keeps}

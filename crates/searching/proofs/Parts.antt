@@ -8,7 +8,7 @@ use lib.ListN.{length, getD, set, length-set}
 use lib.Seq.{getD-set-same, getD-set-other}
 use lib.Dec.{ltb}
 use borrow.Author.Tests.{ltb-true, ltb-false}
-use Rattle.stepping.specs.Steps.{stored}
+use Rattle.leaves.specs.Leaves.{stored}
 
 -- A place before, among or after those from a up to b.
 pub by-range : (P : Type 0) (a b j : ℕ) → (j < a → P) → (a ≤ j → j < b → P) → (b ≤ j → P) → P

@@ -25,7 +25,9 @@ use Rattle.holding.specs.Held.{put}
 use Rattle.rows.specs.Row.{holds, bound, nothing}
 use Rattle.rows.specs.declared.Binding.{Binding}
 use Rattle.stepping.specs.declared.State.{State}
-use Rattle.stepping.specs.Steps.{when, Tables, pickOf}
+use Rattle.leaves.specs.Leaves.{when}
+use Rattle.stepping.specs.Steps.{Tables}
+use Rattle.choosing.specs.Choices.{pickOf}
 use Rattle.tying.proofs.Instance.{places}
 use Rattle.searching.specs.Run as numbers
 use Rattle.searching.specs.Run.{Env, Run, run, ended, endBy, endOf, lineAt, asked, afterTurn, afterEnd, takeEnd, takeBind, takeStep, takeOf, settled}

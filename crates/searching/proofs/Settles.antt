@@ -17,9 +17,11 @@ use Rattle.holding.specs.Held.{Held, wholeAt}
 use Rattle.holding.proofs.Elements.{element-tag}
 use Rattle.holding.proofs.Held.{marks-count, held-64}
 use Rattle.rows.specs.declared.Binding.{Binding}
-use Rattle.stepping.proofs.Laws.{low-there}
+use Rattle.choosing.proofs.Laws.{low-there}
 use Rattle.stepping.specs.declared.State.{State}
-use Rattle.stepping.specs.Steps.{Tables, Turned, tables, moved, lived, topped, topLeft, nowLeft, longerOf, joinBy, joinOf, consBy, consOf, slotBy, resumedBy, resumedAt, resumeOf, choiceOf, pickOf, Frame, Picks}
+use Rattle.leaves.specs.Leaves.{nowLeft, longerOf, slotBy}
+use Rattle.stepping.specs.Steps.{Tables, Turned, tables, moved, lived, topped}
+use Rattle.choosing.specs.Choices.{topLeft, joinBy, joinOf, consBy, consOf, resumedBy, resumedAt, resumeOf, choiceOf, pickOf, Frame, Picks}
 use Rattle.searching.specs.Run.{Env, Run, run, afterTurn, settled}
 use Rattle.searching.specs.Valid.{Fine, Valid}
 use Rattle.searching.proofs.Frames.{when-if, by-place, next-place, held-less, held-whole, low-le, frame-left}

@@ -15,7 +15,8 @@ use Rattle.engine.specs.Engine.{put, Slot, kept, framed, keeping, slotAfter}
 use Rattle.holding.specs.Places.{Target, elementAt}
 use Rattle.stepping.specs.declared.State.{State}
 use Rattle.stepping.specs.Steps as numbers
-use Rattle.stepping.specs.Steps.{when, Tables, tables, pushedIn, stored, partMarks, keptIn, framedIn, nowLeft}
+use Rattle.leaves.specs.Leaves.{when, stored, partMarks, nowLeft}
+use Rattle.stepping.specs.Steps.{Tables, tables, pushedIn, keptIn, framedIn}
 use Rattle.searching.specs.Valid.{Long}
 use Rattle.tying.specs.Operations.{binding, someOf}
 use Rattle.tying.specs.Operations as operations

@@ -30,7 +30,10 @@ use Rattle.equality.specs.Equality.{equalAt}
 use Rattle.rows.specs.declared.Binding.{Binding}
 use Rattle.stepping.specs.declared.State.{State}
 use Rattle.stepping.specs.Steps as numbers
-use Rattle.stepping.specs.Steps.{when, Tables, Turned, tables, turned, counted, moved, lived, dropped, pushedIn, passesOf, noneOf, opensOf, splitOf, stored, partMarks, apartAt, apartAts, apartBacks, apartOf, keptAt, keptIn, framedAt, framedIn, cutTo, sidesOf, divideOf, stepBy, stepOf, topped, topLeft, nowLeft, longerOf, joinOf, joinBy, consOf, consBy, slotBy, resumedBy, resumedAt, resumeOf, choiceOf, pickOf, Frame, Picks}
+use Rattle.leaves.specs.Leaves as leaves
+use Rattle.leaves.specs.Leaves.{when, passesOf, noneOf, opensOf, stored, partMarks, nowLeft, longerOf, slotBy}
+use Rattle.stepping.specs.Steps.{Tables, Turned, tables, turned, counted, moved, lived, dropped, pushedIn, splitOf, apartAt, apartAts, apartBacks, apartOf, keptAt, keptIn, framedAt, framedIn, cutTo, sidesOf, divideOf, stepBy, stepOf, topped}
+use Rattle.choosing.specs.Choices.{topLeft, joinOf, joinBy, consOf, consBy, resumedBy, resumedAt, resumeOf, choiceOf, pickOf, Frame, Picks}
 use Rattle.searching.specs.Run.{Env, Run, run, askOf, lineAt, boundAt, asked, takeBind, takeStep, afterTurn}
 use Rattle.searching.specs.Valid.{Long}
 use Rattle.tying.specs.Operations.{binding, isNone, isNumber, isSame, someOf, opensBy, opens, takePlace, takeFront, pick}
@@ -140,7 +143,7 @@ module _ (e : Env) (g : Target (e .words)) where
     apart-by n l h false = refl
 
     apart-turn : (n : ℕ) → n ≤ 2 → Long t → x .pc + (suc n) ≤ entries → exec (places (e .words) g) (apart n) (confOf (e .words) g x t b) ≡ asTurn (stepAt (11 + n))
-    unfolding exec stepAt confOf operations.isWide apartOf apartAt apartAts apartBacks numbers.isWide counted
+    unfolding exec stepAt confOf operations.isWide apartOf apartAt apartAts apartBacks leaves.isWide counted
     apart-turn n y l h =
         apart-is (eqb (countAt (e .words) (x .at)) (suc (suc n))) refl
         ∙ ap (λ (u : Turned). asTurn (afterTurn u b room)) (sym (step-apart n _ y))

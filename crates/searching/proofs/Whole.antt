@@ -33,7 +33,8 @@ use Rattle.engine.specs.Rep.{Rep}
 use Rattle.engine.specs.Whole.{fresh, fresh-same, machine-runs, place-bound}
 use Rattle.holding.specs.Places.{Target}
 use Rattle.rows.specs.declared.Binding.{Binding}
-use Rattle.stepping.specs.Steps.{when, Tables}
+use Rattle.leaves.specs.Leaves.{when}
+use Rattle.stepping.specs.Steps.{Tables}
 use Rattle.tying.specs.Operations.{binding}
 use Rattle.tying.proofs.Instance.{places}
 use Rattle.searching.specs.Run.{Env, Run, run, lineAt, takeOf, settled, runOf, opening, answerOf, matched, told}

@@ -11,7 +11,8 @@ use Rattle.holding.specs.Places.{Target}
 use Rattle.rows.specs.Row.{nothing}
 use Rattle.rows.specs.declared.Binding.{Binding}
 use Rattle.stepping.specs.declared.State.{State}
-use Rattle.stepping.specs.Steps.{when, Tables}
+use Rattle.leaves.specs.Leaves.{when}
+use Rattle.stepping.specs.Steps.{Tables}
 use Rattle.tying.specs.Operations.{binding}
 use Rattle.tying.proofs.Instance.{places}
 use Rattle.searching.specs.Run.{Run}

@@ -14,7 +14,9 @@ use Rattle.equality.specs.Equality.{equalAt, isSum}
 use Rattle.rows.specs.declared.Binding.{Binding}
 use Rattle.lines.specs.Lines.{Line, line}
 use Rattle.stepping.specs.declared.State.{State}
-use Rattle.stepping.specs.Steps.{when, Tables, Turned, counted, dropped, stepOf, pickOf}
+use Rattle.leaves.specs.Leaves.{when}
+use Rattle.stepping.specs.Steps.{Tables, Turned, counted, dropped, stepOf}
+use Rattle.choosing.specs.Choices.{pickOf}
 
 -- What does not change: the program, the matcher's words, the target's words, how many variables there are.
 pub record Env : Type 0 where

@@ -11,7 +11,8 @@ use Rattle.holding.specs.Held.{Held}
 use Rattle.rows.specs.Row.{Bound}
 use Rattle.rows.specs.declared.Binding.{Binding}
 use Rattle.stepping.specs.declared.State.{State}
-use Rattle.stepping.specs.Steps.{Tables, Steps, Picks}
+use Rattle.stepping.specs.Steps.{Tables, Steps}
+use Rattle.choosing.specs.Choices.{Picks}
 use Rattle.searching.specs.Run.{Env, Run}
 
 -- The program: slots, places and variables are in range, and its last line is an end. A tuple's parts wait at its own place and at those after it that are

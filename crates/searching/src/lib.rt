@@ -1,6 +1,7 @@
 // Document 01, section 4: "a run takes up states until none remain or the budget is used". The bindings are sixteen structs by value, beside the state.
 pub mod taking;
 
+use choosing::settle;
 use equality::equal;
 use equality::is_sum;
 use holding::places::ends_of;
@@ -114,7 +115,8 @@ pub fn advance(
             backs,
             room,
         );
-        x = x.settle(
+        x = settle(
+            x,
             s,
             base,
             places,

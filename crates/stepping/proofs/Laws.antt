@@ -1,69 +1,27 @@
--- The laws that the code of a step and of the next choice asks for. Assumes nothing.
+-- The laws that the code of a step asks for. Assumes nothing.
 use mathlib.Core.Path.{_≡_, refl, sym, _∙_, ap}
 use mathlib.Core.Bool.{Bool, true, false}
 use mathlib.Core.List.{List}
-use Prim.Native.Nat.{ℕ, suc, _+_, _-_, _*_, _^_, _<_, _≤_}
+use Prim.Native.Nat.{ℕ, _+_, _-_, _<_, _≤_}
 use native.Mathlib.Omega.{arith}
 use borrow.Author.Needs.{needs}
-use borrow.Author.Tests.{eq-eqb, ne-eqb, lt-ltb, le-ltb, eqb-true, eqb-false}
+use borrow.Author.Tests.{eqb-true}
 use lib.ListN.{getD, set}
-use lib.Dec.{eqb, ltb}
 use lib.IntN.{ℤ}
-use lib.Count.{trailingZeros}
-use lib.Pow.{pow-mono}
-use mir.Syntax.{w64}
-use mir.Val.{Fits}
 use Rattle.words.specs.Words.{entries}
-use Rattle.marks.specs.Marks.{clear}
-use Rattle.marks.proofs.Places.{low-lt, low-digit, digit-below}
-use Rattle.holding.specs.Places.{Target, Tag, countAt, marksAt, elementAt}
+use Rattle.holding.specs.Places.{Target, Tag, countAt, elementAt}
 use Rattle.holding.specs.Held.{wholeAt}
 use Rattle.holding.proofs.Elements.{element-tag}
-use Rattle.holding.proofs.Held.{marks-count, held-64}
-use Rattle.words.proofs.Same.{same-bits}
+use Rattle.leaves.specs.Leaves.{when, noneOf, opensOf, stored, isWide, partMarks}
+use Rattle.leaves.proofs.Laws.{when-eq, when-ne, when-lt, when-le, when-true, when-false, flag-false}
 use Rattle.stepping.specs.declared.State.{State}
-use Rattle.stepping.specs.Steps.{when, Tables, tables, turned, counted, moved, lived, dropped, pushed, pushedIn, noneOf, opensOf, splitOf}
-use Rattle.stepping.specs.Steps.{stored, isWide, partMarks, apartAt, apartAts, apartBacks, apartOf, keptAt, keptIn, framedAt, framedIn, cutTo, sidesOf, divideOf, Steps, Divides, Aparts, Sides}
-use Rattle.stepping.specs.Steps.{topped, topBy, topLeft, nowLeft, joinOf, joinBy, consOf, consBy, longerOf, slotBy, resumedBy, resumedAt, resumeOf, choiceOf, pickOf, Joins, Conses, Resumes, Slots, Picks, PicksIf}
-
--- ---- One or the other.
-
-module _ {A : Type 0} (z x y : A) where
-  pub when-eq : (m n : ℕ) → m ≡ n → z ≡ x → z ≡ when (eqb m n) x y
-  unfolding when
-  when-eq m n h e = rw (eq-eqb m n h) e
-
-  pub when-ne : (m n : ℕ) → (m ≡ n → ⊥) → z ≡ y → z ≡ when (eqb m n) x y
-  unfolding when
-  when-ne m n h e = rw (ne-eqb m n h) e
-
-  pub when-lt : (m n : ℕ) → m < n → z ≡ x → z ≡ when (ltb m n) x y
-  unfolding when
-  when-lt m n h e = rw (lt-ltb m n h) e
-
-  pub when-le : (m n : ℕ) → n ≤ m → z ≡ y → z ≡ when (ltb m n) x y
-  unfolding when
-  when-le m n h e = rw (le-ltb m n h) e
-
-  pub when-true : (b c : Bool) → b ≡ c → b ≡ true → z ≡ x → z ≡ when c x y
-  unfolding when
-  when-true b c i h e = rw (sym i ∙ h) e
-
-  pub when-false : (b c : Bool) → b ≡ c → b ≡ false → z ≡ y → z ≡ when c x y
-  unfolding when
-  when-false b c i h e = rw (sym i ∙ h) e
-
-pub flag-false : (b c : Bool) → b ≡ c → b ≡ false → c ≡ false
-flag-false b c i h = sym i ∙ h
+use Rattle.stepping.specs.Steps.{Tables, tables, turned, counted, moved, lived, topped, dropped, pushed, pushedIn, splitOf}
+use Rattle.stepping.specs.Steps.{apartAt, apartAts, apartBacks, apartOf, keptAt, keptIn, framedAt, framedIn, cutTo, sidesOf, divideOf, Steps, Divides, Aparts, Sides}
 
 pub turned-at : (r r′ : State) (t : Tables) → r ≡ r′ → turned r t ≡ turned r′ t
 turned-at r r′ t e = ap (λ x. turned x t) e
 
 pub ruleset cases = (when-eq, when-ne, when-lt, when-le, when-true, when-false, flag-false, turned-at, needs)
-
--- ---- Words.
-
-pub ruleset word-rules = (same-bits, needs)
 
 -- ---- The state.
 
@@ -85,39 +43,6 @@ top-small n h = omega arith
 
 pub ruleset push-rules = (set-at, top-small, needs)
 
-pub top-is : (more j n top : ℕ) (lows : List ℕ) → more ≡ 0 → n ≡ getD lows j 0 → n ≡ topBy more j lows top
-unfolding topBy
-top-is more j n top lows z e = when-eq _ _ _ more 0 z e
-
-pub top-stays : (more j top : ℕ) (lows : List ℕ) → (more ≡ 0 → ⊥) → top ≡ topBy more j lows top
-unfolding topBy
-top-stays more j top lows n = when-ne _ _ _ more 0 n refl
-
--- A state with that frame as its last.
-topped-left : (more j top : ℕ) (lows : List ℕ) (x : State) → top ≡ topBy more j lows (x .top) → topped x top ≡ topLeft more j lows x
-unfolding topBy topLeft topped when
-topped-left more j top lows x e = go (eqb more 0) e
-  where
-    go : (b : Bool) → top ≡ when b (getD lows j 0) (x .top) → topped x top ≡ when b (topped x (getD lows j 0)) x
-    go true h = rw h
-    go false h = rw h
-
-pub ruleset leave-rules = (top-is, top-stays, cases)
-
--- ---- Leaves.
-
-pub open-low : (o m k : ℕ) → noneOf o m ≡ false → (o ≡ 10 → ⊥) → m < 2 ^ 64 → k ≡ trailingZeros 64 m → k < 64
-unfolding noneOf when
-open-low o m k h n l e =
-    let g : eqb m 0 ≡ false = rw (ne-eqb o 10 n) at h in
-    let d = eqb-false m 0 g in
-    rw e (low-lt 64 m (omega arith) l)
-
-pub pow-at : (r k j : ℕ) → r ≡ 2 ^ k → k ≡ j → r ≡ 2 ^ j
-pow-at r k j e f = rw f at e
-
-pub ruleset open-rules = (open-low, pow-at, cases)
-
 push-is : (r : State) (c : ℕ) (x : State) (p w e l b p′ w′ e′ l′ : List ℕ) → r ≡ pushed x → p′ ≡ set p (x .pc) (x .at) → w′ ≡ set w (x .pc) (x .marks)
     → e′ ≡ set e (x .pc) c → l′ ≡ set l (x .pc) (x .top) → turned r (tables p′ w′ e′ l′ b) ≡ turned (pushed x) (pushedIn c x (tables p w e l b))
 unfolding pushedIn
@@ -130,57 +55,12 @@ unfolding splitOf
 split-is b r o c x p w e l k p′ w′ e′ l′ h f q q₀ q₁ q₂ q₃ q₄ =
     when-false _ _ _ b (noneOf o (x .marks)) h f (rw (← q) (push-is r c x p w e l k p′ w′ e′ l′ q₀ q₁ q₂ q₃ q₄))
 
--- ---- A tuple's parts.
+pub ruleset split-rules = (split-is, cases)
 
-pub wide-by : (s : List ℤ) (at n k : ℕ) → k ≡ countAt s at → eqb k (n + 1) ≡ isWide s at n
-unfolding isWide
-wide-by s at n k e = rw e
+-- ---- A tuple's parts.
 
 pub few-wait : (n o : ℕ) → n ≡ o - 10 → o < 256 → n < 256
 few-wait n o e h = omega arith
-
-pub ruleset wide-rules = (wide-by, needs)
-
--- Entry after entry.
-stored-turn : (f : ℕ → ℕ) (from i n x : ℕ) (l all : List ℕ) → stored f (from + i - 1) i (n + 1 - i) l ≡ all → 1 ≤ i → i ≤ n → x ≡ f i
-    → stored f (from + (i + 1) - 1) (i + 1) (n + 1 - (i + 1)) (set l (from + i - 1) x) ≡ all
-unfolding stored
-stored-turn f from i n x l all e h k q =
-    let z : n + 1 - i ≡ suc (n + 1 - (i + 1)) = omega arith in
-    let y : from + (i + 1) - 1 ≡ from + i - 1 + 1 = omega arith in
-    rw (q, y) (ap (λ m. stored f (from + i - 1) i m l) (sym z) ∙ e)
-
-pub stored-end : (f : ℕ → ℕ) (from i n : ℕ) (l all : List ℕ) → stored f (from + i - 1) i (n + 1 - i) l ≡ all → n < i → l ≡ all
-unfolding stored
-stored-end f from i n l all e h = let z : n + 1 - i ≡ 0 = omega arith in ap (λ m. stored f (from + i - 1) i m l) (sym z) ∙ e
-
-pub stored-start : (f : ℕ → ℕ) (from n : ℕ) (l : List ℕ) → stored f (from + 1 - 1) 1 (n + 1 - 1) l ≡ stored f from 1 n l
-stored-start f from n l =
-    let z : n + 1 - 1 ≡ n = omega arith in
-    let y : from + 1 - 1 ≡ from = omega arith in
-    rw (z, y)
-
-module _ (s : List ℤ) (at from i n x e : ℕ) (l all : List ℕ) (h : 1 ≤ i) (k : i ≤ n) (p : e ≡ elementAt s at i) where
-  pub ats-turn : stored (elementAt s at) (from + i - 1) i (n + 1 - i) l ≡ all → x ≡ e
-      → stored (elementAt s at) (from + (i + 1) - 1) (i + 1) (n + 1 - (i + 1)) (set l (from + i - 1) x) ≡ all
-  ats-turn r q = stored-turn (elementAt s at) from i n x l all r h k (q ∙ p)
-
-  pub backs-turn : stored (partMarks s at) (from + i - 1) i (n + 1 - i) l ≡ all → x ≡ wholeAt s e
-      → stored (partMarks s at) (from + (i + 1) - 1) (i + 1) (n + 1 - (i + 1)) (set l (from + i - 1) x) ≡ all
-  unfolding partMarks
-  backs-turn r q = stored-turn (partMarks s at) from i n x l all r h k (q ∙ ap (wholeAt s) p)
-
-pub part-there : (s : List ℤ) (at i n : ℕ) → i ≤ n → n < countAt s at → i < countAt s at
-part-there s at i n h k = omega arith
-
-module _ (s : List ℤ) (at i e : ℕ) (g : Target s) (w : Tag s at) (p : e ≡ elementAt s at i) (k : i < countAt s at) where
-  pub part-tag : Tag s e
-  part-tag = rw p (element-tag s at i g w k)
-
-  pub part-small : e < 65536
-  part-small = let q = part-tag .inside in let r = g .short in omega arith
-
-pub ruleset keep-rules = (part-there, part-tag, part-small, ats-turn, backs-turn, stored-start, stored-end, needs)
 
 module _ (s : List ℤ) (at n : ℕ) (b : Bool) (h : b ≡ isWide s at n) (t : b ≡ true) where
   wide-count : countAt s at ≡ n + 1
@@ -286,121 +166,3 @@ unfolding counted
 step-divides s op from x h = record { place = h .place; next = h .next; tag = h .tag; small = h .small; frame = h .frame; parts = h .parts }
 
 pub ruleset step-rules = (step-divides, cases)
-
--- ---- The next choice.
-
--- The lowest of the choices left is an element that there is.
-pub low-there : (n c : ℕ) → n ≤ 64 → 0 < c → c < 2 ^ n → trailingZeros 64 c < n
-low-there n c l h k = digit-below (trailingZeros 64 c) n c (low-digit 64 c h (let p = pow-mono l in omega arith)) k
-
-module _ (s : List ℤ) (ats lefts : List ℕ) (j k t : ℕ) (g : Target s) (c : Conses s ats lefts j) (e : k ≡ trailingZeros 64 (getD lefts j 0)) where
-  there : k < countAt s (getD ats j 0)
-  there =
-      let p = marks-count s (getD ats j 0) in
-      let q = low-there (marksAt s (getD ats j 0)) (getD lefts j 0) (omega (arith, g .small (getD ats j 0) (c .tag))) (c .some) (c .there) in
-      omega arith
-
-  pub cons-there : t ≡ getD ats j 0 → k < countAt s t
-  cons-there h = rw h there
-
-  pub cons-64 : k < 64
-  cons-64 = let h = there in let l = g .small (getD ats j 0) (c .tag) in omega arith
-
-  pub cons-at : t ≡ getD ats j 0 → Tag s t
-  cons-at h = rw h (c .tag)
-
-  pub cons-tag : (p : ℕ) → t ≡ getD ats j 0 → p ≡ elementAt s t k → Tag s p
-  cons-tag p h q = rw q (element-tag s t k g (cons-at h) (cons-there h))
-
-pub cons-is : (s : List ℤ) (j k t e m b more top : ℕ) (x : State) (ats wholes lefts lows backs lefts′ : List ℕ) → t ≡ getD ats j 0
-    → k ≡ trailingZeros 64 (getD lefts j 0) → e ≡ elementAt s t k
-    → m ≡ wholeAt s e → b ≡ clear k (getD wholes j 0) → more ≡ clear (trailingZeros 64 (getD lefts j 0)) (getD lefts j 0)
-    → top ≡ topBy more j lows (x .top) → lefts′ ≡ nowLeft more j lefts
-    → turned (topped (moved x (j + 1) e m) top) (tables ats wholes lefts′ lows (set backs j b)) ≡ consOf s j x (tables ats wholes lefts lows backs)
-unfolding consOf consBy
-cons-is s j k t e m b more top x ats wholes lefts lows backs lefts′ p₀ p₁ p₂ p₃ p₄ p₅ p₆ p₇ = rw (topped-left more j top lows (moved x (j + 1) e m) p₆, p₇, p₅, p₄, p₃, p₂, p₁, p₀)
-
-pub join-is : (j p more top : ℕ) (x : State) (ats wholes lefts lows backs lefts′ : List ℕ) → p ≡ getD ats j 0
-    → more ≡ longerOf (getD lefts j 0) (getD wholes j 0 - getD lefts j 0)
-    → top ≡ topBy more j lows (x .top) → lefts′ ≡ nowLeft more j lefts
-    → turned (topped (moved x (j + 1) p (getD lefts j 0)) top) (tables ats wholes lefts′ lows (set backs j (getD wholes j 0 - getD lefts j 0))) ≡ joinOf j x (tables ats wholes lefts lows backs)
-unfolding joinOf joinBy
-join-is j p more top x ats wholes lefts lows backs lefts′ p₀ p₁ p₂ p₃ = rw (topped-left more j top lows (moved x (j + 1) p (getD lefts j 0)) p₂, p₃, p₁, p₀)
-
--- An or or a not.
-
-pub slot-own : (o j : ℕ) (from : List ℕ) → o ≡ 15 → j ≡ slotBy o j from
-unfolding slotBy
-slot-own o j from e = when-eq _ _ _ o 15 e refl
-
-pub slot-named : (o j n : ℕ) (from : List ℕ) → (o ≡ 15 → ⊥) → n ≡ getD from j 0 → n ≡ slotBy o j from
-unfolding slotBy
-slot-named o j n from e h = when-ne _ _ _ o 15 e h
-
-pub ruleset slot-rules = (slot-own, slot-named, needs)
-
-pub resume-slot : (o j i : ℕ) (from : List ℕ) → Resumes from j → i ≡ slotBy o j from → i < entries
-unfolding slotBy when
-resume-slot o j i from r e = rw e (go (eqb o 15))
-  where
-    go : (b : Bool) → when b j (getD from j 0) < entries
-    go true = r .place
-    go false = r .next
-
-pub resume-mul : (o j i : ℕ) (from : List ℕ) → Resumes from j → i ≡ slotBy o j from → Fits w64 (i * 2)
-resume-mul o j i from r e = let h = resume-slot o j i from r e in record { fits = omega arith }
-
-pub resume-mul-8 : (o j i : ℕ) (from : List ℕ) → Resumes from j → i ≡ slotBy o j from → Fits w64 (i * 8)
-resume-mul-8 o j i from r e = let h = resume-slot o j i from r e in record { fits = omega arith }
-
-pub resume-is : (o j i a p l : ℕ) (from to ats lows backs : List ℕ) (x : State) → i ≡ slotBy o j from → a ≡ getD to j 0 → p ≡ getD ats i 0 → l ≡ getD lows j 0
-    → topped (moved x a p (getD backs i 0)) l ≡ resumedAt o j from to ats lows backs x
-unfolding resumedAt resumedBy moved topped
-resume-is o j i a p l from to ats lows backs x e f g h = rw (h, g, f, e)
-
-pub ruleset resume-rules = (resume-slot, resume-mul, resume-mul-8, resume-is, needs)
-
-module _ (op : List ℕ) (s : List ℤ) (top : ℕ) (ats wholes lefts : List ℕ) (g : Target s) (p : Picks op s top ats wholes lefts) (n : top ≡ 0 → ⊥) where
-  pub pick-place : top - 1 < entries
-  pick-place = (p .frame n) .place
-
-  pub pick-join : getD op (top - 1) 0 ≡ 10 → Joins wholes lefts (top - 1)
-  pick-join e =
-      let f = p .frame n in
-      record { place = f .place; within = f .within e; word = held-64 s (getD ats (top - 1) 0) (getD wholes (top - 1) 0) g (f .held (omega arith)) }
-
-  pub pick-cons : getD op (top - 1) 0 ≤ 9 → Conses s ats lefts (top - 1)
-  pick-cons e = let f = p .frame n in record { place = f .place; tag = f .held (omega arith) .tag; some = f .some (omega arith); there = f .there (omega arith) }
-
-  pub pick-resumes : (from : List ℕ) → Slots from → Resumes from (top - 1)
-  pick-resumes from h = record { place = pick-place; next = h .there (top - 1) pick-place }
-
-module _ (op from to : List ℕ) (s : List ℤ) (x y : State) (n : x .top ≡ 0 → ⊥) (t u : Tables) where
-  pub picked-join : 9 < getD op (x .top - 1) 0 → getD op (x .top - 1) 0 ≡ 10 → turned y u ≡ joinOf (x .top - 1) x t → turned y u ≡ pickOf op from to s x t
-  unfolding pickOf choiceOf
-  picked-join h z e = when-ne _ _ _ (x .top) 0 n (when-lt _ _ _ 9 (getD op (x .top - 1) 0) h (when-eq _ _ _ (getD op (x .top - 1) 0) 10 z e))
-
-  pub picked-cons : getD op (x .top - 1) 0 ≤ 9 → turned y u ≡ consOf s (x .top - 1) x t → turned y u ≡ pickOf op from to s x t
-  unfolding pickOf choiceOf
-  picked-cons h e = when-ne _ _ _ (x .top) 0 n (when-le _ _ _ 9 (getD op (x .top - 1) 0) h e)
-
-pub picked-other : (op from to : List ℕ) (s : List ℤ) (x y : State) (n : x .top ≡ 0 → ⊥) (a w c l b : List ℕ)
-    → 9 < getD op (x .top - 1) 0 → (getD op (x .top - 1) 0 ≡ 10 → ⊥) → y ≡ resumedAt (getD op (x .top - 1) 0) (x .top - 1) from to a l b x
-    → turned y (tables a w c l b) ≡ pickOf op from to s x (tables a w c l b)
-unfolding pickOf choiceOf resumeOf
-picked-other op from to s x y n a w c l b h z e =
-    when-ne _ _ _ (x .top) 0 n (when-lt _ _ _ 9 (getD op (x .top - 1) 0) h (when-ne _ _ _ (getD op (x .top - 1) 0) 10 z (rw e)))
-
-pub ruleset cons-rules = (cons-there, cons-64, cons-at, cons-tag, cons-is, needs)
-
-pub ruleset join-rules = (join-is, needs)
-
-pub ruleset split-rules = (split-is, cases)
-
-pub ruleset pick-rules = (pick-place, pick-join, pick-cons, pick-resumes, picked-join, picked-cons, picked-other, cases)
-
-pub settle-picks : (live : ℕ) (op : List ℕ) (s : List ℤ) (top : ℕ) (ats wholes lefts : List ℕ) → PicksIf live op s top ats wholes lefts → live ≡ 2
-    → Picks op s top ats wholes lefts
-settle-picks live op s top ats wholes lefts p e = p .picks e
-
-pub ruleset settle-rules = (settle-picks, cases)

@@ -1,9 +1,6 @@
 // Document 01, section 4: the search state, a struct of numbers by value, whose step hands the next state back. What waits stands in lent tables, a
 // slot for each instruction.
-pub mod choices;
-pub mod leaves;
 pub mod sides;
-pub mod tuples;
 
 use holding::places::element;
 use holding::places::narrow;
@@ -12,9 +9,9 @@ use holding::places::wide;
 use leaves::nothing;
 use leaves::opens;
 use leaves::passes;
-use tuples::is_wide;
-use tuples::keep;
-use tuples::later;
+use leaves::tuples::is_wide;
+use leaves::tuples::keep;
+use leaves::tuples::later;
 use words::ENTRIES;
 ghost use mathlib.Core.Path.{_≡_};
 ghost use Prim.Native.Nat.{_-_, _<_, _≤_};

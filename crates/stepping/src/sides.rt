@@ -7,18 +7,7 @@ ghost use mathlib.Core.Path.{_≡_};
 ghost use Prim.Native.Nat.{_<_, _≤_};
 ghost use lib.ListN.{getD, set};
 ghost use Rattle.words.specs.Words.{entries};
-ghost use Rattle.stepping.specs.Steps.{tables, turned, keptAt, framedAt, cutTo, sidesOf, slotBy, resumedAt, Sides, Resumes};
-
-// The slot of the value with which a frame's choice goes on: an or's own, and of a not that of what waits behind it.
-fn slot_of(o: u8, j: usize, from: &[u16; ENTRIES]) -> usize
-    requires { ⌜ j < entries ⌝ }
-    ensures { λ r. ⌜ r ≡ slotBy o j (now (from .entry)) ⌝ }
-{
-    if o == 15 {
-        return j;
-    }
-    wide(from[j])
-}
+ghost use Rattle.stepping.specs.Steps.{tables, turned, keptAt, framedAt, cutTo, sidesOf, Sides};
 
 impl State {
     // And: the value waits for the second part; the first is next, on the same value.
@@ -93,30 +82,6 @@ impl State {
             return self.cut(from, lows);
         }
         self.live = 2;
-        self
-    }
-
-    // The frame of the or or not at j is no longer open: the second side, or what follows the not.
-    pub fn resume(
-        mut self,
-        o: u8,
-        j: usize,
-        from: &[u16; ENTRIES],
-        to: &[u16; ENTRIES],
-        ats: &[u16; ENTRIES],
-        lows: &[u16; ENTRIES],
-        backs: &[u64; ENTRIES],
-    ) -> State
-        requires { ⌜ Resumes (now from) j ⌝ }
-        ensures { λ r. ⌜ r ≡ resumedAt o j (now (from .entry)) (now (to .entry)) (now (ats .entry)) (now (lows .entry)) (now (backs .entry)) self ⌝ }
-    {
-        let i = slot_of(o, j, from);
-        let at = wide(ats[i]);
-        self.pc = wide(to[j]);
-        self.at = at;
-        self.marks = backs[i];
-        self.top = wide(lows[j]);
-        self.live = 1;
         self
     }
 }

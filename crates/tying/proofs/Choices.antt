@@ -25,7 +25,7 @@ use Rattle.rows.specs.declared.Binding.{Binding}
 use Rattle.holding.proofs.Held.{held-collection, marks-all, held-64, held-less, held-clear, held-some, whole-held, whole-value, next-in, next-64, next-tag, next-value}
 use Rattle.meaning.specs.Points.{Kind, listCons, multisetCons, joins, over, firstBy, halves}
 use Rattle.engine.specs.Held.{Picked, Opened}
-use Rattle.stepping.specs.Steps.{when, opensOf, noneOf, longerOf}
+use Rattle.leaves.specs.Leaves.{when, opensOf, noneOf, longerOf}
 use Rattle.tying.specs.Fitting.{Fine}
 use Rattle.tying.specs.Operations.{Is, code, someOf, opensBy, opens, partOf, takePlace, takeFront, pick, elementsAt, LeftPlaces, LeftFronts, Left}
 use Rattle.tying.proofs.Fitting.{halves-fine}

@@ -22,7 +22,7 @@ use Rattle.equality.specs.Equality.{isSum}
 use Rattle.rows.specs.declared.Binding.{Binding}
 use Rattle.meaning.specs.Points.{Kind, listCons, multisetCons, joins}
 use Rattle.engine.specs.Held.{Picked}
-use Rattle.stepping.specs.Steps.{when, opensOf, noneOf, longerOf}
+use Rattle.leaves.specs.Leaves.{when, opensOf, noneOf, longerOf}
 use Rattle.tying.specs.Fitting.{Fitting, Fine}
 
 abbrev pub binding : ℕ → ℕ → Binding

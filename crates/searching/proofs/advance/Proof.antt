@@ -14,7 +14,7 @@ use Rattle.equality.proofs.is_sum.Reads as is-sum-reads
 use Rattle.rows.proofs.bind.Reads as bind-reads
 use Rattle.searching.proofs.index.Reads as index-reads
 use Rattle.searching.proofs.taking.take.Reads as take-reads
-use Rattle.stepping.proofs.State.settle.Reads as settle-reads
+use Rattle.choosing.proofs.settle.Reads as settle-reads
 
 abbrev Inv-loop : tie.InvT-loop
 Inv-loop budget n mt s ends base places op from to arg mat con ats₀ wholes₀ lefts₀ lows₀ backs₀ room₀ x₀ b₀ ats wholes lefts lows backs room x b =

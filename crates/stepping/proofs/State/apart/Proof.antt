@@ -3,9 +3,9 @@ use Rattle.stepping.specs.Steps.{moved, lived}
 use Rattle.stepping.proofs.Laws.{apart-rules}
 use Rattle.stepping.proofs.State.apart.Statement.{statement}
 use Rattle.stepping.proofs.State.apart.Tie as tie
-use Rattle.stepping.proofs.tuples.later.Reads as later-reads
-use Rattle.stepping.proofs.tuples.is_wide.Reads as is-wide-reads
-use Rattle.stepping.proofs.tuples.keep.Reads as keep-reads
+use Rattle.leaves.proofs.tuples.later.Reads as later-reads
+use Rattle.leaves.proofs.tuples.is_wide.Reads as is-wide-reads
+use Rattle.leaves.proofs.tuples.keep.Reads as keep-reads
 use Rattle.holding.proofs.places.element.Reads as element-reads
 use Rattle.holding.proofs.places.whole.Reads as whole-reads
 

@@ -4,8 +4,8 @@ use Rattle.stepping.proofs.Laws.{split-rules}
 use Rattle.stepping.proofs.State.split.Statement.{statement}
 use Rattle.stepping.proofs.State.split.Tie as tie
 use Rattle.stepping.proofs.State.push.Reads as push-reads
-use Rattle.stepping.proofs.leaves.nothing.Reads as nothing-reads
-use Rattle.stepping.proofs.leaves.opens.Reads as opens-reads
+use Rattle.leaves.proofs.nothing.Reads as nothing-reads
+use Rattle.leaves.proofs.opens.Reads as opens-reads
 
 pub split-spec : {M : Type 1} → statement M
 unfolding splitOf lived

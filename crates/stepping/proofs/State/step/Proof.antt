@@ -5,7 +5,7 @@ use Rattle.stepping.proofs.State.step.Statement.{statement}
 use Rattle.stepping.proofs.State.step.Tie as tie
 use Rattle.stepping.proofs.State.drop.Reads as drop-reads
 use Rattle.stepping.proofs.State.divide.Reads as divide-reads
-use Rattle.stepping.proofs.leaves.passes.Reads as passes-reads
+use Rattle.leaves.proofs.passes.Reads as passes-reads
 
 pub step-spec : {M : Type 1} → statement M
 unfolding stepOf stepBy counted moved lived

@@ -1,0 +1,15 @@
+-- `choosing::settle` meets its contract. Assumes nothing.
+use Rattle.choosing.specs.Choices.{settleOf}
+use Rattle.choosing.proofs.Laws.{settle-rules}
+use Rattle.choosing.proofs.settle.Statement.{statement}
+use Rattle.choosing.proofs.settle.Tie as tie
+use Rattle.choosing.proofs.pick.Reads as pick-reads
+
+pub settle-spec : {M : Type 1} → statement M
+unfolding settleOf
+settle-spec =
+    tie.close
+    (tie.spec
+    (λ c κs. (search settle-rules, (search settle-rules, (search settle-rules, search settle-rules))))
+    (λ c. search settle-rules)
+    (λ c. search settle-rules))

@@ -1,0 +1,18 @@
+-- `leaves::opens` meets its contract. Assumes nothing.
+use Rattle.leaves.specs.Leaves.{opensOf}
+use Rattle.leaves.proofs.Laws.{open-rules}
+use Rattle.leaves.proofs.opens.Statement.{statement}
+use Rattle.leaves.proofs.opens.Tie as tie
+use Rattle.marks.proofs.lowest.Reads as lowest-reads
+use Rattle.marks.proofs.one.Reads as one-reads
+
+pub opens-spec : {M : Type 1} → statement M
+unfolding opensOf
+opens-spec =
+    tie.close
+    (tie.spec
+    (λ c. search open-rules)  -- returns
+    (λ c κs. search open-rules)  -- lowest-requires
+    (λ c κs. search open-rules)  -- one-requires
+    (λ c. search open-rules)  -- returns-2
+    (λ c. search open-rules))

@@ -1,0 +1,15 @@
+-- `leaves::slot_of` meets its contract. Assumes nothing.
+use Rattle.leaves.proofs.Laws.{slot-rules}
+use Rattle.leaves.proofs.slot_of.Statement.{statement}
+use Rattle.leaves.proofs.slot_of.Tie as tie
+use Rattle.holding.proofs.places.wide.Reads as wide-reads
+
+pub slot-of-spec : {M : Type 1} → statement M
+slot-of-spec =
+    tie.close
+    (tie.spec
+    (λ c. search slot-rules)  -- returns
+    (λ c. search slot-rules)  -- mul-wide
+    (λ c. search slot-rules)  -- copy-wide
+    (λ c κs. search slot-rules)  -- wide-requires
+    (λ c. search slot-rules))
