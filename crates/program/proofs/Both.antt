@@ -7,9 +7,9 @@ use borrow.Author.Needs.{needs}
 use lib.ListN.{length}
 use lib.IntN.{ℤ}
 use Rattle.words.specs.Words.{entries}
-use Rattle.lines.specs.Lines.{linesOf}
-use Rattle.lines.specs.Link.{opsIn, bindingsIn, tosBy, placed}
-use Rattle.lines.specs.Bounds.{lines-few}
+use Rattle.program_rules.specs.Lines.{linesOf}
+use Rattle.program_rules.specs.Link.{opsIn, bindingsIn, tosBy, placed}
+use Rattle.program_rules.specs.Bounds.{lines-few}
 
 -- The lines of 256 words fit.
 pub both-low : (m p : List ℤ) (last : ℕ) → length p ≤ 256 → suc last ≡ length (linesOf m p) → last < entries

@@ -10,9 +10,9 @@ use lib.ListN.{length, getD, set, length-set}
 use lib.Seq.{getD-set-same, getD-set-other}
 use lib.IntN.{ℤ}
 use Rattle.matchers.specs.Places.{matcherEnd}
-use Rattle.lines.specs.Lines.{Waiting, waits, slotOf, others}
-use Rattle.lines.specs.Stack.{Stack, stack, waitingAt, popped}
-use Rattle.lines.specs.Bounds.{few, few-part, few-other}
+use Rattle.program_rules.specs.Lines.{Waiting, waits, slotOf, others}
+use Rattle.program_rules.specs.Stack.{Stack, stack, waitingAt, popped}
+use Rattle.program_rules.specs.Bounds.{few, few-part, few-other}
 
 -- A store above the top is not seen.
 waiting-above : (u s b : List ℕ) (j x y n d : ℕ) → d < j → waitingAt (set u j x) (set s j y) (set b j n) d ≡ waitingAt u s b d

@@ -15,14 +15,14 @@ use mir.Syntax.{w64}
 use mir.Val.{Fits}
 use Rattle.words.specs.Words.{tagZ, tagAt, entries}
 use Rattle.words.proofs.Signed.{within}
-use Rattle.lines.specs.Lines.{Line, line, endLine, reservedLines, opsUnder, opOf, operandsOf, beyondTwo, reservedBy, stripLines, leafLine, firstUnder, secondUnder}
-use Rattle.lines.specs.Lines.{Waiting, waits, slotOf, fromBy, slotBy, behindBy, others, elseLine, elseLines, resumed, divided, linesFrom, lines-split, lines-leaf, linesOf, Columns, written, laid}
-use Rattle.lines.specs.Stack.{stack, waitingAt, popped, closeLines}
-use Rattle.lines.specs.Made.{cond-le, op-most}
-use Rattle.lines.specs.Bounds.{weight, heavy, heavy-most, weight-one, few, few-part, by-few, reserved-length}
-use Rattle.parts.proofs.Laws.{operands-le}
-use Rattle.laying.proofs.Laws.{strip-short}
-use Rattle.laying.proofs.Closing.{resumed-close, opened, weight-close}
+use Rattle.program_rules.specs.Lines.{Line, line, endLine, reservedLines, opsUnder, opOf, operandsOf, beyondTwo, reservedBy, stripLines, leafLine, firstUnder, secondUnder}
+use Rattle.program_rules.specs.Lines.{Waiting, waits, slotOf, fromBy, slotBy, behindBy, others, elseLine, elseLines, resumed, divided, linesFrom, lines-split, lines-leaf, linesOf, Columns, written, laid}
+use Rattle.program_rules.specs.Stack.{stack, waitingAt, popped, closeLines}
+use Rattle.program_rules.specs.Made.{cond-le, op-most}
+use Rattle.program_rules.specs.Bounds.{weight, heavy, heavy-most, weight-one, few, few-part, by-few, reserved-length}
+use Rattle.program_parts.proofs.Laws.{operands-le}
+use Rattle.program_lay.proofs.Laws.{strip-short}
+use Rattle.program_lay.proofs.Closing.{resumed-close, opened, weight-close}
 use Rattle.program.proofs.Stack.{waiting-push, pair-sum, slot-top, waiting-pop, Left, pop-left}
 
 -- ---- Lines.

@@ -1,25 +1,25 @@
 // The first pass: a line for each state that a run can take up there, the places of ors and nots at which none is, and the end.
-use laying::divide;
-use laying::ends::close;
-use laying::ends::other;
-use laying::leaf;
-use laying::put;
-use parts::behind_by;
-use parts::first_under;
-use parts::from_by;
-use parts::pop;
-use parts::second_under;
-use parts::slot_by;
-use parts::tags::op_of;
-use parts::tags::operands;
-use parts::tags::reserved;
-use parts::wide;
+use program_lay::divide;
+use program_lay::ends::close;
+use program_lay::ends::other;
+use program_lay::leaf;
+use program_lay::put;
+use program_parts::behind_by;
+use program_parts::first_under;
+use program_parts::from_by;
+use program_parts::pop;
+use program_parts::second_under;
+use program_parts::slot_by;
+use program_parts::tags::op_of;
+use program_parts::tags::operands;
+use program_parts::tags::reserved;
+use program_parts::wide;
 use words::ENTRIES;
 use words::tag_at;
 ghost use mathlib.Core.Path.{_≡_};
 ghost use Prim.Native.Nat.{suc, _<_, _≤_};
 ghost use lib.ListN.{length};
-ghost use Rattle.lines.specs.Lines.{linesOf, columns, laid};
+ghost use Rattle.program_rules.specs.Lines.{linesOf, columns, laid};
 
 // The rule's lines from the first entry on: the place of the last.
 pub fn lay(

@@ -1,15 +1,16 @@
 // The program of a rule, compiled once: a line for each state that a run can take up there, and the end. Its numbers lie in six lent arrays, `op`, `arg`
-// and `mat` of u8, `from` and `to` of u16, `con` of i32; the modules Lines and Link of `lines` say what they are. 256 words make at most 641 lines.
+// and `mat` of u8, `from` and `to` of u16, `con` of i32; the modules Lines and Link of `program_rules` say what they are. 256 words make at most 641 lines.
 mod lay;
+mod link;
 
 use lay::lay;
-use linking::link;
+use link::link;
 use words::ENTRIES;
 ghost use mathlib.Core.Path.{_≡_};
 ghost use Prim.Native.Nat.{_<_, _≤_};
 ghost use lib.ListN.{length};
-ghost use Rattle.lines.specs.Lines.{linesOf, columns, laid};
-ghost use Rattle.lines.specs.Link.{opsIn, bindingsIn, tosBy, placed};
+ghost use Rattle.program_rules.specs.Lines.{linesOf, columns, laid};
+ghost use Rattle.program_rules.specs.Link.{opsIn, bindingsIn, tosBy, placed};
 
 // The rule's program: how many variables it has, its lines from the first entry on, and for each the place where the next state stands.
 pub fn compile(

@@ -11,20 +11,20 @@ use Rattle.rules.specs.Services.{Judged, accepted, refused, test, Rule, ruleOf,
 use Rattle.rules.specs.Services as paper
 use Rattle.promises.specs.Faults.{rule-accepted, Sane, sane-exactly}
 use Rattle.words.specs.Words.{entries}
-use Rattle.meaning.specs.Accepted.{matcher-short, pattern-short}
-use Rattle.lines.specs.Lines.{columns, linesOf, laid}
-use Rattle.lines.specs.Link.{opsIn, bindingsIn, tosBy, placed}
-use Rattle.meaning.specs.Columns.{Holds, compiled-zeros}
-use Rattle.holding.specs.Places.{Target}
-use Rattle.searching.specs.Run.{env}
-use Rattle.searching.specs.Valid.{Fine}
-use Rattle.searching.specs.Searched.{Searched}
-use Rattle.searching.proofs.Accepted.{accepted-target, accepted-some, accepted-fine, accepted-match}
-use Rattle.judging.specs.Judgements.{judgement, targetJudgement, targetUnder}
-use Rattle.judging.specs.declared.Judgement.{Judgement}
-use Rattle.judging.specs.declared.Judgement.the-variants.{Accepted, Refused}
-use Rattle.judging.specs.declared.TargetJudgement.{TargetJudgement}
-use Rattle.judging.specs.declared.TargetJudgement.the-variants as targets
+use Rattle.program_rules.specs.Accepted.{matcher-short, pattern-short}
+use Rattle.program_rules.specs.Lines.{columns, linesOf, laid}
+use Rattle.program_rules.specs.Link.{opsIn, bindingsIn, tosBy, placed}
+use Rattle.program_rules.specs.Columns.{Holds, compiled-zeros}
+use Rattle.value_places.specs.Places.{Target}
+use Rattle.search.specs.Run.{env}
+use Rattle.search.specs.Valid.{Fine}
+use Rattle.search.specs.Searched.{Searched}
+use Rattle.search.proofs.Accepted.{accepted-target, accepted-some, accepted-fine, accepted-match}
+use Rattle.tests.specs.Judgements.{judgement, targetJudgement, targetUnder}
+use Rattle.tests.specs.declared.Judgement.{Judgement}
+use Rattle.tests.specs.declared.Judgement.the-variants.{Accepted, Refused}
+use Rattle.tests.specs.declared.TargetJudgement.{TargetJudgement}
+use Rattle.tests.specs.declared.TargetJudgement.the-variants as targets
 use Rattle.services.specs.Matches.{Ready}
 
 -- ---- What a judgement says.

@@ -17,20 +17,20 @@ use Rattle.rules.specs.Services as paper
 use Rattle.promises.specs.Tests.{leb-true, leb-false}
 use Rattle.words.specs.Words.{tagZ}
 use Rattle.words.specs.Words.{entries}
-use Rattle.meaning.specs.Accepted.{matcher-short, pattern-short}
-use Rattle.lines.specs.Lines.{columns, linesOf, laid}
-use Rattle.lines.specs.Link.{tosBy, opsIn, bindingsIn, placed}
-use Rattle.meaning.specs.Columns.{Holds, compiled-zeros}
-use Rattle.passing.specs.Scan.{noneFrom}
-use Rattle.passing.specs.Plain.{plain-is}
-use Rattle.judging.specs.Judgements.{judgement}
-use Rattle.judging.specs.declared.Judgement.{Judgement}
-use Rattle.judging.specs.declared.Judgement.the-variants.{Accepted, Refused}
-use Rattle.tallying.specs.Tally.{sumFrom, within}
+use Rattle.program_rules.specs.Accepted.{matcher-short, pattern-short}
+use Rattle.program_rules.specs.Lines.{columns, linesOf, laid}
+use Rattle.program_rules.specs.Link.{tosBy, opsIn, bindingsIn, placed}
+use Rattle.program_rules.specs.Columns.{Holds, compiled-zeros}
+use Rattle.review_count.specs.Scan.{noneFrom}
+use Rattle.review_count.specs.Plain.{plain-is}
+use Rattle.tests.specs.Judgements.{judgement}
+use Rattle.tests.specs.declared.Judgement.{Judgement}
+use Rattle.tests.specs.declared.Judgement.the-variants.{Accepted, Refused}
+use Rattle.review_count.specs.Tally.{sumFrom, within}
 use Rattle.services.specs.Reviews.{Sound, sound, countedBy, reviewed}
-use Rattle.tallying.specs.declared.Tally.{Tally}
-use Rattle.tallying.specs.declared.Tally.the-variants.{Count, TooBig}
-use Rattle.tallying.proofs.Counted.{counted-is}
+use Rattle.review_count.specs.declared.count.Tally.{Tally}
+use Rattle.review_count.specs.declared.count.Tally.the-variants.{Count, TooBig}
+use Rattle.review_count.proofs.count.Counted.{counted-is}
 
 -- ---- A rule that was accepted.
 

@@ -7,7 +7,7 @@ use lib.IntN.{ℤ}
 use Rattle.rules.specs.Services.{Judged, accepted, Rule}
 use Rattle.rules.specs.Services as paper
 use Rattle.words.specs.Words.{tagZ, entries}
-use Rattle.tallying.specs.Tally.{sumFrom}
+use Rattle.review_count.specs.Tally.{sumFrom}
 use Rattle.services.specs.declared.review.Reviewed.{Reviewed}
 
 -- Document 01's three numbers.

@@ -1,10 +1,10 @@
 // The service match: a rule's rows on a target, written into a lent room.
-use judging::Judgement;
-use judging::TargetJudgement;
-use judging::rule_refused;
-use judging::target_refused;
 use program::compile;
-use searching::search;
+use search::search;
+use tests::Judgement;
+use tests::TargetJudgement;
+use tests::rule_refused;
+use tests::target_refused;
 use words::ENTRIES;
 ghost use mathlib.Core.Path.{_≡_};
 ghost use Rattle.rules.specs.Services.{match};

@@ -1,10 +1,10 @@
 // The service review: the worst count of steps of a rule, for a largest collection.
-use judging::Judgement;
-use judging::rule_refused;
-use passing::always_true;
 use program::compile;
-use tallying::Tally;
-use tallying::tallied;
+use review_count::always::always_true;
+use review_count::count::Tally;
+use review_count::count::tallied;
+use tests::Judgement;
+use tests::rule_refused;
 use words::ENTRIES;
 use words::tag_of;
 ghost use mathlib.Core.Path.{_≡_};

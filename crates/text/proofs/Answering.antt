@@ -14,16 +14,16 @@ use Rattle.rules.specs.Services.{Judged, accepted, refused, Rule, turnedAway, c
 use Rattle.rules.specs.Services as paper
 use Rattle.services.specs.Matches.{told}
 use Rattle.services.specs.declared.matching.Matched.{Matched}
-use Rattle.printing.specs.Decimal.{lineOf}
-use Rattle.printing.specs.Rows.{cutRows, emptyRows, lines}
-use Rattle.asking.specs.Question.{Question, asked}
+use Rattle.text_print.specs.Decimal.{lineOf}
+use Rattle.text_print.specs.Rows.{cutRows, emptyRows, lines}
+use Rattle.text_ask.specs.Question.{Question, asked}
 use Rattle.text.specs.Printed.{variablesOf, firstLine, report, matched, answerTo, printed, emptyReport, emptyTo, emptyLines}
-use Rattle.asking.specs.Meaning.{ofAsked, Few}
-use Rattle.printing.specs.Meaning.{unreadable, Text, sixLine}
+use Rattle.text_ask.specs.Meaning.{ofAsked, Few}
+use Rattle.text_print.specs.Meaning.{unreadable, Text, sixLine}
 use Rattle.text.specs.Meaning.{zeroWords, Answer}
-use Rattle.printing.specs.declared.rows.Rest.{Rest}
-use Rattle.asking.specs.declared.question.Asked.{Asked}
-use Rattle.asking.specs.declared.question.Asked.the-variants as Asked
+use Rattle.text_print.specs.declared.rows.Rest.{Rest}
+use Rattle.text_ask.specs.declared.question.Asked.{Asked}
+use Rattle.text_ask.specs.declared.question.Asked.the-variants as Asked
 use Rattle.text.specs.declared.Printed.{Printed}
 use Rattle.text.specs.declared.Printed.the-variants as Printed
 

@@ -8,9 +8,9 @@ use borrow.Author.Needs.{needs}
 use lib.IntN.{ℤ}
 use Rattle.rules.specs.Reading.{Verdict, ok, fault, _then_, readPattern}
 use Rattle.rules.specs.Variables.{variables}
-use Rattle.numbering.specs.Variables.{counted}
-use Rattle.numbering.specs.declared.Counted.{Counted}
-use Rattle.numbering.specs.declared.Counted.the-variants as Counted
+use Rattle.test_variables.specs.Variables.{counted}
+use Rattle.test_variables.specs.declared.Counted.{Counted}
+use Rattle.test_variables.specs.declared.Counted.the-variants as Counted
 use Rattle.text.specs.Printed.{orZero, variablesOf}
 
 module _ (n : ℕ) (v : Verdict ℕ) (d : Counted) (q : d ≡ counted v) where

@@ -4,7 +4,7 @@ use mathlib.Core.Path.{_≡_}
 use mathlib.Core.List.{List}
 use lib.ListN.{length, replicate}
 use lib.IntN.{ℤ, pos}
-use Rattle.printing.specs.Meaning.{Text}
+use Rattle.text_print.specs.Meaning.{Text}
 use Rattle.text.specs.Printed.{printed, emptyLines}
 use Rattle.text.specs.declared.Printed.{Printed}
 use Rattle.text.specs.declared.Printed.the-variants as Printed

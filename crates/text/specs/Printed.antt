@@ -8,10 +8,10 @@ use lib.IntN.{ℤ, pos}
 use Rattle.rules.specs.Reading.{Verdict, ok, fault, _then_, readPattern}
 use Rattle.rules.specs.Variables.{variables}
 use Rattle.rules.specs.Services.{Matched, match}
-use Rattle.asking.specs.Question.{Question, asked}
-use Rattle.printing.specs.Decimal.{lineOf}
-use Rattle.printing.specs.Rows.{cutRows, emptyRows, lines}
-use Rattle.printing.specs.Meaning.{unreadable}
+use Rattle.text_ask.specs.Question.{Question, asked}
+use Rattle.text_print.specs.Decimal.{lineOf}
+use Rattle.text_print.specs.Rows.{cutRows, emptyRows, lines}
+use Rattle.text_print.specs.Meaning.{unreadable}
 
 unfoldable pub orZero : Verdict ℕ → ℕ
 orZero (ok n) = n

@@ -6,7 +6,7 @@ use native.Mathlib.Omega.{arith}
 use lib.ListN.{length, take, drop, replicate, length-append, length-replicate, take-append-drop}
 use lib.Seq.{length-take-le, take-at}
 use Rattle.text.specs.Printed.{printed, emptyLines}
-use Rattle.printing.specs.Meaning.{Text}
+use Rattle.text_print.specs.Meaning.{Text}
 use Rattle.text.specs.Meaning.{Answer}
 use Rattle.text.specs.declared.Printed.{Printed}
 use Rattle.text.specs.declared.Printed.the-variants as Printed

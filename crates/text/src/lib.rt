@@ -1,18 +1,18 @@
 // The trial program's text: from its input to what it prints.
-use asking::question::Asked;
-use asking::question::read_input;
-use numbering::Counted;
-use numbering::count_variables;
-use printing::report::put_report;
-use printing::report::put_unreadable;
-use printing::rows::Rest;
 use services::matching::match_units;
+use test_variables::Counted;
+use test_variables::count_variables;
+use text_ask::question::Asked;
+use text_ask::question::read_input;
+use text_print::report::put_report;
+use text_print::report::put_unreadable;
+use text_print::rows::Rest;
 ghost use mathlib.Core.Path.{_≡_};
 ghost use Prim.Native.Nat.{_≤_};
 ghost use lib.ListN.{length};
 ghost use Rattle.rules.specs.Services.{match};
 ghost use Rattle.text.specs.Printed.{variablesOf, report, emptyReport};
-ghost use Rattle.printing.specs.Meaning.{Text};
+ghost use Rattle.text_print.specs.Meaning.{Text};
 ghost use Rattle.text.specs.Meaning.{Answer, zeroWords};
 
 // How many bytes were written, and how many empty lines follow them; or nothing was written, since there are too few bytes for it.

@@ -1,2 +1,4 @@
--- What the leaves on words give.
+-- What the leaves on words and marks give.
 pub mod Words
+pub mod Marks
+pub mod Marked

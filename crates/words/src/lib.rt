@@ -1,4 +1,6 @@
 // Leaves on words: a signed word as an unsigned tag, the sum of tag 3, and a word's bits. Above them all arithmetic is unsigned.
+pub mod marks;
+
 ghost use mathlib.Core.Path.{_≡_};
 ghost use Prim.Native.Nat.{_<_, _^_};
 ghost use lib.IntN.{_+ℤ_};

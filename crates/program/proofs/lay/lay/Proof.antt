@@ -2,7 +2,7 @@
 use Prim.Native.Nat.{_-_}
 use mathlib.Core.Path.{refl}
 use lib.ListN.{length}
-use Rattle.lines.specs.Lines.{columns, getD-same}
+use Rattle.program_rules.specs.Lines.{columns, getD-same}
 use Rattle.program.proofs.Turns.{turn-rules, Here, here-start, here-split, here-leaf, divide-asks, close-asks, close-low, close-sub, close-fits, done-count, done-laid, pop-asks, skip-fits, skip-less}
 use Rattle.program.proofs.lay.lay.Statement.{statement}
 use Rattle.program.proofs.lay.lay.Tie as tie

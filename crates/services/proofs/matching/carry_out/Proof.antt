@@ -1,6 +1,6 @@
 -- `services::matching::carry_out` meets its contract: the search of the compiled rule tells what match is. Assumes nothing.
 use borrow.Author.Needs.{needs}
-use Rattle.searching.specs.Run.{matched}
+use Rattle.search.specs.Run.{matched}
 use Rattle.services.specs.Matches.{told}
 use Rattle.services.proofs.Matches.{matcher-few, pattern-few, ready-target, ready-some, ready-fine, ready-match}
 use Rattle.services.proofs.matching.carry_out.Statement.{statement}

@@ -1,8 +1,0 @@
--- The search machine, from what it asks of held values to the theorem that it is document 01's search at every budget.
-pub mod Held
-pub mod Machine
-pub mod Engine
-pub mod Rep
-pub mod Sim
-pub mod Drive
-pub mod Whole

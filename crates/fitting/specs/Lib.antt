@@ -1,2 +1,0 @@
--- The machine's view of test 4.
-pub mod Fitting

@@ -1,7 +1,0 @@
--- `printing::report::put_report` meets its contract. Assumes nothing.
-use Rattle.printing.proofs.report.Laws.{report-rules}
-use Rattle.printing.proofs.report.put_report.Statement.{statement}
-use Rattle.printing.proofs.report.put_report.Tie as tie
-
-pub put-report-spec : {M : Type 1} → statement M
-put-report-spec = tie.close (tie.spec (λ c κs. search report-rules) (λ c κs. search report-rules) (λ c. search report-rules) (λ c. search report-rules))

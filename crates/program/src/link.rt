@@ -1,0 +1,115 @@
+// The second pass: where the next state stands, from the last line to the first.
+use words::ENTRIES;
+ghost use mathlib.Core.Path.{_≡_};
+ghost use Prim.Native.Nat.{suc, _+_, _-_, _<_, _≤_};
+ghost use mathlib.Core.Bool.{cond};
+ghost use lib.Dec.{eqb};
+ghost use Rattle.words.specs.Words.{entries};
+ghost use Rattle.program_rules.specs.Lines.{binding};
+ghost use Rattle.program_rules.specs.Link.{keeps, takes, opsIn, bindingsIn, tosBy, placed};
+ghost use Rattle.program_rules.specs.Pile.{pile, lower, placeBy, toAt, landAt, piled};
+
+// Whether a line keeps a place for the line that begins what it ends.
+pub fn keeps_place(o: u8) -> bool
+    ensures { λ r. ⌜ r ≡ keeps o ⌝ }
+{
+    match o {
+        17 => true,
+        18 => true,
+        19 => true,
+        _ => false,
+    }
+}
+
+// Whether a line takes the last place kept.
+pub fn takes_place(o: u8) -> bool
+    ensures { λ r. ⌜ r ≡ takes o ⌝ }
+{
+    match o {
+        15 => true,
+        16 => true,
+        18 => true,
+        _ => false,
+    }
+}
+
+// The line's own place: the last one kept, x, where it takes it.
+pub fn to_by(o: u8, land: u16, x: u16) -> u16
+    ensures { λ r. ⌜ r ≡ toAt o land x ⌝ }
+{
+    if takes_place(o) { x } else { land }
+}
+
+// The place that is kept.
+pub fn place_by(o: u8, pc: usize, land: u16) -> u16
+    requires { ⌜ pc < entries ⌝ }
+    ensures { λ r. ⌜ r ≡ placeBy o pc land ⌝ }
+{
+    if o == 18 { (pc + 1) as u16 } else { land }
+}
+
+// Where a state stands that comes to this line, x being the last place kept.
+pub fn land_by(o: u8, pc: usize, land: u16, x: u16) -> u16
+    requires { ⌜ pc < entries ⌝ }
+    ensures { λ r. ⌜ r ≡ landAt o pc land x ⌝ }
+{
+    match o {
+        18 => x,
+        19 => land,
+        _ => pc as u16,
+    }
+}
+
+// How many places are kept when this line has taken its own.
+pub fn lowered(o: u8, depth: usize) -> usize
+    ensures { λ r. ⌜ r ≡ lower o depth ⌝ }
+{
+    if takes_place(o) {
+        if depth == 0 { 0 } else { depth - 1 }
+    } else {
+        depth
+    }
+}
+
+// The places kept after this line: how many.
+pub fn keep(o: u8, pc: usize, land: u16, depth: usize, kept: &mut [u16; 651]) -> usize
+    requires { ⌜ pc < entries ⌝ ∗ ⌜ depth < entries ⌝ }
+    ensures { λ r. ⌜ pile (now (kept .exit)) r ≡ piled o pc land (pile (now (kept .entry)) depth) ⌝ }
+{
+    let d = lowered(o, depth);
+    if keeps_place(o) {
+        kept[d + 1] = place_by(o, pc, land);
+        return d + 1;
+    }
+    d
+}
+
+// How many variables there are with this one.
+pub fn counted(n: usize, o: u8) -> usize
+    requires { ⌜ n < 1000 ⌝ }
+    ensures { λ r. ⌜ r ≡ n + binding o ⌝ }
+{
+    if o == 3 { n + 1 } else { n }
+}
+
+// For each line up to the last the place where the next state stands, and how many variables there are.
+pub fn link(op: &[u8; ENTRIES], last: usize, to: &mut [u16; ENTRIES]) -> usize
+    requires { ⌜ last < entries ⌝ }
+    ensures { λ r. ⌜ r ≡ bindingsIn (opsIn (now (op .entry)) 0 (suc last)) ⌝ ∗ ⌜ now (to .exit) ≡ placed 0 (tosBy (opsIn (now (op .entry)) 0 (suc last))) (now (to .entry)) ⌝ }
+{
+    let mut kept = [0u16; 651];
+    let mut depth: usize = 0;
+    let mut n: usize = 0;
+    let mut pc = last + 1;
+    let mut land = pc as u16;
+    while 0 < pc {
+        pc -= 1;
+        let o = op[pc];
+        let x = kept[depth];
+        to[pc] = to_by(o, land, x);
+        depth = keep(o, pc, land, depth, &mut kept);
+        land = land_by(o, pc, land, x);
+        n = counted(n, o);
+    }
+    n
+}

@@ -1,0 +1,14 @@
+-- `program_lay::divide` meets its contract. Assumes nothing.
+use Rattle.program_lay.proofs.Laws.{divide-rules}
+use Rattle.program_lay.proofs.divide.Statement.{statement}
+use Rattle.program_lay.proofs.divide.Tie as tie
+
+pub divide-spec : {M : Type 1} → statement M
+divide-spec =
+    tie.close
+    (tie.spec
+    (λ c. search divide-rules)
+    (λ c κs. search divide-rules)
+    (λ c. search divide-rules)
+    (λ c κs. search divide-rules)
+    (λ c. search divide-rules))

@@ -1,0 +1,97 @@
+// What a pattern's tag becomes: its instruction, its operands and the places reserved after its line.
+use words::tag_at;
+ghost use mathlib.Core.Path.{_≡_};
+ghost use Prim.Native.Nat.{_+_, _%_, _<_, _≤_};
+ghost use lib.ListN.{getD, drop};
+ghost use lib.IntN.{pos};
+ghost use Rattle.program_rules.specs.Lines.{opOf, operandsOf, beyondTwo, reservedBy, argOf, conOf};
+
+// The instruction of a pattern's tag under a matcher's.
+pub fn op_of(t: u32, k: u32) -> u8
+    ensures { λ r. ⌜ r ≡ opOf t k ⌝ }
+{
+    match t {
+        0 => 2,
+        1 => 3,
+        2 => 4,
+        3 => { if k == 1 { 5 } else { 6 } }
+        4 => 7,
+        5 => match k {
+            2 => 8,
+            3 => 9,
+            _ => 0,
+        },
+        6 => 10,
+        7 => { if k == 4 { 11 } else { 0 } }
+        8 => 14,
+        9 => 15,
+        10 => 16,
+        _ => 0,
+    }
+}
+
+// How many operands follow its tag.
+pub fn operands(o: u8) -> usize
+    ensures { λ r. ⌜ r ≡ operandsOf o ⌝ }
+{
+    if o == 11 {
+        return 1;
+    }
+    match o {
+        0..=2 => 0,
+        3..=4 => 1,
+        5..=6 => 2,
+        _ => 0,
+    }
+}
+
+// How many parts a tuple of k has beyond two.
+pub fn beyond_two(k: u32) -> u8
+    ensures { λ r. ⌜ r ≡ beyondTwo k ⌝ }
+{
+    match k {
+        3 => 1,
+        4 => 2,
+        _ => 0,
+    }
+}
+
+// How many places are reserved after the line of a tag with parts, whose operand is at an index.
+pub fn reserved(p: &[i32], at: usize, o: u8) -> u8
+    ensures { λ r. ⌜ r ≡ reservedBy o (drop at (now (p .entry))) ⌝ }
+{
+    if o == 11 {
+        let k = tag_at(p, at);
+        return beyond_two(k);
+    }
+    0
+}
+
+// The word at an index, and 0 past the end.
+pub fn word_at(p: &[i32], at: usize) -> i32
+    ensures { λ r. ⌜ r ≡ getD (now (p .entry)) at (pos 0) ⌝ }
+{
+    if at < p.len() { p[at] } else { 0 }
+}
+
+// The variable that the first of n operands names.
+pub fn arg_of(p: &[i32], at: usize, n: usize) -> u8
+    ensures { λ r. ⌜ r ≡ argOf n (drop at (now (p .entry))) ⌝ }
+{
+    if n == 0 {
+        return 0;
+    }
+    let t = tag_at(p, at);
+    (t % 16) as u8
+}
+
+// The last of n operands: the constant, or the number that is added.
+pub fn con_of(p: &[i32], at: usize, n: usize) -> i32
+    requires { do ⌜ at + n ≤ (← ⟦p.len()⟧) + 2 ⌝ }
+    ensures { λ r. ⌜ r ≡ conOf n (drop at (now (p .entry))) ⌝ }
+{
+    if n == 0 {
+        return 0;
+    }
+    word_at(p, at + (n - 1))
+}

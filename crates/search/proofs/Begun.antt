@@ -1,0 +1,94 @@
+-- A run before its first state is valid, and the search from there is document 01's; the compiler's arrays are fine.
+use Prim.Native.Nat.{ℕ, _-_, _<_}
+use native.Mathlib.Omega.{arith}
+use mathlib.Core.Path.{_≡_, refl, sym, ap, _∙_, subst}
+use mathlib.Core.List.{List}
+use lib.ListN.{length, getD, replicate, length-replicate, getD-replicate}
+use lib.Pow.{pow-pos}
+use lib.IntN.{ℤ}
+use Rattle.rules.specs.Fit.{fits}
+use Rattle.words.specs.Words.{entries}
+use Rattle.program_rules.specs.Lines.{Line}
+use Rattle.program_rules.specs.Columns.{lineIn}
+use Rattle.value_places.specs.Places.{Target, Tag, marksAt}
+use Rattle.value_places.specs.Held.{Held, wholeAt}
+use Rattle.value_rows.specs.Row.{nothing}
+use Rattle.search_step.specs.Steps.{tables}
+use Rattle.search_machine.proofs.Instance.{target-is}
+use Rattle.search.specs.Run.{Env, Run, run, lineAt, runOf, opening, answerOf, matched, told}
+use Rattle.search.specs.Valid.{Fine, Valid}
+use Rattle.search.specs.Searched.{zeros, unbound, begun, Searched}
+use Rattle.search.proofs.Frames.{held-whole}
+use Rattle.search.proofs.Whole.{search-runs}
+
+zeros-are : (n i : ℕ) → i < n → getD (zeros n) i 0 ≡ 0
+unfolding zeros
+zeros-are n i h = getD-replicate n i 0 0 h
+
+zeros-long : (n : ℕ) → length (zeros n) ≡ n
+unfolding zeros
+zeros-long n = length-replicate n 0
+
+unbound-are : (n i : ℕ) → i < n → getD (unbound n) i nothing ≡ nothing
+unfolding unbound
+unbound-are n i h = getD-replicate n i nothing nothing h
+
+unbound-long : (n : ℕ) → length (unbound n) ≡ n
+unfolding unbound
+unbound-long n = length-replicate n nothing
+
+module _ (e : Env) (some : 0 < length (e .words)) where
+  first-tag : Tag (e .words) 0
+  first-tag = record { even = refl; inside = some }
+
+  first-none : Held (e .words) 0 0
+  first-none = record { tag = first-tag; marks = pow-pos (marksAt (e .words) 0) }
+
+  pub begun-valid : (room : List ℤ) → Valid e (begun e room)
+  unfolding begun opening
+  begun-valid room = record {
+    place = omega arith;
+    held = held-whole 0 first-tag;
+    frames = record {
+      last = record { frame = λ n. absurd (n refl) };
+      below = λ i h. rw (zeros-are entries i h) (record { frame = λ n. absurd (n refl) });
+    };
+    waits = record { held = λ j h z. rw (zeros-are entries j h) first-none };
+    binds = record { most = omega arith; long = unbound-long 16; are = λ v h. rw (unbound-are 16 v h) first-none };
+    room = omega arith;
+    counts = omega arith;
+    long = record { ats = zeros-long entries; wholes = zeros-long entries; lefts = zeros-long entries; lows = zeros-long entries; backs = zeros-long entries };
+  }
+
+  pub searched : Target (e .words) → Fine e → (budget : ℕ) (room : List ℤ) → Searched e budget room (told (runOf e budget (begun e room)))
+  unfolding begun lineAt lineIn
+  searched g fine budget room = record {
+    is = refl;
+    as-defined = λ r v ks holds fit wide closed read fits.
+        search-runs e g fine (r .matcher) (r .pattern) 0 ks fit wide closed (λ pc l. holds .means pc l) (λ pc l. ap (λ (l : Line). l .op) (holds .after pc l)) v 0 (wholeAt (e .words) 0) (target-is (e .words) v read (r .matcher) fits)
+        (tables (zeros entries) (zeros entries) (zeros entries) (zeros entries) (zeros entries)) (unbound 16) room (begun-valid room) budget;
+  }
+
+-- ---- As the code has it.
+
+module _ (e : Env) (some : 0 < length (e .words)) (m : ℕ) (whole : m ≡ wholeAt (e .words) 0) (room : List ℤ) where
+  -- The run as the code begins it.
+  abbrev pub first : Run
+  first = run (record { pc = 0; at = 0; marks = m; top = 0; live = 1; rows = 0; steps = 0; words = 0 })
+      (tables (replicate entries 0) (replicate entries 0) (replicate entries 0) (replicate entries 0) (replicate entries 0)) (replicate 16 nothing) room
+
+  first-is : first ≡ begun e room
+  unfolding begun opening zeros unbound
+  first-is = ap (λ k. run (record { pc = 0; at = 0; marks = k; top = 0; live = 1; rows = 0; steps = 0; words = 0 })
+      (tables (replicate entries 0) (replicate entries 0) (replicate entries 0) (replicate entries 0) (replicate entries 0)) (replicate 16 nothing) room) whole
+
+  pub first-valid : Valid e first
+  first-valid = subst (Valid e) (sym first-is) (begun-valid e some room)
+
+  pub first-searched : Target (e .words) → Fine e → (budget answer : ℕ) (r : Run) → r ≡ runOf e (budget - 0) first → answer ≡ answerOf (r .state .live)
+      → Searched e budget room (matched answer (r .state .rows) (r .state .steps) (r .state .words) (r .room))
+  unfolding told
+  first-searched g fine budget answer r q a =
+      let z : budget - 0 ≡ budget = omega arith in
+      let p : r ≡ runOf e budget (begun e room) = q ∙ ap (λ n. runOf e n first) z ∙ ap (runOf e budget) first-is in
+      rw a (subst (λ k. Searched e budget room (told k)) (sym p) (searched e some g fine budget room))

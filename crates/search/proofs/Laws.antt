@@ -1,0 +1,296 @@
+-- The laws that the code of the run asks for. Assumes nothing.
+use mathlib.Core.Path.{_≡_, refl, sym, _∙_, ap, subst}
+use mathlib.Core.Bool.{Bool, true, false}
+use mathlib.Core.List.{List}
+use Prim.Native.Nat.{ℕ, suc, _+_, _-_, _*_, _^_, _<_, _≤_}
+use native.Mathlib.Omega.{arith}
+use borrow.Author.Needs.{needs}
+use borrow.Author.Tests.{eq-eqb, ne-eqb, lt-ltb, le-ltb, eqb-true, eqb-false}
+use lib.ListN.{length, getD, set}
+use lib.Dec.{eqb}
+use lib.IntN.{ℤ, pos}
+use mir.Syntax.{w64}
+use mir.Val.{Fits}
+use Rattle.rules.specs.Search.{row}
+use Rattle.words.specs.Words.{entries}
+use Rattle.value_places.specs.Places.{Target}
+use Rattle.value_places.specs.Tables.{Ends, Places}
+use Rattle.value_places.specs.Held.{Held, put}
+use Rattle.value_rows.specs.Row.{bound, Bound, nothing}
+use Rattle.value_equality.specs.Equality.{equalAt, isSum}
+use Rattle.value_rows.specs.declared.Binding.{Binding}
+use Rattle.value_places.proofs.Elements.{second}
+use Rattle.search_step.specs.declared.State.{State}
+use Rattle.search_atom.specs.Leaves.{when, passesOf}
+use Rattle.search_step.specs.Steps.{Tables, Turned, tables, turned, counted, dropped, stepBy, stepOf, Steps}
+use Rattle.search_choice.specs.Choices.{pickOf, settleOf, Slots, PicksIf}
+use Rattle.search.specs.Run.{Env, Run, run, Ended, ended, filled, wrote, endBy, endOf, askOf, boundAt, asked, afterTurn, afterEnd, takeEnd, takeBind, takeStep, takeOf, taken, settled, runOf}
+use Rattle.search.specs.Valid.{Fine, Valid, Given, Rows, Takes}
+use Rattle.search.proofs.Keeps.{take-keeps}
+use Rattle.search.proofs.Settles.{settle-keeps}
+use Rattle.search.proofs.Counts.{settled-is, takes-is, run-over, run-more}
+use Rattle.search.proofs.Frames.{top-bound}
+
+-- ---- The row.
+
+module _ (s : List ℤ) (ends base places : List ℕ) (g : Given s ends base places) where
+  pub given-target : Target s
+  given-target = g .target
+
+  pub given-ends : Ends s ends
+  given-ends = g .ended
+
+  pub given-places : Places s base places
+  given-places = g .placed
+
+module _ (s : List ℤ) (b : List Binding) (n : ℕ) (x : State) (room : List ℤ) (h : Rows s b n x room) where
+  pub row-bound : Bound s b n
+  row-bound = h .bound
+
+  pub row-full : (size : ℕ) → size ≡ length (row (bound s b n)) → length room - x .words < size → ended (filled x) room ≡ endOf s n x b room
+  unfolding endOf endBy when
+  row-full size e l = let k : length room - x .words < length (row (bound s b n)) = omega arith in rw (lt-ltb _ _ k)
+
+  pub row-room : (size : ℕ) → size ≡ length (row (bound s b n)) → size ≤ length room - x .words → x .words + length (row (bound s b n)) ≤ length room
+  row-room size e l = let k = h .words in omega arith
+
+  pub row-wrote : (size w : ℕ) (room′ : List ℤ) → size ≡ length (row (bound s b n)) → size ≤ length room - x .words
+      → w ≡ x .words + length (row (bound s b n)) → room′ ≡ put room (x .words) (row (bound s b n))
+      → ended (record { pc = x .pc; at = x .at; marks = x .marks; top = x .top; live = 2; rows = x .rows + 1; steps = x .steps + 1; words = w }) room′ ≡ endOf s n x b room
+  unfolding endOf endBy when wrote
+  row-wrote size w room′ e l i j = let k : length (row (bound s b n)) ≤ length room - x .words = omega arith in rw (le-ltb _ _ k, i, j)
+
+pub ruleset row-rules = (given-target, given-ends, given-places, row-bound, row-full, row-room, row-wrote, needs)
+
+-- ---- The row, or a step.
+
+module _ (o : ℕ) (s : List ℤ) (op from : List ℕ) (b : List Binding) (n : ℕ) (x : State) (room : List ℤ) (h : Takes o s op from b n x room) where
+  pub take-row : o ≡ 0 → Rows s b n x room
+  take-row z = h .row z
+
+  pub take-steps : (o ≡ 0 → ⊥) → Steps s op from x
+  take-steps z = h .step z
+
+module _ (o : ℕ) (q : Bool) (op from to : List ℕ) (con s : List ℤ) (n : ℕ) (x : State) (t : Tables) (b : List Binding) (room : List ℤ) where
+  pub taken-end : (y : State) (room′ : List ℤ) → o ≡ 0 → ended y room′ ≡ endOf s n x b room → run y t b room′ ≡ taken o q op from to con s n (run x t b room)
+  unfolding taken afterEnd when
+  taken-end y room′ z p = rw (eq-eqb _ _ z) (ap (λ (u : Ended). run (u .state) t b (u .room)) p)
+
+  pub taken-step : (y : State) (u : Tables) → (o ≡ 0 → ⊥) → turned y u ≡ stepOf op from to con s q x t → run y u b room ≡ taken o q op from to con s n (run x t b room)
+  unfolding taken afterTurn when
+  taken-step y u z p = rw (ne-eqb _ _ z) (ap (λ (w : Turned). run (w .state) (w .tables) b room) p)
+
+pub ruleset take-rules = (take-row, take-steps, taken-end, taken-step, needs)
+
+-- ---- At the loop's head: the whole run w is what is left of it from here.
+
+pub record Here (e : Env) (w : Run) (budget : ℕ) (room : List ℤ) (r : Run) : Type 0 where
+  pub whole : w ≡ runOf e (budget - r .state .steps) r
+  pub valid : Valid e r
+  pub long : length (r .room) ≡ length room
+
+pub here-start : (e : Env) (n : ℕ) (r : Run) → Valid e r → Here e (runOf e (n - r .state .steps) r) n (r .room) r
+here-start e n r v = record { whole = refl; valid = v; long = refl }
+
+module _ (e : Env) (w : Run) (budget : ℕ) (room : List ℤ) (r : Run) (h : Here e w budget room r) where
+  pub here-end : (r .state .live ≡ 1 → ⊥) → r ≡ w
+  here-end m = sym (h .whole ∙ run-over e (budget - r .state .steps) r m)
+
+  pub here-spent : budget ≤ r .state .steps → r ≡ w
+  unfolding runOf
+  here-spent l = let z : budget - r .state .steps ≡ 0 = omega arith in sym (h .whole ∙ ap (λ (k : ℕ). runOf e k r) z)
+
+  module _ (fine : Fine e) (g : Target (e .words)) (l : r .state .live ≡ 1) (s : r .state .steps < budget) where
+    pub next-steps : (z : Run) → z ≡ settled e (takeOf e r) → z .state .steps ≡ r .state .steps + 1
+    next-steps z q = ap (λ (y : Run). y .state .steps) q ∙ settled-is e (takeOf e r) .steps ∙ takes-is e r (h .valid .room) .steps
+
+    pub here-next : (z : Run) → z ≡ settled e (takeOf e r) → Here e w budget room z
+    here-next z q =
+        let c = next-steps z q in
+        let p : budget - r .state .steps ≡ suc (budget - z .state .steps) = omega arith in
+        record {
+          whole = h .whole ∙ ap (λ (k : ℕ). runOf e k r) p ∙ run-more e (budget - z .state .steps) r l ∙ ap (runOf e (budget - z .state .steps)) (sym q);
+          valid = subst (Valid e) (sym q) (settle-keeps e fine g (takeOf e r) (take-keeps e fine g r (h .valid) l));
+          long = ap (λ (y : Run). length (y .room)) q ∙ ap length (settled-is e (takeOf e r) .room) ∙ takes-is e r (h .valid .room) .long ∙ h .long;
+        }
+
+    pub next-less : (z : Run) → z ≡ settled e (takeOf e r) → budget - z .state .steps < budget - r .state .steps
+    next-less z q = let c = next-steps z q in omega arith
+
+-- ---- What the branches before a step leave: the answer to tag 3, and the bindings.
+
+pub record Asked (e : Env) (r : Run) (q : Bool) (b : List Binding) : Type 0 where
+  pub ask : q ≡ asked e r
+  pub binds : b ≡ when (eqb (getD (e .op) (r .state .pc) 0) 3) (set (r .binds) (getD (e .arg) (r .state .pc) 0) (record { at = r .state .at; marks = r .state .marks })) (r .binds)
+
+module _ (e : Env) (x : State) (t : Tables) (b : List Binding) (room : List ℤ) (q : Bool) (b′ : List Binding) where
+  not-asked : (getD (e .op) (x .pc) 0 ≡ 5 → ⊥) → (getD (e .op) (x .pc) 0 ≡ 6 → ⊥) → asked e (run x t b room) ≡ false
+  unfolding asked askOf when
+  not-asked n m = rw (ne-eqb (getD (e .op) (x .pc) 0) 5 n, ne-eqb (getD (e .op) (x .pc) 0) 6 m)
+
+  pub asked-3 : (v : ℕ) → getD (e .op) (x .pc) 0 ≡ 3 → v ≡ getD (e .arg) (x .pc) 0 → b′ ≡ set b v (record { at = x .at; marks = x .marks }) → q ≡ false
+      → Asked e (run x t b room) q b′
+  unfolding when
+  asked-3 v z a p f = record {
+    ask = f ∙ sym (not-asked (λ y. omega arith) (λ y. omega arith));
+    binds = p ∙ rw (a, eq-eqb _ _ z);
+  }
+
+  asked-n : (getD (e .op) (x .pc) 0 ≡ 3 → ⊥) → (getD (e .op) (x .pc) 0 ≡ 5 → ⊥) → (getD (e .op) (x .pc) 0 ≡ 6 → ⊥) → b′ ≡ b → q ≡ false → Asked e (run x t b room) q b′
+  unfolding when
+  asked-n n m k p f = record { ask = f ∙ sym (not-asked m k); binds = p ∙ rw (ne-eqb _ _ n) }
+
+  -- Instructions below 3; 4; from 7 on.
+  pub asked-below : getD (e .op) (x .pc) 0 ≤ 2 → b′ ≡ b → q ≡ false → Asked e (run x t b room) q b′
+  asked-below l = asked-n (λ y. omega arith) (λ y. omega arith) (λ y. omega arith)
+
+  pub asked-4 : getD (e .op) (x .pc) 0 < 5 → (getD (e .op) (x .pc) 0 ≡ 3 → ⊥) → b′ ≡ b → q ≡ false → Asked e (run x t b room) q b′
+  asked-4 l n = asked-n n (λ y. omega arith) (λ y. omega arith)
+
+  pub asked-above : 7 ≤ getD (e .op) (x .pc) 0 → b′ ≡ b → q ≡ false → Asked e (run x t b room) q b′
+  asked-above l = asked-n (λ y. omega arith) (λ y. omega arith) (λ y. omega arith)
+
+  pub asked-5 : (v : ℕ) (r : Bool) (c : ℤ) → getD (e .op) (x .pc) 0 ≡ 5 → v ≡ getD (e .arg) (x .pc) 0 → b′ ≡ b → q ≡ r → c ≡ getD (e .con) (x .pc) (pos 0)
+      → r ≡ isSum (e .words) (getD b v nothing .at) c (x .at) → Asked e (run x t b room) q b′
+  unfolding asked askOf boundAt when
+  asked-5 v r c z a p f d h = record { ask = f ∙ h ∙ rw (d, a, eq-eqb _ 5 z); binds = p ∙ rw (ne-eqb (getD (e .op) (x .pc) 0) 3 (λ y. omega arith)) }
+
+  pub asked-6 : (v i : ℕ) (r : Bool) → (getD (e .op) (x .pc) 0 ≡ 5 → ⊥) → 5 ≤ getD (e .op) (x .pc) 0 → getD (e .op) (x .pc) 0 < 7 → v ≡ getD (e .arg) (x .pc) 0
+      → i ≡ getD (e .mat) (x .pc) 0 → b′ ≡ b → q ≡ r → r ≡ equalAt (e .matcher) i (e .words) (getD b v nothing .at) (getD b v nothing .marks) (x .at) (x .marks)
+      → Asked e (run x t b room) q b′
+  unfolding asked askOf boundAt when
+  asked-6 v i r m k l a d p f h =
+      let z : getD (e .op) (x .pc) 0 ≡ 6 = omega arith in
+      record { ask = f ∙ h ∙ rw (d, a, ne-eqb _ 5 m, eq-eqb _ 6 z); binds = p ∙ rw (ne-eqb (getD (e .op) (x .pc) 0) 3 (λ y. omega arith)) }
+
+-- ---- A turn.
+
+step-3 : (from to : List ℕ) (con s : List ℤ) (q : Bool) (x : State) (t : Tables) → stepBy 3 from to con s q x t ≡ turned (dropped from to (t .ats) (t .backs) x) t
+unfolding stepBy when passesOf
+step-3 from to con s q x t = refl
+
+step-bind : (op from to : List ℕ) (con s : List ℤ) (q : Bool) (x : State) (t : Tables) → getD op (x .pc) 0 ≡ 3
+    → stepOf op from to con s q x t ≡ turned (dropped from to (t .ats) (t .backs) (counted x)) t
+unfolding stepOf
+step-bind op from to con s q x t z = ap (λ (o : ℕ). stepBy o from to con s q (counted x) t) z ∙ step-3 from to con s q (counted x) t
+
+module _ (e : Env) (x : State) (t : Tables) (b : List Binding) (room : List ℤ) (q : Bool) (b′ : List Binding) (a : Asked e (run x t b room) q b′) where
+  same-binds : (getD (e .op) (x .pc) 0 ≡ 3 → ⊥) → b′ ≡ b
+  unfolding when
+  same-binds n = a .binds ∙ rw (ne-eqb _ _ n)
+
+  new-binds : getD (e .op) (x .pc) 0 ≡ 3 → b′ ≡ set b (getD (e .arg) (x .pc) 0) (record { at = x .at; marks = x .marks })
+  unfolding when
+  new-binds z = a .binds ∙ rw (eq-eqb _ _ z)
+
+  took-0 : getD (e .op) (x .pc) 0 ≡ 0 → taken (getD (e .op) (x .pc) 0) q (e .op) (e .from) (e .to) (e .con) (e .words) (e .vars) (run x t b′ room) ≡ takeOf e (run x t b room)
+  unfolding taken takeOf takeEnd afterEnd when
+  took-0 z = rw (eq-eqb _ _ z, same-binds (λ y. omega arith))
+
+  took-3 : getD (e .op) (x .pc) 0 ≡ 3 → taken (getD (e .op) (x .pc) 0) q (e .op) (e .from) (e .to) (e .con) (e .words) (e .vars) (run x t b′ room) ≡ takeOf e (run x t b room)
+  unfolding taken takeOf takeBind afterTurn when
+  took-3 z =
+      rw (ne-eqb _ 0 (λ (y : getD (e .op) (x .pc) 0 ≡ 0). omega arith), eq-eqb _ 3 z, new-binds z)
+      (ap (λ (u : Turned). run (u .state) (u .tables) (set b (getD (e .arg) (x .pc) 0) (record { at = x .at; marks = x .marks })) room)
+      (step-bind (e .op) (e .from) (e .to) (e .con) (e .words) q x t z))
+
+  took-n : (getD (e .op) (x .pc) 0 ≡ 0 → ⊥) → (getD (e .op) (x .pc) 0 ≡ 3 → ⊥)
+      → taken (getD (e .op) (x .pc) 0) q (e .op) (e .from) (e .to) (e .con) (e .words) (e .vars) (run x t b′ room) ≡ takeOf e (run x t b room)
+  unfolding taken takeOf takeStep afterTurn when
+  took-n n m = rw (ne-eqb _ _ n, ne-eqb _ _ m, same-binds m, a .ask)
+
+  -- What `take` gives is the state taken up.
+  pub took : (r : Run) → r ≡ taken (getD (e .op) (x .pc) 0) q (e .op) (e .from) (e .to) (e .con) (e .words) (e .vars) (run x t b′ room) → r ≡ takeOf e (run x t b room)
+  took r p = p ∙ go (eqb (getD (e .op) (x .pc) 0) 0) (eqb (getD (e .op) (x .pc) 0) 3) refl refl
+    where
+      go : (c d : Bool) → eqb (getD (e .op) (x .pc) 0) 0 ≡ c → eqb (getD (e .op) (x .pc) 0) 3 ≡ d
+          → taken (getD (e .op) (x .pc) 0) q (e .op) (e .from) (e .to) (e .con) (e .words) (e .vars) (run x t b′ room) ≡ takeOf e (run x t b room)
+      go true d i j = took-0 (eqb-true _ _ i)
+      go false true i j = took-3 (eqb-true _ _ j)
+      go false false i j = took-n (eqb-false _ _ i) (eqb-false _ _ j)
+
+  -- What a row and a step ask.
+  module _ (fine : Fine e) (g : Target (e .words)) (v : Valid e (run x t b room)) (l : x .steps + 1 < 2 ^ 64) where
+    steps-ask : Steps (e .words) (e .op) (e .from) x
+    steps-ask =
+        let h = v .held .tag .inside in
+        let s = g .short in
+        record {
+          place = v .place;
+          next = fine .slots (x .pc) (v .place);
+          tag = v .held .tag;
+          word = second (e .words) (x .at) g (v .held .tag);
+          small = omega arith;
+          frame = top-bound (x .top) (λ n. v .frames .last .frame n .place);
+          count = l;
+          parts = fine .parts (x .pc) (v .place);
+        }
+
+    rows-ask : Rows (e .words) b (e .vars) x room
+    rows-ask =
+        let c = v .counts in
+        record {
+          bound = record { most = fine .few; long = v .binds .long; are = λ i h. v .binds .are i (let k = fine .few in omega arith) };
+          steps = l;
+          rows = omega arith;
+          words = v .room;
+        }
+
+    pub turn-takes : Takes (getD (e .op) (x .pc) 0) (e .words) (e .op) (e .from) b′ (e .vars) x room
+    turn-takes = record { row = λ z. rw (same-binds (λ y. omega arith)) rows-ask; step = λ z. steps-ask }
+
+    pub turn-picks : x .live ≡ 1 → (y : State) (u : Tables) (k : List Binding) (room′ : List ℤ) → run y u k room′ ≡ takeOf e (run x t b room)
+        → PicksIf (y .live) (e .op) (e .words) (y .top) (u .ats) (u .wholes) (u .lefts)
+    turn-picks o y u k room′ p = record { picks = λ z. subst (Valid e) (sym p) (take-keeps e fine g (run x t b room) v o) .frames .last }
+
+settle-by : (e : Env) (r : Run) (c : Bool)
+    → afterTurn (when c (pickOf (e .op) (e .from) (e .to) (e .words) (r .state) (r .tables)) (turned (r .state) (r .tables))) (r .binds) (r .room)
+    ≡ when c (afterTurn (pickOf (e .op) (e .from) (e .to) (e .words) (r .state) (r .tables)) (r .binds) (r .room)) r
+unfolding when afterTurn
+settle-by e r true = refl
+settle-by e r false = refl
+
+pub settled-by : (e : Env) (r : Run) (y : State) (u : Tables) → turned y u ≡ settleOf (e .op) (e .from) (e .to) (e .words) (r .state) (r .tables) → run y u (r .binds) (r .room) ≡ settled e r
+unfolding settled settleOf afterTurn
+settled-by e r y u p = ap (λ (z : Turned). run (z .state) (z .tables) (r .binds) (r .room)) p ∙ go (eqb (r .state .live) 2)
+  where
+    go : (c : Bool) → afterTurn (when c (pickOf (e .op) (e .from) (e .to) (e .words) (r .state) (r .tables)) (turned (r .state) (r .tables))) (r .binds) (r .room)
+        ≡ when c (afterTurn (pickOf (e .op) (e .from) (e .to) (e .words) (r .state) (r .tables)) (r .binds) (r .room)) r
+    go c = settle-by e r c
+
+pub fine-slots : (e : Env) → Fine e → Slots (e .from)
+fine-slots e f = record { there = f .slots }
+
+-- ---- A state stands, and the budget is not used up.
+
+pub record Ready (e : Env) (r : Run) : Type 0 where
+  pub fine : Fine e
+  pub target : Target (e .words)
+  pub valid : Valid e r
+  pub live : r .state .live ≡ 1
+  pub count : r .state .steps + 1 < 2 ^ 64
+
+pub ready : (e : Env) (w : Run) (budget : ℕ) (room : List ℤ) (r : Run) → Here e w budget room r → Fine e → Target (e .words) → r .state .live ≡ 1
+    → r .state .steps < budget → budget < 2 ^ 64 → Ready e r
+ready e w budget room r h f g l s b = record { fine = f; target = g; valid = h .valid; live = l; count = omega arith }
+
+module _ (e : Env) (x : State) (t : Tables) (b : List Binding) (room : List ℤ) (h : Ready e (run x t b room)) where
+  pub ready-place : x .pc < entries
+  ready-place = h .valid .place
+
+  pub ready-mul : Fits w64 (x .pc * 4)
+  ready-mul = let l = h .valid .place in record { fits = omega arith }
+
+  -- The variable that the line names.
+  module _ (v : ℕ) (n : v ≡ getD (e .arg) (x .pc) 0) where
+    pub ready-number : v < 16
+    ready-number = rw n (h .fine .numbers (x .pc) (h .valid .place))
+
+    pub ready-number-mul : Fits w64 (v * 16)
+    ready-number-mul = let l = ready-number in record { fits = omega arith }
+
+    pub ready-bound : Held (e .words) (getD b v nothing .at) (getD b v nothing .marks)
+    ready-bound = h .valid .binds .are v ready-number
+
+    pub ready-sum : (getD b v nothing .at + 1 < length (e .words)) × (x .at + 1 < length (e .words))
+    ready-sum = (second (e .words) (getD b v nothing .at) (h .target) (ready-bound .tag), second (e .words) (x .at) (h .target) (h .valid .held .tag))

@@ -1,0 +1,224 @@
+// Document 01, section 4: "a run takes up states until none remain or the budget is used". The bindings are sixteen structs by value, beside the state.
+pub mod taking;
+
+use search_choice::settle;
+use search_step::State;
+use taking::take;
+use value_equality::equal;
+use value_equality::is_sum;
+use value_places::places::ends_of;
+use value_places::places::places_of;
+use value_places::places::whole;
+use value_rows::Binding;
+use value_rows::bind;
+use words::ENTRIES;
+ghost use mathlib.Core.Path.{_≡_};
+ghost use Prim.Native.Nat.{_-_, _<_};
+ghost use lib.ListN.{length};
+ghost use Rattle.program_rules.specs.Lines.{columns};
+ghost use Rattle.value_places.specs.Places.{Target};
+ghost use Rattle.search_step.specs.Steps.{tables};
+ghost use Rattle.search.specs.Run.{env, run, runOf, answerOf, matched};
+ghost use Rattle.search.specs.Valid.{Given, Fine, Valid};
+ghost use Rattle.search.specs.Searched.{Searched};
+
+// A number of a line, as an index.
+fn index(x: u8) -> usize
+    ensures { λ r. ⌜ r ≡ x ⌝ }
+{
+    x as usize
+}
+
+pub struct Found {
+    pub state: State,
+    pub binds: [Binding; 16],
+}
+
+// The run: states are taken up while the budget lasts, and the next choice is taken wherever no state stands.
+pub fn advance(
+    first: State,
+    given: [Binding; 16],
+    budget: u64,
+    n: usize,
+    mt: &[i32],
+    s: &[i32],
+    ends: &[u16; 512],
+    base: &[u16; 512],
+    places: &[u16; 512],
+    op: &[u8; ENTRIES],
+    from: &[u16; ENTRIES],
+    to: &[u16; ENTRIES],
+    arg: &[u8; ENTRIES],
+    mat: &[u8; ENTRIES],
+    con: &[i32; ENTRIES],
+    ats: &mut [u16; ENTRIES],
+    wholes: &mut [u64; ENTRIES],
+    lefts: &mut [u64; ENTRIES],
+    lows: &mut [u16; ENTRIES],
+    backs: &mut [u64; ENTRIES],
+    room: &mut [i32],
+) -> Found
+    requires { ⌜ Given (now s) (now ends) (now base) (now places) ⌝ ∗ ⌜ Fine (env (now op) (now from) (now to) (now arg) (now mat) (now con) (now mt) (now s) n) ⌝ ∗ ⌜ Valid (env (now op) (now from) (now to) (now arg) (now mat) (now con) (now mt) (now s) n) (run first (tables (now ats) (now wholes) (now lefts) (now lows) (now backs)) given (now room)) ⌝ }
+    ensures { λ r. ⌜ run (r .state) (tables (now (ats .exit)) (now (wholes .exit)) (now (lefts .exit)) (now (lows .exit)) (now (backs .exit))) (r .binds) (now (room .exit)) ≡ runOf (env (now (op .entry)) (now (from .entry)) (now (to .entry)) (now (arg .entry)) (now (mat .entry)) (now (con .entry)) (now (mt .entry)) (now (s .entry)) n) (budget - first .steps) (run first (tables (now (ats .entry)) (now (wholes .entry)) (now (lefts .entry)) (now (lows .entry)) (now (backs .entry))) given (now (room .entry))) ⌝ }
+{
+    let mut x = first;
+    let mut b = given;
+    while x.live == 1 {
+        let steps = x.steps;
+        if budget <= steps {
+            return Found { state: x, binds: b };
+        }
+        let pc = x.pc;
+        let at = x.at;
+        let m = x.marks;
+        let o = op[pc];
+        let mut q = false;
+        if 2 < o {
+            if o == 5 {
+                let v = index(arg[pc]);
+                let y = b[v];
+                let g = y.at;
+                let c = con[pc];
+                q = is_sum(s, g, c, at);
+            } else if o < 5 {
+                if o == 3 {
+                    let v = index(arg[pc]);
+                    b = bind(b, v, Binding { at: at, marks: m });
+                }
+            } else if o < 7 {
+                let v = index(arg[pc]);
+                let y = b[v];
+                let g = y.at;
+                let k = y.marks;
+                let i = index(mat[pc]);
+                q = equal(mt, i, s, base, places, g, k, at, m);
+            }
+        }
+        x = take(
+            x,
+            o,
+            q,
+            b,
+            n,
+            s,
+            ends,
+            base,
+            places,
+            op,
+            from,
+            to,
+            con,
+            ats,
+            wholes,
+            lefts,
+            lows,
+            backs,
+            room,
+        );
+        x = settle(
+            x,
+            s,
+            base,
+            places,
+            op,
+            from,
+            to,
+            ats,
+            wholes,
+            lefts,
+            lows,
+            backs,
+        );
+    }
+    Found { state: x, binds: b }
+}
+
+pub struct Report {
+    pub answer: u32,
+    pub rows: u64,
+    pub steps: u64,
+    pub words: usize,
+}
+
+// The answer: 8 full, 0 done, 7 budget.
+fn answer_of(live: u64) -> u32
+    ensures { λ r. ⌜ r ≡ answerOf live ⌝ }
+{
+    if live == 3 {
+        return 8;
+    }
+    if live == 0 {
+        return 0;
+    }
+    7
+}
+
+// The whole run of a program on a target, from its first state.
+pub fn search(
+    budget: u32,
+    n: usize,
+    mt: &[i32],
+    s: &[i32],
+    op: &[u8; ENTRIES],
+    from: &[u16; ENTRIES],
+    to: &[u16; ENTRIES],
+    arg: &[u8; ENTRIES],
+    mat: &[u8; ENTRIES],
+    con: &[i32; ENTRIES],
+    room: &mut [i32],
+) -> Report
+    requires { ⌜ Target (now s) ⌝ ∗ ⌜ 0 < length (now s) ⌝ ∗ ⌜ Fine (env (now op) (now from) (now to) (now arg) (now mat) (now con) (now mt) (now s) n) ⌝ }
+    ensures { λ r. ⌜ Searched (env (now (op .entry)) (now (from .entry)) (now (to .entry)) (now (arg .entry)) (now (mat .entry)) (now (con .entry)) (now (mt .entry)) (now (s .entry)) n) budget (now (room .entry)) (matched (r .answer) (r .rows) (r .steps) (r .words) (now (room .exit))) ⌝ }
+{
+    let mut ends = [0u16; 512];
+    let mut base = [0u16; 512];
+    let mut places = [0u16; 512];
+    ends_of(s, &mut ends);
+    places_of(s, &ends, &mut base, &mut places);
+    let mut ats = [0u16; ENTRIES];
+    let mut wholes = [0u64; ENTRIES];
+    let mut lefts = [0u64; ENTRIES];
+    let mut lows = [0u16; ENTRIES];
+    let mut backs = [0u64; ENTRIES];
+    let given = [Binding { at: 0, marks: 0 }; 16];
+    let first = State {
+        pc: 0,
+        at: 0,
+        marks: whole(s, 0),
+        top: 0,
+        live: 1,
+        rows: 0,
+        steps: 0,
+        words: 0,
+    };
+    let found = advance(
+        first,
+        given,
+        budget as u64,
+        n,
+        mt,
+        s,
+        &ends,
+        &base,
+        &places,
+        op,
+        from,
+        to,
+        arg,
+        mat,
+        con,
+        &mut ats,
+        &mut wholes,
+        &mut lefts,
+        &mut lows,
+        &mut backs,
+        room,
+    );
+    let x = found.state;
+    Report {
+        answer: answer_of(x.live),
+        rows: x.rows,
+        steps: x.steps,
+        words: x.words,
+    }
+}

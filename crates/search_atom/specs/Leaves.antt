@@ -1,0 +1,63 @@
+-- Document 01, section 4, on numbers: an atom's test, the choices of a cons or a join, the parts of a tuple.
+use Prim.Native.Nat.{ℕ, zero, suc, _+_, _^_}
+use mathlib.Core.Bool.{Bool, true, false}
+use mathlib.Core.List.{List}
+use lib.ListN.{getD, set}
+use lib.Dec.{eqb}
+use lib.Count.{trailingZeros}
+use lib.IntN.{ℤ, pos}
+use Rattle.rules.specs.Numbers.{same}
+use Rattle.value_places.specs.Places.{countAt, elementAt}
+use Rattle.value_places.specs.Held.{wholeAt}
+
+-- One or the other.
+unfoldable pub when : {A : Type 0} → Bool → A → A → A
+when true x y = x
+when false x y = y
+
+-- Whether the atom's test holds: 4 a constant, 5 and 6 a value (asked before, q), 7 nil.
+unfoldable pub passesOf : ℕ → Bool → List ℤ → ℕ → ℕ → ℤ → Bool
+unfolding when
+passesOf o q s at m z = when (eqb o 4) (same (getD s (at + 1) (pos 0)) z) (when (eqb o 5) q (when (eqb o 6) q (when (eqb o 7) (eqb m 0) true)))
+
+-- The choices that a frame is opened with: 8 list cons, 9 multiset cons, 10 join. A choice of a cons is a place, one of a join a front.
+unfoldable pub opensOf : ℕ → ℕ → ℕ
+unfolding when
+opensOf o m = when (eqb o 10) 0 (when (eqb o 8) (2 ^ trailingZeros 64 m) m)
+
+unfoldable pub noneOf : ℕ → ℕ → Bool
+unfolding when
+noneOf o m = when (eqb o 10) false (eqb m 0)
+
+-- Entries written one after the other: f i and those after it, n of them, from the entry j on.
+unfoldable pub stored : (ℕ → ℕ) → (j i n : ℕ) → List ℕ → List ℕ
+stored f j i zero l = l
+stored f j i (suc n) l = stored f (j + 1) (i + 1) n (set l j (f i))
+
+-- A tuple, n of whose parts wait: whether the value has n + 1 parts, and the marks of part i.
+unfoldable pub isWide : List ℤ → (at n : ℕ) → Bool
+unfolding countAt
+isWide s at n = eqb (countAt s at) (n + 1)
+
+unfoldable pub partMarks : List ℤ → (at i : ℕ) → ℕ
+unfolding elementAt wholeAt
+partMarks s at i = wholeAt s (elementAt s at i)
+
+-- What is left to choose from at j: with nothing left the frame is no longer open.
+unfoldable pub topBy : ℕ → ℕ → List ℕ → ℕ → ℕ
+unfolding when
+topBy more j lows top = when (eqb more 0) (getD lows j 0) top
+
+unfoldable pub nowLeft : ℕ → ℕ → List ℕ → List ℕ
+unfolding when
+nowLeft more j lefts = when (eqb more 0) lefts (set lefts j more)
+
+-- The next longer front; 0 where the back is empty.
+unfoldable pub longerOf : ℕ → ℕ → ℕ
+unfolding when
+longerOf c b = when (eqb b 0) 0 (c + 2 ^ trailingZeros 64 b)
+
+-- The slot of the value with which a frame's choice goes on.
+unfoldable pub slotBy : (o j : ℕ) → (from : List ℕ) → ℕ
+unfolding when
+slotBy o j from = when (eqb o 15) j (getD from j 0)

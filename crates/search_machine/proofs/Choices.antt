@@ -1,0 +1,206 @@
+-- The choices of cons and join by marks are the definitions' choices, one by one in their order. Assumes nothing.
+use Prim.Native.Nat.{ℕ, zero, suc, _+_, _-_, _^_, _<_}
+use mathlib.Core.Path.{_≡_, refl, sym, _∙_, ap, ap₂, subst}
+use mathlib.Core.Option.{Option, none, some}
+use mathlib.Core.List.{List, [], _∷_, map}
+use native.Mathlib.Nat.{add-zero}
+use native.Mathlib.Omega.{arith}
+use borrow.Author.Tests.{eq-eqb, ne-eqb}
+use lib.Pow.{pow-pos, pow-lt}
+use lib.Count.{trailingZeros}
+use lib.IntN.{ℤ}
+use Rattle.rules.specs.Forms.{Matcher, list, multiset, Value, collection, Values}
+use Rattle.rules.specs.Fit.{takes, tagsOf, among}
+use Rattle.rules.specs.Search.{Halves, consHalves, joinHalves}
+use Rattle.words.specs.Words.{tagAt}
+use Rattle.words.specs.Marks.{clear, positions, raise, splits, Longer}
+use Rattle.words.specs.Marked.{held, choiceAt, partsAt}
+use Rattle.words.proofs.marks.Places.{low-digit, clear-add, positions-one, positions-low, positions-none}
+use Rattle.words.proofs.marks.Fronts.{raise-none, splits-next, splits-last}
+use Rattle.words.proofs.marks.Marked.{cons-multiset, cons-list, cons-list-none, join-splits}
+use Rattle.value_places.specs.Places.{valueAt, elements, countAt, Target, elementAt}
+use Rattle.value_places.specs.Held.{Held, heldAt, left}
+use Rattle.value_rows.specs.Row.{holds}
+use Rattle.value_rows.specs.declared.Binding.{Binding}
+use Rattle.value_places.proofs.Held.{held-collection, marks-all, held-64, held-less, held-clear, held-some, whole-held, whole-value, next-in, next-64, next-tag, next-value}
+use Rattle.program_rules.specs.Points.{Kind, listCons, multisetCons, joins, over, firstBy, halves}
+use Rattle.search_machine.specs.Held.{Picked, Opened}
+use Rattle.search_atom.specs.Leaves.{when, opensOf, noneOf, longerOf}
+use Rattle.search_machine.specs.Fitting.{Fine}
+use Rattle.search_machine.specs.Operations.{Is, code, someOf, opensBy, opens, partOf, takePlace, takeFront, pick, elementsAt, LeftPlaces, LeftFronts, Left}
+use Rattle.search_machine.proofs.Fitting.{halves-fine}
+use Rattle.search_machine.proofs.Tests.{is-many}
+
+-- What a pick says of the choices.
+abbrev pub Picks : List ℤ → Kind → Binding → Picked Binding ℕ → List Halves → Type 0
+Picks s k h p hs = (f : Halves) × (rest : List Halves) × (hs ≡ f ∷ rest) × Is s (firstBy k) (p .one) (f .first) × Is s (over k) (p .two) (f .second) × Opened (Left s k h) (p .more) rest
+
+some-none : (c : ℕ) → c ≡ 0 → someOf c ≡ none
+unfolding someOf when
+some-none c z = rw (eq-eqb c 0 z)
+
+some-some : (c : ℕ) → 0 < c → someOf c ≡ some c
+unfolding someOf when
+some-some c h = rw (ne-eqb c 0 (λ z. omega arith))
+
+minus-none : (m : ℕ) → m ≡ m - 0
+minus-none m = omega arith
+
+by-zero : (P : Type 0) (c : ℕ) → (c ≡ 0 → P) → (0 < c → P) → P
+by-zero P zero f h = f refl
+by-zero P (suc c) f h = h (omega arith)
+
+module _ (s : List ℤ) (g : Target s) where
+  -- What is held of a collection.
+  of-elements : (at m : ℕ) → Held s at m → tagAt s at ≡ 1 → heldAt s at m ≡ held (collection (elements (valueAt s at))) m
+  unfolding held left
+  of-elements at m w f = held-collection s at m g (w .tag) f
+
+  -- ---- Cons: places.
+
+  module _ (k : Kind) (h : Binding) (c : ℕ) (w : Held s (h .at) (h .marks)) (f : tagAt s (h .at) ≡ 1) (hs : List Halves) (fine : Fine k hs) where
+    places-opened : Held s (h .at) c → hs ≡ map (choiceAt (elementsAt s h) (h .marks)) (positions 64 c)
+        → ((c : ℕ) → LeftPlaces s k h c hs → Left s k h c hs) → Opened (Left s k h) (someOf c) hs
+    unfolding Opened
+    places-opened u e into = by-zero _ c
+        (λ z. rw (some-none c z) (e ∙ rw (z, positions-none 64)))
+        (λ z. rw (some-some c z) (into c (record { held = w; many = f; some = z; choices = u; are = e; fine = fine })))
+
+  place-taken : (k : Kind) (h : Binding) (c : ℕ) (hs : List Halves) → ((c : ℕ) (us : List Halves) → LeftPlaces s k h c us → Left s k h c us)
+      → LeftPlaces s k h c hs → Picks s k h (takePlace s h c (trailingZeros 64 c)) hs
+  unfolding takePlace partOf holds choiceAt Fine
+  place-taken k h c hs into l =
+      let t = trailingZeros 64 c in
+      let e = elementAt s (h .at) t in
+      let vs = elementsAt s h in
+      let tag = next-tag s (h .at) c t g (l .choices) refl (l .some) e refl in
+      let here = l .are ∙ ap (map (choiceAt vs (h .marks))) (positions-low 64 c (l .some) (held-64 s (h .at) c g (l .choices))) in
+      let fine : Fine k (choiceAt vs (h .marks) t ∷ map (choiceAt vs (h .marks)) (positions 64 (clear t c))) = subst (Fine k) here (l .fine) in
+      let u = held-clear s (h .at) c t (clear t c) (l .choices) refl in
+      let two = held-clear s (h .at) (h .marks) t (clear t (h .marks)) (l .held) refl in (
+        choiceAt vs (h .marks) t,
+        map (choiceAt vs (h .marks)) (positions 64 (clear t c)),
+        here,
+        record { held = whole-held s e g tag; is = whole-value s e g tag ∙ next-value s (h .at) c t g (l .choices) refl (l .some) e refl; fits = fine .0 },
+        record { held = two; is = of-elements (h .at) (clear t (h .marks)) two (l .many); fits = fine .1 },
+        places-opened k h (clear t c) (l .held) (l .many) (map (choiceAt vs (h .marks)) (positions 64 (clear t c))) (fine .2) u refl (λ d. into d _),
+      )
+
+  -- ---- Join: fronts.
+
+  module _ (m : Matcher) (h : Binding) where
+    fronts-left : (f : ℕ) (hs : List Halves) → LeftFronts s (joins m) h f hs → Left s (joins m) h f hs
+    unfolding Left
+    fronts-left f hs l = l
+
+    longer-is : (f b : ℕ) → 0 < b → b < 2 ^ 64 → Longer f b (f + 2 ^ trailingZeros 64 b) (clear (trailingZeros 64 b) b)
+    longer-is f b z l = let c = clear-add (trailingZeros 64 b) b (low-digit 64 b z l) in record { front = refl; back = refl; sum = omega arith }
+
+    front-halves : (f b : ℕ) → Held s (h .at) f → Held s (h .at) b → tagAt s (h .at) ≡ 1 → partsAt (elementsAt s h) (record { front = f + 0; back = b })
+        ≡ record { first = heldAt s (h .at) f; second = heldAt s (h .at) b }
+    unfolding partsAt
+    front-halves f b u w n = rw (add-zero f, of-elements (h .at) f u n, of-elements (h .at) b w n)
+
+    more-none : (f b : ℕ) → b ≡ 0 → someOf (longerOf f b) ≡ none
+    unfolding longerOf when
+    more-none f b z = ap someOf (rw (eq-eqb b 0 z)) ∙ some-none 0 refl
+
+    more-some : (f b : ℕ) → 0 < b → someOf (longerOf f b) ≡ some (f + 2 ^ trailingZeros 64 b)
+    unfolding longerOf when
+    more-some f b z = ap someOf (rw (ne-eqb b 0 (λ y. omega arith))) ∙ some-some (f + 2 ^ trailingZeros 64 b) (omega (arith, pow-pos (trailingZeros 64 b)))
+
+    front-taken : (f : ℕ) (hs : List Halves) → LeftFronts s (joins m) h f hs → Picks s (joins m) h (takeFront h f) hs
+    unfolding takeFront holds Fine Opened
+    front-taken f hs l = by-zero _ b
+        (λ z.
+        let here = l .are ∙ ap (λ (x : ℕ). map (partsAt vs) (map (raise f) (splits 64 x))) z ∙ ap (map (partsAt vs)) (splits-last f) ∙ ap (λ (x : Halves). x ∷ [])
+        (ap (λ (x : ℕ). partsAt vs (record { front = f + 0; back = x })) (sym z) ∙ front-halves f b one two (l .many)) in
+        let fine : Fine (joins m) (record { first = heldAt s (h .at) f; second = heldAt s (h .at) b } ∷ []) = subst (Fine (joins m)) here (l .fine) in (
+          record { first = heldAt s (h .at) f; second = heldAt s (h .at) b },
+          [],
+          here,
+          record { held = one; is = refl; fits = fine .0 },
+          record { held = two; is = refl; fits = fine .1 },
+          subst (λ (o : Option ℕ). Opened (Left s (joins m) h) o []) (sym (more-none f b z)) refl,
+        ))
+        (λ z.
+        let t = 2 ^ trailingZeros 64 b in
+        let n = longer-is f b z (held-64 s (h .at) b g two) in
+        let q : h .marks - (f + t) ≡ clear (trailingZeros 64 b) b = omega (arith, n .sum, l .within) in
+        let rest = map (partsAt vs) (map (raise (f + t)) (splits 64 (h .marks - (f + t)))) in
+        let here = l .are ∙ ap (map (partsAt vs)) (splits-next f b (f + t) (clear (trailingZeros 64 b) b) z (held-64 s (h .at) b g two) n)
+        ∙ ap₂ (λ (x : Halves) (y : List Halves). x ∷ y) (front-halves f b one two (l .many)) (ap (λ (x : ℕ). map (partsAt vs) (map (raise (f + t)) (splits 64 x))) (sym q)) in
+        let fine : Fine (joins m) (record { first = heldAt s (h .at) f; second = heldAt s (h .at) b } ∷ rest) = subst (Fine (joins m)) here (l .fine) in (
+          record { first = heldAt s (h .at) f; second = heldAt s (h .at) b },
+          rest,
+          here,
+          record { held = one; is = refl; fits = fine .0 },
+          record { held = two; is = refl; fits = fine .1 },
+          subst (λ (o : Option ℕ). Opened (Left s (joins m) h) o rest) (sym (more-some f b z))
+              (fronts-left (f + t) rest (record { held = l .held; many = l .many; within = omega (arith, n .sum); are = refl; fine = fine .2 })),
+        ))
+      where
+        b : ℕ
+        b = h .marks - f
+
+        vs : Values
+        vs = elementsAt s h
+
+        one : Held s (h .at) f
+        one = held-less s (h .at) (h .marks) f (l .held) (l .within)
+
+        two : Held s (h .at) b
+        two = held-less s (h .at) (h .marks) b (l .held) (omega arith)
+
+  -- ---- All kinds.
+
+  pub pick-ok : (k : Kind) (h : Binding) (c : ℕ) (hs : List Halves) → Left s k h c hs → Picks s k h (pick s k h c) hs
+  unfolding pick Left
+  pick-ok (listCons m) h c hs l = place-taken (listCons m) h c hs (λ d us u. u) l
+  pick-ok (multisetCons m) h c hs l = place-taken (multisetCons m) h c hs (λ d us u. u) l
+  pick-ok (joins m) h f hs l = front-taken m h f hs l
+
+  pub opens-ok : (k : Kind) (h : Binding) (v : Value) → Is s (over k) h v → Opened (Left s k h) (opens k h) (halves k v)
+  unfolding opens code opensBy noneOf opensOf when Opened Left halves over holds takes tagsOf among
+  opens-ok (listCons m) h v i =
+      let f = is-many s g (list m) h v refl i in
+      let e = sym (i .is) ∙ of-elements (h .at) (h .marks) (i .held) f in
+      by-zero _ (h .marks)
+      (λ z. rw (eq-eqb (h .marks) 0 z) (ap (consHalves (list m)) (e ∙ ap (held (collection (elementsAt s h))) z) ∙ cons-list-none (elementsAt s h) m))
+      (λ z.
+      let t = trailingZeros 64 (h .marks) in
+      let l : t < countAt s (h .at) = next-in s (h .at) (h .marks) t g (i .held) refl z in
+      rw (ne-eqb (h .marks) 0 (λ y. omega arith)) (record {
+        held = i .held;
+        many = f;
+        some = pow-pos t;
+        choices = record { tag = i .held .tag; marks = rw (marks-all s (h .at) f) (pow-lt l) };
+        are = ap (consHalves (list m)) e ∙ cons-list (elementsAt s h) (h .marks) (held-some s (h .at) (h .marks) g (i .held)) (held-64 s (h .at) (h .marks) g (i .held)) m z
+            ∙ ap (map (choiceAt (elementsAt s h) (h .marks))) (sym (positions-one 64 t (next-64 s (h .at) (h .marks) t g (i .held) refl z)));
+        fine = halves-fine (listCons m) v (i .fits);
+      }))
+  opens-ok (multisetCons m) h v i =
+      let f = is-many s g (multiset m) h v refl i in
+      let e = ap (consHalves (multiset m)) (sym (i .is) ∙ of-elements (h .at) (h .marks) (i .held) f)
+      ∙ cons-multiset (elementsAt s h) (h .marks) (held-some s (h .at) (h .marks) g (i .held)) (held-64 s (h .at) (h .marks) g (i .held)) m in
+      by-zero _ (h .marks)
+      (λ z. rw (eq-eqb (h .marks) 0 z) (e ∙ ap (map (choiceAt (elementsAt s h) (h .marks))) (ap (positions 64) z ∙ positions-none 64)))
+      (λ z. rw (ne-eqb (h .marks) 0 (λ y. omega arith)) (record {
+        held = i .held;
+        many = f;
+        some = z;
+        choices = i .held;
+        are = e;
+        fine = halves-fine (multisetCons m) v (i .fits);
+      }))
+  opens-ok (joins m) h v i =
+      let f = is-many s g (list m) h v refl i in
+      record {
+        held = i .held;
+        many = f;
+        within = omega arith;
+        are = ap joinHalves (sym (i .is) ∙ of-elements (h .at) (h .marks) (i .held) f)
+            ∙ join-splits (elementsAt s h) (h .marks) (held-some s (h .at) (h .marks) g (i .held)) (held-64 s (h .at) (h .marks) g (i .held))
+            ∙ ap (map (partsAt (elementsAt s h))) (sym (raise-none (splits 64 (h .marks)))) ∙ ap (λ (x : ℕ). map (partsAt (elementsAt s h)) (map (raise 0) (splits 64 x))) (minus-none (h .marks));
+        fine = halves-fine (joins m) v (i .fits);
+      }

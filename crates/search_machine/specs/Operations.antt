@@ -1,0 +1,132 @@
+-- The machine's operations on held values, as the code does them: choices are marks too. The choices left at a cons are places; at a join the next front.
+use Prim.Native.Nat.{ℕ, _+_, _-_, _≤_, _<_}
+use mathlib.Core.Path.{_≡_}
+use mathlib.Core.Bool.{Bool}
+use mathlib.Core.Option.{Option, none, some}
+use mathlib.Core.List.{List, map}
+use lib.ListN.{getD}
+use lib.Dec.{eqb}
+use lib.Count.{trailingZeros}
+use lib.IntN.{ℤ, pos}
+use Rattle.rules.specs.Numbers.{same}
+use Rattle.rules.specs.Forms.{Matcher, something, integer, list, multiset, tupleOf, Value, Values}
+use Rattle.rules.specs.Equality.{equal}
+use Rattle.rules.specs.Search.{Halves}
+use Rattle.words.specs.Words.{tagAt}
+use Rattle.words.specs.Marks.{clear, positions, raise, splits}
+use Rattle.words.specs.Marked.{choiceAt, partsAt}
+use Rattle.value_places.specs.Places.{valueAt, elements, countAt, elementAt}
+use Rattle.value_places.specs.Held.{Held, wholeAt}
+use Rattle.value_rows.specs.Row.{holds}
+use Rattle.value_equality.specs.Equality.{isSum}
+use Rattle.value_rows.specs.declared.Binding.{Binding}
+use Rattle.program_rules.specs.Points.{Kind, listCons, multisetCons, joins}
+use Rattle.search_machine.specs.Held.{Picked}
+use Rattle.search_atom.specs.Leaves.{when, opensOf, noneOf, longerOf}
+use Rattle.search_machine.specs.Fitting.{Fitting, Fine}
+
+abbrev pub binding : ℕ → ℕ → Binding
+binding at m = record { at = at; marks = m }
+
+-- What is held in h is v, and v fits m.
+pub record Is (s : List ℤ) (m : Matcher) (h : Binding) (v : Value) : Type 0 where
+  pub held : Held s (h .at) (h .marks)
+  pub is : holds s h ≡ v
+  pub fits : Fitting m v
+
+-- ---- Tests.
+
+unfoldable pub isNone : Binding → Bool
+isNone h = eqb (h .marks) 0
+
+unfoldable pub isNumber : List ℤ → ℤ → Binding → Bool
+isNumber s c h = same (getD s (h .at + 1) (pos 0)) c
+
+unfoldable pub isSame : List ℤ → Matcher → ℤ → Binding → Binding → Bool
+unfolding isSum holds
+isSame s something c g h = equal something (holds s g) (holds s h)
+isSame s integer c g h = isSum s (g .at) c (h .at)
+isSame s (list m) c g h = equal (list m) (holds s g) (holds s h)
+isSame s (multiset m) c g h = equal (multiset m) (holds s g) (holds s h)
+isSame s (tupleOf ms) c g h = equal (tupleOf ms) (holds s g) (holds s h)
+
+-- ---- Tuples.
+
+unfoldable pub isWide : List ℤ → ℕ → Binding → Bool
+unfolding countAt
+isWide s k h = eqb (countAt s (h .at)) k
+
+-- Part i, whole.
+unfoldable pub partOf : List ℤ → Binding → ℕ → Binding
+unfolding elementAt wholeAt
+partOf s h i = binding (elementAt s (h .at) i) (wholeAt s (elementAt s (h .at) i))
+
+-- ---- Choices.
+
+-- The number of the instruction.
+unfoldable pub code : Kind → ℕ
+code (listCons m) = 8
+code (multisetCons m) = 9
+code (joins m) = 10
+
+-- Marks, if there are any.
+unfoldable pub someOf : ℕ → Option ℕ
+unfolding when
+someOf c = when (eqb c 0) none (some c)
+
+unfoldable pub opensBy : Bool → ℕ → Option ℕ
+unfolding when
+opensBy b c = when b none (some c)
+
+unfoldable pub opens : Kind → Binding → Option ℕ
+unfolding code opensBy noneOf opensOf
+opens k h = opensBy (noneOf (code k) (h .marks)) (opensOf (code k) (h .marks))
+
+-- Place k is chosen of the choices c.
+unfoldable pub takePlace : List ℤ → Binding → ℕ → ℕ → Picked Binding ℕ
+unfolding someOf partOf
+takePlace s h c k = record {
+  one = partOf s h k;
+  two = binding (h .at) (clear k (h .marks));
+  more = someOf (clear k c);
+}
+
+-- The front f is chosen.
+unfoldable pub takeFront : Binding → ℕ → Picked Binding ℕ
+unfolding someOf longerOf
+takeFront h f = record {
+  one = binding (h .at) f;
+  two = binding (h .at) (h .marks - f);
+  more = someOf (longerOf f (h .marks - f));
+}
+
+unfoldable pub pick : List ℤ → Kind → Binding → ℕ → Picked Binding ℕ
+unfolding takePlace takeFront
+pick s (listCons m) h c = takePlace s h c (trailingZeros 64 c)
+pick s (multisetCons m) h c = takePlace s h c (trailingZeros 64 c)
+pick s (joins m) h f = takeFront h f
+
+-- ---- The choices that are left.
+
+abbrev pub elementsAt : List ℤ → Binding → Values
+elementsAt s h = elements (valueAt s (h .at))
+
+pub record LeftPlaces (s : List ℤ) (k : Kind) (h : Binding) (c : ℕ) (hs : List Halves) : Type 0 where
+  pub held : Held s (h .at) (h .marks)
+  pub many : tagAt s (h .at) ≡ 1
+  pub some : 0 < c
+  pub choices : Held s (h .at) c
+  pub are : hs ≡ map (choiceAt (elementsAt s h) (h .marks)) (positions 64 c)
+  pub fine : Fine k hs
+
+pub record LeftFronts (s : List ℤ) (k : Kind) (h : Binding) (f : ℕ) (hs : List Halves) : Type 0 where
+  pub held : Held s (h .at) (h .marks)
+  pub many : tagAt s (h .at) ≡ 1
+  pub within : f ≤ h .marks
+  pub are : hs ≡ map (partsAt (elementsAt s h)) (map (raise f) (splits 64 (h .marks - f)))
+  pub fine : Fine k hs
+
+unfoldable pub Left : List ℤ → Kind → Binding → ℕ → List Halves → Type 0
+Left s (listCons m) h c hs = LeftPlaces s (listCons m) h c hs
+Left s (multisetCons m) h c hs = LeftPlaces s (multisetCons m) h c hs
+Left s (joins m) h f hs = LeftFronts s (joins m) h f hs

@@ -1,9 +1,0 @@
--- `searching::answer_of` meets its contract. Assumes nothing.
-use Rattle.stepping.proofs.Laws.{cases}
-use Rattle.searching.specs.Run.{answerOf}
-use Rattle.searching.proofs.answer_of.Statement.{statement}
-use Rattle.searching.proofs.answer_of.Tie as tie
-
-pub answer-of-spec : {M : Type 1} → statement M
-unfolding answerOf
-answer-of-spec = tie.close (tie.spec (λ c. search cases) (λ c. search cases) (λ c. search cases))

@@ -1,7 +1,0 @@
--- `shapes::width_fits` meets its contract. Assumes nothing.
-use Rattle.shapes.proofs.Steps.{word-rules}
-use Rattle.shapes.proofs.width_fits.Statement.{statement}
-use Rattle.shapes.proofs.width_fits.Tie as tie
-
-pub width-fits-spec : {M : Type 1} → statement M
-width-fits-spec = tie.close (tie.spec (λ c κs. search word-rules) (λ c. search word-rules) (λ c. search word-rules))

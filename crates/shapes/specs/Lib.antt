@@ -1,2 +1,0 @@
--- The machine's view of shapes.
-pub mod Shapes

@@ -1,0 +1,3 @@
+-- The machine's view of shapes and of test 4.
+pub mod Fitting
+pub mod Shapes

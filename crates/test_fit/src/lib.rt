@@ -1,0 +1,174 @@
+// Test 4: a pattern fits a matcher. A matcher is kept as the index of its tag in the matcher's words.
+pub mod shapes;
+
+use matchers::matcher_end;
+use shapes::same_shape;
+use shapes::width_fits;
+use test_forms::Tested;
+use test_forms::table::Row;
+use test_forms::table::row_of;
+use words::tag_at;
+ghost use mathlib.Core.Path.{_≡_};
+ghost use Prim.Native.Nat.{_+_, _≤_, _<_, _^_};
+ghost use lib.ListN.{length, take};
+ghost use Rattle.test_fit.specs.Fitting.{firstOf, valueFitsTag, tupleAt, hereAt, fitOf, pushed};
+
+// What a tag of the pattern asks under a matcher: it does not fit; or its operands are skipped; or a variable is bound besides; or one part follows,
+// under the tag's own matcher; or two parts follow, the first under this matcher and the second under the tag's own; or so many parts follow, the
+// first under this matcher, the others under those after it.
+pub enum Here {
+    Misfit,
+    Leaf(u32),
+    Bind(u32),
+    One,
+    Parts(usize),
+    Wide(usize, usize),
+}
+
+// The matcher that the first part of the tag t stands under: the element's for a cons.
+fn first_part(t: u32, i: usize) -> usize
+    requires { ⌜ i + 1 < 2 ^ 64 ⌝ }
+    ensures { λ r. ⌜ r ≡ firstOf t i ⌝ }
+{
+    if t == 5 { i + 1 } else { i }
+}
+
+// A tuple of n parts under the matcher i.
+fn tuple_at(m: &[i32], i: usize, n: u32) -> Here
+    requires { do ⌜ i + 1 < 2 ^ 64 ⌝ }
+    ensures { λ r. ⌜ r ≡ tupleAt (now (m .entry)) i n ⌝ }
+{
+    if width_fits(tag_at(m, i + 1), n) {
+        Here::Wide(i + 2, n as usize)
+    } else {
+        Here::Misfit
+    }
+}
+
+// Whether a value of the variable v, plus c, may stand under the matcher i, where the variables to the left stand under the first `next` matchers of
+// `under`.
+fn value_fits(m: &[i32], i: usize, under: &[usize], next: usize, v: u32, c: u32) -> bool
+    requires { do ⌜ next ≤ length (now under) ⌝ }
+    ensures { λ r. ⌜ r ≡ valueFitsTag (now (m .entry)) i (take next (now (under .entry))) v c ⌝ }
+{
+    let at = v as usize;
+    if next <= at {
+        return false;
+    }
+    if !same_shape(m, i, under[at]) {
+        return false;
+    }
+    if tag_at(m, i) == 1 {
+        return true;
+    }
+    c == 0
+}
+
+// The tag at an index of the pattern under the matcher i.
+fn here_at(m: &[i32], i: usize, p: &[i32], at: usize, under: &[usize], next: usize) -> Here
+    requires { do ⌜ (at < length (now p)) × (next ≤ length (now under)) × (next ≤ 128) ⌝ }
+    ensures { λ r. ⌜ r ≡ hereAt (now (m .entry)) i (now (p .entry)) at (take next (now (under .entry))) ⌝ }
+{
+    let t = tag_at(p, at);
+    match row_of(tag_at(m, i), t) {
+        Row::Unknown => Here::Misfit,
+        Row::Known(operands, parts, taken) => {
+            if !taken {
+                return Here::Misfit;
+            }
+            if t == 1 {
+                return Here::Bind(operands);
+            }
+            if t == 3 {
+                if value_fits(m, i, under, next, tag_at(p, at + 1), tag_at(p, at + 2)) {
+                    return Here::Leaf(operands);
+                }
+                return Here::Misfit;
+            }
+            if parts == 0 {
+                return Here::Leaf(operands);
+            }
+            if parts == 1 {
+                return Here::One;
+            }
+            Here::Parts(first_part(t, i))
+        }
+        Row::Wide(taken) => {
+            if taken {
+                tuple_at(m, i, tag_at(p, at + 1))
+            } else {
+                Here::Misfit
+            }
+        }
+    }
+}
+
+// k matchers, one after the other, the first at the index i, onto the stack of n, the first on top.
+fn push(m: &[i32], stack: &mut [usize; 386], n: usize, k: usize, i: usize)
+    requires { do ⌜ (n + k ≤ 386) × (length (now stack) ≡ 386) ⌝ }
+    ensures { λ r. ⌜ now (stack .exit) ≡ pushed (now (m .entry)) (now (stack .entry)) n k i ⌝ }
+{
+    let mut left = k;
+    let mut e = i;
+    while 0 < left {
+        left -= 1;
+        stack[n + left] = e;
+        e = matcher_end(m, e);
+    }
+}
+
+// Whether the words of a pattern fit the words of a matcher, left to right. On the stack are the matchers of the patterns still to come.
+pub fn walk(m: &[i32], p: &[i32]) -> Tested
+    ensures { λ r. ⌜ r ≡ fitOf (now (m .entry)) (now (p .entry)) ⌝ }
+{
+    if 256 < p.len() {
+        return Tested::Fault(256);
+    }
+    let mut stack = [0usize; 386];
+    let mut n: usize = 1;
+    let mut under = [0usize; 128];
+    let mut next: usize = 0;
+    let mut skip: u32 = 0;
+    let mut at: usize = 0;
+    while at < p.len() {
+        if 0 < skip {
+            skip -= 1;
+            at += 1;
+        } else if n == 0 {
+            return Tested::Fault(at);
+        } else {
+            n -= 1;
+            let i = stack[n];
+            match here_at(m, i, p, at, &under[..], next) {
+                Here::Misfit => return Tested::Fault(at),
+                Here::Leaf(operands) => {
+                    skip = operands;
+                    at += 1;
+                }
+                Here::Bind(operands) => {
+                    under[next] = i;
+                    next += 1;
+                    skip = operands;
+                    at += 1;
+                }
+                Here::One => {
+                    n += 1;
+                    at += 1;
+                }
+                Here::Parts(first) => {
+                    stack[n] = i;
+                    stack[n + 1] = first;
+                    n += 2;
+                    at += 1;
+                }
+                Here::Wide(first, k) => {
+                    push(m, &mut stack, n, k, first);
+                    n += k;
+                    skip = 1;
+                    at += 1;
+                }
+            }
+        }
+    }
+    Tested::Passed
+}

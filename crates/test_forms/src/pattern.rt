@@ -1,0 +1,64 @@
+// Test 2: the words are one whole pattern.
+use super::Tested;
+use super::between;
+use super::table::Row;
+use super::table::row_of;
+use words::tag_at;
+ghost use mathlib.Core.Path.{_≡_};
+ghost use Prim.Native.Nat.{_≤_};
+ghost use lib.ListN.{length};
+ghost use Rattle.rules.specs.Reading.{readPattern};
+ghost use Rattle.test_forms.specs.Tests.{tested};
+ghost use Rattle.test_forms.specs.Patterns.{readsP};
+
+// Whether words that are few are one whole pattern: so many operands of the tag before are to be skipped, so many patterns are still to come.
+fn walk(s: &[i32]) -> Tested
+    requires { do ⌜ length (now s) ≤ 256 ⌝ }
+    ensures { λ r. ⌜ r ≡ readsP 0 1 0 (now (s .entry)) ⌝ }
+{
+    let mut skip: u32 = 0;
+    let mut need: u32 = 1;
+    let mut at: usize = 0;
+    while at < s.len() {
+        if 0 < skip {
+            skip -= 1;
+            at += 1;
+        } else {
+            if need == 0 {
+                return Tested::Fault(at);
+            }
+            match row_of(0, tag_at(s, at)) {
+                Row::Unknown => return Tested::Fault(at),
+                Row::Known(operands, parts, _) => {
+                    skip = operands;
+                    need = need - 1 + parts;
+                    at += 1;
+                }
+                Row::Wide(_) => {
+                    let k = tag_at(s, at + 1);
+                    if !between(2, k, 4) {
+                        return Tested::Fault(at + 1);
+                    }
+                    skip = 1;
+                    need = need - 1 + k;
+                    at += 1;
+                }
+            }
+        }
+    }
+    if skip + need == 0 {
+        Tested::Passed
+    } else {
+        Tested::Fault(at)
+    }
+}
+
+// Whether the words are one whole pattern.
+pub fn test_pattern(s: &[i32]) -> Tested
+    ensures { λ r. ⌜ r ≡ tested (readPattern (now (s .entry))) ⌝ }
+{
+    if 256 < s.len() {
+        return Tested::Fault(256);
+    }
+    walk(s)
+}

@@ -1,0 +1,211 @@
+-- Test 6 by the tags that were read, as the code asks it. Assumes nothing.
+use mathlib.Core.Path.{_≡_, refl, sym, _∙_}
+use mathlib.Core.Bool.{Bool, true, false, not, cond}
+use mathlib.Core.List.{List}
+use Prim.Native.Nat.{ℕ, zero, suc, _+_, _-_, _^_, _<_, _≤_}
+use native.Mathlib.Omega.{arith}
+use borrow.Author.Needs.{needs}
+use borrow.Author.Tests.{lt-ltb, le-ltb, ltb-false, ne-eqb, eqb-true, not-true, not-false}
+use mir.Syntax.{w64}
+use mir.Val.{Fits}
+use lib.Dec.{eqb, ltb}
+use lib.ListN.{length}
+use lib.IntN.{ℤ}
+use Rattle.words.specs.Words.{tagAt}
+use Rattle.words.proofs.Signed as signed
+use Rattle.test_forms.specs.Ends.{onward, within}
+use Rattle.matchers.specs.Places.{matcherEnd}
+use Rattle.test_fit.specs.Shapes.{widthFits}
+use Rattle.test_target.specs.Targets.{valueFrom}
+use Rattle.test_unfit.specs.Unfit.{opensAt, underTag, membersOf, nextMember, byMembers, inEach, insideFrom, fitFrom}
+use Rattle.test_forms.specs.declared.Ended.{Ended}
+use Rattle.test_forms.specs.declared.Ended.the-variants.{End, Bad}
+use Rattle.test_unfit.specs.declared.Members.{Members}
+use Rattle.test_unfit.specs.declared.Members.the-variants.{Unfit, From}
+use Rattle.test_forms.proofs.Turns.{width-most, next-two, depth-pos, depth-less}
+use Rattle.test_fit.proofs.shapes.Steps.{most, same-most}
+
+-- ---- The members.
+
+module _ (k t : ℕ) where
+  pub opens-tuple : k ≡ 4 → eqb t 2 ≡ opensAt k t
+  unfolding opensAt
+  opens-tuple h = rw h
+
+  pub opens-collection : (k ≡ 4 → ⊥) → (b : Bool) → b ≡ within 2 k 3 → b ≡ true → eqb t 1 ≡ opensAt k t
+  unfolding opensAt
+  opens-collection h b e q = rw (ne-eqb k 4 h, ← e, q)
+
+  pub opens-none : (k ≡ 4 → ⊥) → (b : Bool) → b ≡ within 2 k 3 → b ≡ false → false ≡ opensAt k t
+  unfolding opensAt
+  opens-none h b e q = rw (ne-eqb k 4 h, ← e, q)
+
+  -- Only lists, multisets and tuples are of something, only collections and tuples have anything inside.
+  opened-low : opensAt k t ≡ true → (k ≤ 4) × (t ≤ 2)
+  unfolding opensAt
+  opened-low = go (eqb k 4) refl
+    where
+      two : (j : ℕ) (c : Bool) → eqb t j ≡ c → c ≡ true → t ≡ j
+      two j true e h = eqb-true t j e
+      two j false e h = let z : _≡_ {A = ℕ} 0 1 = cc in absurd (omega arith)
+
+      in-two : (c : Bool) → within 2 k 3 ≡ c → cond c (eqb t 1) false ≡ true → (k ≤ 4) × (t ≤ 2)
+      in-two true e h = let l = most 2 k 3 e in let q = two 1 (eqb t 1) refl h in (omega arith, omega arith)
+      in-two false e h = let z : _≡_ {A = ℕ} 0 1 = cc in absurd (omega arith)
+
+      go : (b : Bool) → eqb k 4 ≡ b → cond b (eqb t 2) (cond (within 2 k 3) (eqb t 1) false) ≡ true → (k ≤ 4) × (t ≤ 2)
+      go true e h = let l = eqb-true k 4 e in let q = two 2 (eqb t 2) refl h in (omega arith, omega arith)
+      go false e h = in-two (within 2 k 3) refl h
+
+module _ (m : List ℤ) (i k n : ℕ) where
+  pub members-wide : k ≡ 4 → (w : ℕ) → w ≡ tagAt m (i + 1) → (b : Bool) → b ≡ widthFits w n → b ≡ true → From (i + 2) ≡ membersOf m i k n
+  unfolding membersOf
+  members-wide h w e b q r = rw (h, ← e, ← q, r)
+
+  pub members-unequal : k ≡ 4 → (w : ℕ) → w ≡ tagAt m (i + 1) → (b : Bool) → b ≡ widthFits w n → b ≡ false → Unfit ≡ membersOf m i k n
+  unfolding membersOf
+  members-unequal h w e b q r = rw (h, ← e, ← q, r)
+
+  pub members-over : (k ≡ 4 → ⊥) → 64 < n → Unfit ≡ membersOf m i k n
+  unfolding membersOf
+  members-over h l = rw (ne-eqb k 4 h, lt-ltb 64 n l)
+
+  pub members-in : (k ≡ 4 → ⊥) → n ≤ 64 → From (i + 1) ≡ membersOf m i k n
+  unfolding membersOf
+  members-in h l = rw (ne-eqb k 4 h, le-ltb 64 n l)
+
+  members-most : (j : ℕ) → membersOf m i k n ≡ From j → n ≤ 64
+  unfolding membersOf widthFits
+  members-most j = go (eqb k 4)
+    where
+      wide : (b : Bool) → cond (eqb (tagAt m (i + 1)) n) (within 2 (tagAt m (i + 1)) 4) false ≡ b → cond b (From (i + 2)) Unfit ≡ From j → n ≤ 64
+      wide true e h = let l = same-most (tagAt m (i + 1)) n 2 4 e in omega arith
+      wide false e h = let z : _≡_ {A = ℕ} 0 1 = cc in absurd (omega arith)
+
+      many : (b : Bool) → ltb 64 n ≡ b → cond b Unfit (From (i + 1)) ≡ From j → n ≤ 64
+      many true e h = let z : _≡_ {A = ℕ} 0 1 = cc in absurd (omega arith)
+      many false e h = ltb-false 64 n e
+
+      go : (b : Bool) → cond b (cond (cond (eqb (tagAt m (i + 1)) n) (within 2 (tagAt m (i + 1)) 4) false) (From (i + 2)) Unfit) (cond (ltb 64 n) Unfit (From (i + 1))) ≡ From j → n ≤ 64
+      go true h = wide (cond (eqb (tagAt m (i + 1)) n) (within 2 (tagAt m (i + 1)) 4) false) refl h
+      go false h = many (ltb 64 n) refl h
+
+pub width-next : (m : List ℤ) (i n w : ℕ) → w ≡ tagAt m (i + 1) → (b : Bool) → b ≡ widthFits w n → b ≡ true → length m < 2 ^ 64 → Fits w64 (i + 2)
+unfolding widthFits
+width-next m i n w e b q r l = go (eqb w n) (sym q ∙ r)
+  where
+    go : (x : Bool) → cond x (within 2 w 4) false ≡ true → Fits w64 (i + 2)
+    go true z = let y = width-most w z .1 in next-two m i w e (omega arith) l
+    go false z = let y : _≡_ {A = ℕ} 0 1 = cc in absurd (omega arith)
+
+module _ (m : List ℤ) (k j : ℕ) where
+  pub next-part : k ≡ 4 → (e : ℕ) → e ≡ matcherEnd m j → e ≡ nextMember m k j
+  unfolding nextMember
+  next-part h e q = rw h q
+
+  pub next-element : (k ≡ 4 → ⊥) → j ≡ nextMember m k j
+  unfolding nextMember
+  next-element h = rw (ne-eqb k 4 h)
+
+pub ruleset member-rules = (opens-tuple, opens-collection, opens-none, members-wide, members-unequal, members-over, members-in, width-next, next-part, next-element, needs)
+
+-- ---- A value under a matcher.
+
+unfoldable pub inside : (s m : List ℤ) (d i at : ℕ) → Ended
+inside s m zero i at = Bad at
+inside s m (suc d) i at = insideFrom s m (λ j e. fitFrom s m d j e) i at
+
+pub by-tags : (s m : List ℤ) (d i at : ℕ) → fitFrom s m d i at ≡ underTag (tagAt m i) (tagAt s at) (valueFrom s d at) (inside s m d i at) (Bad at)
+unfolding fitFrom inside
+by-tags s m zero i at = refl
+by-tags s m (suc d) i at = refl
+
+module _ (s m : List ℤ) (i at k d : ℕ) (e : k ≡ tagAt m i) where
+  pub ret-something : (r : Ended) → k ≡ 0 → r ≡ valueFrom s d at → r ≡ fitFrom s m d i at
+  unfolding underTag
+  ret-something r h x = x ∙ sym (by-tags s m d i at ∙ rw (← e, h))
+
+  module _ (t : ℕ) (q : t ≡ tagAt s at) where
+    pub ret-integer : (r : Ended) → k ≡ 1 → t ≡ 0 → r ≡ valueFrom s d at → r ≡ fitFrom s m d i at
+    unfolding underTag
+    ret-integer r h y x = x ∙ sym (by-tags s m d i at ∙ rw (← e, h, ← q, y))
+
+    pub ret-no-integer : k ≡ 1 → (t ≡ 0 → ⊥) → Bad at ≡ fitFrom s m d i at
+    unfolding underTag
+    ret-no-integer h y = sym (by-tags s m d i at ∙ rw (← e, h, ← q, ne-eqb t 0 y))
+
+    module _ (f : k ≡ 0 → ⊥) (g : k ≡ 1 → ⊥) (b : Bool) (h : b ≡ opensAt k t) where
+      pub ret-closed : not b ≡ true → Bad at ≡ fitFrom s m d i at
+      unfolding underTag
+      ret-closed y = sym (by-tags s m d i at ∙ rw (← e, ← q, ne-eqb k 0 f, ne-eqb k 1 g, ← h, not-true b y))
+
+      module _ (y : not b ≡ false) where
+        opened : fitFrom s m d i at ≡ inside s m d i at
+        unfolding underTag
+        opened = by-tags s m d i at ∙ rw (← e, ← q, ne-eqb k 0 f, ne-eqb k 1 g, ← h, not-false b y)
+
+        pub ret-deep : d ≡ 0 → Bad at ≡ fitFrom s m d i at
+        unfolding inside
+        ret-deep z = sym (opened ∙ rw z)
+
+        module _ (z : d ≡ 0 → ⊥) (n : ℕ) (j : n ≡ tagAt s (at + 1)) (a : Members) (w : a ≡ membersOf m i k n) where
+          within-it : fitFrom s m d i at ≡ byMembers a (Bad at) (λ j. inEach (fitFrom s m (d - 1)) (nextMember m k) n j (at + 2))
+          unfolding inside insideFrom
+          within-it = opened ∙ go d z
+            where
+              go : (c : ℕ) → (c ≡ 0 → ⊥) → inside s m c i at ≡ byMembers a (Bad at) (λ j. inEach (fitFrom s m (c - 1)) (nextMember m k) n j (at + 2))
+              go zero x = absurd (x refl)
+              go (suc c) x = let p : suc c - 1 ≡ c = omega arith in rw (p, w, ← j, ← e)
+
+          pub ret-unfit : a ≡ Unfit → Bad at ≡ fitFrom s m d i at
+          unfolding byMembers
+          ret-unfit x = sym (within-it ∙ rw x)
+
+          pub loop-in : (l : ℕ) → a ≡ From l → fitFrom s m d i at ≡ inEach (fitFrom s m (d - 1)) (nextMember m k) n l (at + 2)
+          unfolding byMembers
+          loop-in l x = within-it ∙ rw x
+
+-- ---- The elements or parts; v is what they are to give.
+
+module _ (s m : List ℤ) (d k n j e : ℕ) (v : Ended) (x : v ≡ inEach (fitFrom s m d) (nextMember m k) n j e) where
+  pub loop-out : n ≤ 0 → End e ≡ v
+  unfolding inEach
+  loop-out h = let z : n ≡ 0 = omega arith in sym (x ∙ rw z)
+
+  each-on : 0 < n → (r : Ended) → r ≡ fitFrom s m d j e → v ≡ onward r (inEach (fitFrom s m d) (nextMember m k) (n - 1) (nextMember m k j))
+  unfolding inEach
+  each-on h r q = x ∙ rw q (go n h)
+    where
+      go : (c : ℕ) → 0 < c
+          → inEach (fitFrom s m d) (nextMember m k) c j e ≡ onward (fitFrom s m d j e) (inEach (fitFrom s m d) (nextMember m k) (c - 1) (nextMember m k j))
+      go zero l = absurd (omega arith)
+      go (suc c) l = let p : suc c - 1 ≡ c = omega arith in rw p
+
+  pub loop-turn : 0 < n → (r : Ended) → r ≡ fitFrom s m d j e → (y : ℕ) → r ≡ End y → (l : ℕ) → l ≡ nextMember m k j
+      → v ≡ inEach (fitFrom s m d) (nextMember m k) (n - 1) l y
+  unfolding onward
+  loop-turn h r q y w l z = each-on h r q ∙ rw (w, z)
+
+  pub loop-bad : 0 < n → (r : Ended) → r ≡ fitFrom s m d j e → (p : ℕ) → r ≡ Bad p → Bad p ≡ v
+  unfolding onward
+  loop-bad h r q p w = sym (each-on h r q ∙ rw w)
+
+-- ---- Bounds.
+
+module _ (k t : ℕ) (b : Bool) (h : b ≡ opensAt k t) (y : not b ≡ false) where
+  pub next-i : (m : List ℤ) (i : ℕ) → k ≡ tagAt m i → length m < 2 ^ 64 → i + 1 < 18446744073709551616
+  next-i m i e l =
+      let o = opened-low k t (sym h ∙ not-false b y) .0 in
+      let x = signed.within m i k e (omega arith) in
+      omega arith
+
+  pub next-at : (s : List ℤ) (at : ℕ) → t ≡ tagAt s at → length s < 2 ^ 64 → Fits w64 (at + 1)
+  next-at s at e l =
+      let o = opened-low k t (sym h ∙ not-false b y) .1 in
+      let x = signed.within s at t e (omega arith) in
+      record { fits = omega arith }
+
+pub next-2 : (s m : List ℤ) (at i k n j : ℕ) → n ≡ tagAt s (at + 1) → (a : Members) → a ≡ membersOf m i k n → a ≡ From j → length s < 2 ^ 64 → Fits w64 (at + 2)
+next-2 s m at i k n j e a w x l = let o = members-most m i k n j (sym w ∙ x) in next-two s at n e (omega arith) l
+
+pub ruleset rules = (ret-something, ret-integer, ret-no-integer, ret-closed, ret-deep, ret-unfit, loop-in, loop-out, loop-turn, loop-bad, next-i, next-at, next-2, depth-pos, depth-less, needs)

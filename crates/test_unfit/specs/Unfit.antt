@@ -1,0 +1,58 @@
+-- Test 6 from a place on. A matcher is kept as the index of its tag in the matcher's words.
+use Prim.Native.Nat.{ℕ, zero, suc, _+_}
+use mathlib.Core.Bool.{Bool, false, cond}
+use mathlib.Core.List.{List}
+use lib.Dec.{eqb, ltb}
+use lib.IntN.{ℤ}
+use Rattle.words.specs.Words.{tagAt}
+use Rattle.test_forms.specs.Ends.{onward, within}
+use Rattle.matchers.specs.Places.{matcherEnd}
+use Rattle.test_fit.specs.Shapes.{widthFits}
+use Rattle.test_target.specs.Targets.{valueFrom}
+use Rattle.test_forms.specs.declared.Ended.{Ended}
+use Rattle.test_forms.specs.declared.Ended.the-variants.{End, Bad}
+use Rattle.test_unfit.specs.declared.Members.{Members}
+use Rattle.test_unfit.specs.declared.Members.the-variants.{Unfit, From}
+
+-- A list or a multiset is of a collection's elements, a tuple of a tuple's parts.
+unfoldable pub opensAt : ℕ → ℕ → Bool
+unfolding within
+opensAt k t = cond (eqb k 4) (eqb t 2) (cond (within 2 k 3) (eqb t 1) false)
+
+-- By the tags of the matcher and of the value.
+unfoldable pub underTag : {A : Type 0} → (k t : ℕ) → (value inside bad : A) → A
+unfolding opensAt
+underTag k t value inside bad = cond (eqb k 0) value (cond (eqb k 1) (cond (eqb t 0) value bad) (cond (opensAt k t) inside bad))
+
+-- The matcher of the first of n elements or parts under the matcher i, whose tag is k, and of the one after that under the matcher j.
+unfoldable pub membersOf : List ℤ → (i k n : ℕ) → Members
+unfolding widthFits tagAt
+membersOf m i k n = cond (eqb k 4) (cond (widthFits (tagAt m (i + 1)) n) (From (i + 2)) Unfit) (cond (ltb 64 n) Unfit (From (i + 1)))
+
+unfoldable pub nextMember : List ℤ → (k j : ℕ) → ℕ
+unfolding matcherEnd
+nextMember m k j = cond (eqb k 4) (matcherEnd m j) j
+
+unfoldable pub byMembers : Members → Ended → (ℕ → Ended) → Ended
+byMembers Unfit z k = z
+byMembers (From j) z k = k j
+
+-- n values, one after the other, each under the matcher that is next.
+unfoldable pub inEach : (ℕ → ℕ → Ended) → (ℕ → ℕ) → (n j at : ℕ) → Ended
+unfolding onward
+inEach f next zero j at = End at
+inEach f next (suc n) j at = onward (f j at) (inEach f next n (next j))
+
+-- The elements or parts of the value at the index `at` of s under the matcher i, for any work f on one of them.
+unfoldable pub insideFrom : (s m : List ℤ) → (ℕ → ℕ → Ended) → (i at : ℕ) → Ended
+unfolding byMembers membersOf inEach nextMember tagAt
+insideFrom s m f i at = byMembers (membersOf m i (tagAt m i) (tagAt s (at + 1)))
+    (Bad at)
+    (λ j. inEach f (nextMember m (tagAt m i)) (tagAt s (at + 1)) j (at + 2))
+
+-- Where the value at the index `at` of s ends, if it fits the matcher at the index i of m, else the place of the tag that does not.
+unfoldable pub fitFrom : (s m : List ℤ) (depth i at : ℕ) → Ended
+unfolding underTag tagAt valueFrom insideFrom
+fitFrom s m zero i at = underTag (tagAt m i) (tagAt s at) (valueFrom s 0 at) (Bad at) (Bad at)
+fitFrom s m (suc d) i at =
+    underTag (tagAt m i) (tagAt s at) (valueFrom s (suc d) at) (insideFrom s m (λ j e. fitFrom s m d j e) i at) (Bad at)

@@ -1,0 +1,142 @@
+-- The ordered tests as the code asks them: each test that passed has read something, and the first that did not gives the answer. Assumes nothing.
+use mathlib.Core.Path.{_≡_, refl, sym, _∙_, ap}
+use mathlib.Core.Bool.{true}
+use mathlib.Core.List.{List, []}
+use Prim.Native.Nat.{ℕ, _+_}
+use native.Mathlib.Omega.{arith}
+use borrow.Author.Needs.{needs}
+use lib.IntN.{ℤ}
+use Rattle.rules.specs.Forms.{Matcher, Pattern, Value, size}
+use Rattle.rules.specs.Reading.{Verdict, ok, fault, readMatcher, readPattern, readTarget}
+use Rattle.rules.specs.Variables.{variables}
+use Rattle.rules.specs.Fit.{fits, fitsValue}
+use Rattle.rules.specs.Causes.{causeOf}
+use Rattle.rules.specs.Services.{test, ruleOf, targetOf, causeIn}
+use Rattle.test_forms.specs.Tests.{tested}
+use Rattle.test_target.specs.Targets.{found}
+use Rattle.test_variables.specs.Variables.{counted, varsOf}
+use Rattle.test_fit.specs.Fitting.{fitOf}
+use Rattle.test_unfit.specs.Unfit.{fitFrom}
+use Rattle.test_forms.specs.declared.Tested.{Tested}
+use Rattle.test_forms.specs.declared.Tested.the-variants.{Passed, Fault}
+use Rattle.test_target.specs.declared.Found.{Found}
+use Rattle.test_target.specs.declared.Found.the-variants as finds
+use Rattle.test_variables.specs.declared.Counted.{Counted}
+use Rattle.test_variables.specs.declared.Counted.the-variants as counts
+use Rattle.test_forms.specs.declared.Ended.{Ended}
+use Rattle.test_forms.specs.declared.Ended.the-variants.{End, Bad}
+use Rattle.tests.specs.Judgements.{judgement, targetJudgement, targetUnder}
+use Rattle.tests.specs.declared.Judgement.the-variants.{Accepted, Refused}
+use Rattle.tests.specs.declared.TargetJudgement.the-variants as targets
+use Rattle.test_forms.proofs.After.{after}
+use Rattle.test_variables.proofs.Walked as walked
+use Rattle.test_fit.proofs.Walked as fitted
+use Rattle.test_unfit.proofs.Fitted as unfit
+
+-- ---- A verdict from what the code found.
+
+pub passed : {A : Type 0} (x : Verdict A) → Passed ≡ tested x → (a : A) × (x ≡ ok a)
+unfolding tested
+passed (ok a) e = (a, refl)
+passed (fault i) e = let z : _≡_ {A = ℕ} 0 1 = cc in absurd (omega arith)
+
+failed : {A : Type 0} (x : Verdict A) (i : ℕ) → Fault i ≡ tested x → x ≡ fault i
+unfolding tested
+failed (ok a) i e = let z : _≡_ {A = ℕ} 0 1 = cc in absurd (omega arith)
+failed (fault j) i e = let q : j ≡ i = cc in ap fault q
+
+number : (x : Verdict ℕ) (n : ℕ) → counts.Number n ≡ counted x → x ≡ ok n
+unfolding counted
+number (ok k) n e = let q : k ≡ n = cc in ap ok q
+number (fault j) n e = let z : _≡_ {A = ℕ} 0 1 = cc in absurd (omega arith)
+
+uncounted : (x : Verdict ℕ) (i : ℕ) → counts.Fault i ≡ counted x → x ≡ fault i
+unfolding counted
+uncounted (ok k) i e = let z : _≡_ {A = ℕ} 0 1 = cc in absurd (omega arith)
+uncounted (fault j) i e = let q : j ≡ i = cc in ap fault q
+
+ended : {A : Type 0} (x : Verdict A) (e y : ℕ) → End y ≡ after Bad x (λ _. End e) → (a : A) × (x ≡ ok a)
+unfolding after
+ended (ok a) e y q = (a, refl)
+ended (fault i) e y q = let z : _≡_ {A = ℕ} 0 1 = cc in absurd (omega arith)
+
+unended : {A : Type 0} (x : Verdict A) (e i : ℕ) → Bad i ≡ after Bad x (λ _. End e) → x ≡ fault i
+unfolding after
+unended (ok a) e i q = let z : _≡_ {A = ℕ} 0 1 = cc in absurd (omega arith)
+unended (fault j) e i q = let r : j ≡ i = cc in ap fault r
+
+-- ---- Tests 1 to 4.
+
+module _ (ms ps : List ℤ) (a : Tested) (ea : a ≡ tested (readMatcher ms)) where
+  pub ret-matcher : (i : ℕ) → a ≡ Fault i → Refused 1 i ≡ judgement (ruleOf ms ps)
+  unfolding ruleOf test judgement
+  ret-matcher i f = rw (failed (readMatcher ms) i (sym f ∙ ea))
+
+  module _ (fa : a ≡ Passed) (b : Tested) (eb : b ≡ tested (readPattern ps)) where
+    pub ret-pattern : (i : ℕ) → b ≡ Fault i → Refused 2 i ≡ judgement (ruleOf ms ps)
+    unfolding ruleOf test judgement
+    ret-pattern i f = rw (passed (readMatcher ms) (sym fa ∙ ea) .1, failed (readPattern ps) i (sym f ∙ eb))
+
+    module _ (fb : b ≡ Passed) (c : Counted) (ec : c ≡ varsOf ps) where
+      m : (k : Matcher) × (readMatcher ms ≡ ok k)
+      m = passed (readMatcher ms) (sym fa ∙ ea)
+
+      p : (k : Pattern) × (readPattern ps ≡ ok k)
+      p = passed (readPattern ps) (sym fb ∙ eb)
+
+      pub ret-variable : (i : ℕ) → c ≡ counts.Fault i → Refused 3 i ≡ judgement (ruleOf ms ps)
+      unfolding ruleOf test judgement
+      ret-variable i f = rw (m .1, p .1, uncounted (variables (p .0) true 0 0) i (sym f ∙ ec ∙ walked.of-pattern ps (p .0) (p .1)))
+
+      module _ (n : ℕ) (fc : c ≡ counts.Number n) (d : Tested) (ed : d ≡ fitOf ms ps) where
+        v : variables (p .0) true 0 0 ≡ ok n
+        v = number (variables (p .0) true 0 0) n (sym fc ∙ ec ∙ walked.of-pattern ps (p .0) (p .1))
+
+        pub ret-misfit : (i : ℕ) → d ≡ Fault i → Refused 4 i ≡ judgement (ruleOf ms ps)
+        unfolding ruleOf test judgement
+        ret-misfit i f = rw (m .1, p .1, v, failed (fits (p .0) (m .0) 0 []) i (sym f ∙ ed ∙ fitted.of-rule ms ps (m .0) (p .0) (m .1) (p .1)))
+
+        pub ret-rule : d ≡ Passed → Accepted ≡ judgement (ruleOf ms ps)
+        unfolding ruleOf test judgement
+        ret-rule f = rw (m .1, p .1, v, passed (fits (p .0) (m .0) 0 []) (sym f ∙ ed ∙ fitted.of-rule ms ps (m .0) (p .0) (m .1) (p .1)) .1)
+
+pub ruleset rule-rules = (ret-matcher, ret-pattern, ret-variable, ret-misfit, ret-rule, needs)
+
+-- ---- Tests 5 and 6.
+
+found-all : (x : Verdict Value) (n : ℕ) → finds.Passed ≡ found x n → (v : Value) × (x ≡ ok v)
+unfolding found
+found-all (ok v) n e = (v, refl)
+found-all (fault i) n e = let z : _≡_ {A = ℕ} 0 1 = cc in absurd (omega arith)
+
+found-fault : (x : Verdict Value) (n i c : ℕ) → finds.Fault i c ≡ found x n → (x ≡ fault i) × (c ≡ n)
+unfolding found
+found-fault (ok v) n i c e = let z : _≡_ {A = ℕ} 0 1 = cc in absurd (omega arith)
+found-fault (fault j) n i c e = let q : j ≡ i = cc in let r : c ≡ n = cc in (ap fault q, r)
+
+module _ (ms ts : List ℤ) (a : Tested) (ea : a ≡ tested (readMatcher ms)) where
+  pub ret-none : (i : ℕ) → a ≡ Fault i → targets.Refused 1 i 0 ≡ targetJudgement ts (targetUnder ms ts)
+  unfolding targetUnder test targetJudgement causeIn
+  ret-none i f = rw (failed (readMatcher ms) i (sym f ∙ ea))
+
+  module _ (fa : a ≡ Passed) (b : Found) (eb : b ≡ found (readTarget ts) (causeOf ts)) where
+    pub ret-target : (i c : ℕ) → b ≡ finds.Fault i c → targets.Refused 5 i c ≡ targetJudgement ts (targetUnder ms ts)
+    unfolding targetUnder targetOf test targetJudgement causeIn
+    ret-target i c f = let t = found-fault (readTarget ts) (causeOf ts) i c (sym f ∙ eb) in rw (passed (readMatcher ms) (sym fa ∙ ea) .1, t .0, t .1)
+
+    module _ (fb : b ≡ finds.Passed) (c : Ended) (ec : c ≡ fitFrom ts ms 8 0 0) where
+      k : (k : Matcher) × (readMatcher ms ≡ ok k)
+      k = passed (readMatcher ms) (sym fa ∙ ea)
+
+      t : (v : Value) × (readTarget ts ≡ ok v)
+      t = found-all (readTarget ts) (causeOf ts) (sym fb ∙ eb)
+
+      pub ret-unfit : (i : ℕ) → c ≡ Bad i → targets.Refused 6 i 0 ≡ targetJudgement ts (targetUnder ms ts)
+      unfolding targetUnder targetOf test targetJudgement causeIn
+      ret-unfit i f = rw (k .1, t .1, unended (fitsValue (k .0) (t .0) 0) (0 + size (t .0)) i (sym f ∙ ec ∙ unfit.of-target ms ts (k .0) (t .0) (k .1) (t .1)))
+
+      pub ret-fit : (e : ℕ) → c ≡ End e → targets.Accepted ≡ targetJudgement ts (targetUnder ms ts)
+      unfolding targetUnder targetOf test targetJudgement
+      ret-fit e f = rw (k .1, t .1, ended (fitsValue (k .0) (t .0) 0) (0 + size (t .0)) e (sym f ∙ ec ∙ unfit.of-target ms ts (k .0) (t .0) (k .1) (t .1)) .1)
+
+pub ruleset target-rules = (ret-none, ret-target, ret-unfit, ret-fit, needs)

@@ -1,0 +1,77 @@
+// The tests in document 01's order: 1 to 4 over matcher and pattern, 5 and 6 over a target.
+use test_forms::Ended;
+use test_forms::Tested;
+use test_forms::matcher::test_matcher;
+use test_forms::pattern::test_pattern;
+use test_target::Found;
+use test_target::test_target;
+use test_unfit::fit_end;
+use test_variables::Counted;
+ghost use mathlib.Core.Path.{_≡_};
+ghost use Rattle.rules.specs.Services.{ruleOf};
+ghost use Rattle.tests.specs.Judgements.{judgement, targetJudgement, targetUnder};
+
+// Accepted; or refused, with document 01's number of the answer and the place.
+pub enum Judgement {
+    Accepted,
+    Refused(u32, usize),
+}
+
+// The same of a target, with the cause beside the place: 0 in every answer but 5.
+pub enum TargetJudgement {
+    Accepted,
+    Refused(u32, usize, u32),
+}
+
+pub const MATCHER: u32 = 1;
+
+pub const PATTERN: u32 = 2;
+
+pub const VARIABLE: u32 = 3;
+
+pub const MISFIT: u32 = 4;
+
+pub const TARGET: u32 = 5;
+
+pub const UNFIT: u32 = 6;
+
+// Tests 1 to 4, each over its whole slice.
+pub fn rule_refused(m: &[i32], p: &[i32]) -> Judgement
+    ensures { λ r. ⌜ r ≡ judgement (ruleOf (now (m .entry)) (now (p .entry))) ⌝ }
+{
+    let a = test_matcher(m);
+    if let Tested::Fault(i) = a {
+        return Judgement::Refused(MATCHER, i);
+    }
+    let b = test_pattern(p);
+    if let Tested::Fault(i) = b {
+        return Judgement::Refused(PATTERN, i);
+    }
+    let c = test_variables::walk(p);
+    if let Counted::Fault(i) = c {
+        return Judgement::Refused(VARIABLE, i);
+    }
+    let d = test_fit::walk(m, p);
+    if let Tested::Fault(i) = d {
+        return Judgement::Refused(MISFIT, i);
+    }
+    Judgement::Accepted
+}
+
+// Tests 5 and 6, each over its whole slice, for a whole matcher; test 1 where it is none.
+pub fn target_refused(m: &[i32], t: &[i32]) -> TargetJudgement
+    ensures { λ r. ⌜ r ≡ targetJudgement (now (t .entry)) (targetUnder (now (m .entry)) (now (t .entry))) ⌝ }
+{
+    let a = test_matcher(m);
+    if let Tested::Fault(i) = a {
+        return TargetJudgement::Refused(MATCHER, i, 0);
+    }
+    let b = test_target(t);
+    if let Found::Fault(i, c) = b {
+        return TargetJudgement::Refused(TARGET, i, c);
+    }
+    match fit_end(t, 0, m, 0, 8) {
+        Ended::End(_) => TargetJudgement::Accepted,
+        Ended::Bad(i) => TargetJudgement::Refused(UNFIT, i, 0),
+    }
+}

@@ -1,0 +1,74 @@
+// The lines of the trial program's input.
+use crate::number::Digits;
+use crate::number::Piece;
+use crate::number::find;
+use crate::number::up_to;
+use crate::number::word;
+ghost use mathlib.Core.Path.{_≡_};
+ghost use Prim.Native.Nat.{_≤_};
+ghost use lib.ListN.{length};
+ghost use Rattle.text_ask.specs.Question.{pieces, wordsOf, limits};
+ghost use Rattle.text_ask.specs.Meaning.{ReadWords, ofBounds, RoomFew};
+
+// How many words a line has.
+pub enum Line {
+    Words(usize),
+    Other,
+}
+
+// The budget and the room.
+pub enum Bounds {
+    Of(u32, usize),
+    Other,
+}
+
+// The words of one of the lines 1 to 3.
+pub(crate) fn words_of(t: &[u8], out: &mut [i32]) -> Line
+    requires { ⌜ 2000 ≤ length (now out) ⌝ }
+    ensures { λ r. ⌜ ReadWords (now (t .entry)) r (now (out .exit)) ⌝ }
+{
+    if t.len() == 0 {
+        return Line::Words(0);
+    }
+    let mut n: usize = 0;
+    let mut at: usize = 0;
+    loop {
+        let e = find(t, at, 32);
+        match word(&t[at..e]) {
+            Piece::Other => return Line::Other,
+            Piece::Word(x) => {
+                if n == 2000 {
+                    return Line::Other;
+                }
+                out[n] = x;
+                n += 1;
+                if e == t.len() {
+                    return Line::Words(n);
+                }
+                at = e + 1;
+            }
+        }
+    }
+}
+
+// The two numbers of line 4.
+pub(crate) fn bounds_of(t: &[u8]) -> Bounds
+    ensures { λ r. ⌜ ofBounds r ≡ limits (pieces (now (t .entry))) ⌝ }
+    ensures { λ r. ⌜ RoomFew r ⌝ }
+{
+    let e = find(t, 0, 32);
+    if e == t.len() {
+        return Bounds::Other;
+    }
+    let f = find(t, e + 1, 32);
+    if f < t.len() {
+        return Bounds::Other;
+    }
+    match up_to(&t[0..e], 4294967295) {
+        Digits::Of(budget) => match up_to(&t[e + 1..f], 4096) {
+            Digits::Of(room) => Bounds::Of(budget as u32, room as usize),
+            Digits::Other => Bounds::Other,
+        },
+        Digits::Other => Bounds::Other,
+    }
+}

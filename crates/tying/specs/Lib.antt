@@ -1,3 +1,0 @@
--- Held values as the search machine asks for them.
-pub mod Fitting
-pub mod Operations

@@ -1,0 +1,307 @@
+-- The size and the words of held values and of rows, as the code asks. Assumes nothing.
+use mathlib.Core.Path.{_≡_, refl, sym, _∙_, ap}
+use mathlib.Core.List.{List, [], _∷_, _++_, map}
+use Prim.Native.Nat.{ℕ, zero, suc, _+_, _-_, _*_, _/_, _%_, _^_, _<_, _≤_}
+use native.Mathlib.Decide.{decLt}
+use native.Mathlib.Numerals.{add-one}
+use native.Mathlib.Omega.{arith}
+use borrow.Author.Needs.{needs}
+use lib.ListN.{length, getD, take, drop, set, length-append, length-take, length-set}
+use lib.Seq.{drop-cons, getD-take, take-suc-set, getD-set-same, getD-set-other, length-slice}
+use lib.IntN.{ℤ, pos}
+use lib.Count.{ones, trailingZeros}
+use mir.Syntax.{w64}
+use mir.Val.{Fits}
+use Rattle.rules.specs.Forms.{Value, int, collection, Values, empty, _▸_, words, wordsAll, size, sizeAll}
+use Rattle.rules.specs.Search.{row}
+use Rattle.words.specs.Words.{tagAt}
+use Rattle.words.specs.Marks.{clear}
+use Rattle.words.specs.Marked.{marked}
+use Rattle.words.proofs.marks.Places.{by-digit}
+use Rattle.words.proofs.marks.Marked.{count-marked}
+use Rattle.value_places.specs.Places.{valueAt, elements, countAt, Target, Tag, elementAt}
+use Rattle.value_places.specs.Tables.{Ends, Places}
+use Rattle.value_places.specs.Held.{Held, heldAt, left, sizeLeft, wordsLeft, put, part}
+use Rattle.value_rows.specs.Row.{holds, bound, boundFrom, nothing, Bound}
+use Rattle.value_rows.specs.declared.Binding.{Binding}
+use Rattle.promises.specs.Written.{length-words}
+use Rattle.value_places.proofs.Forest.{is-here, two-words}
+use Rattle.value_places.proofs.Elements.{second, by-tag, int-at, collection-at, tag-small, slice-words}
+use Rattle.value_places.proofs.Held.{held-int, held-collection, held-tuple, held-tag, held-clear, held-some, left-none, next-in, next-less, next-tag, next-left}
+use Rattle.value_places.proofs.Filling.{find-half, find-half-mul}
+use Rattle.value_rows.proofs.Room.{length-put, put-append, put-none}
+
+-- ---- The size.
+
+size-marked : (vs : Values) (m : ℕ) → sizeAll (marked vs m) ≤ sizeAll vs
+unfolding marked sizeAll
+size-marked empty m = omega arith
+size-marked (v ▸ vs) m = let r = size-marked vs (m / 2) in by-digit _ m (λ e. rw e (omega arith)) (λ e. rw e (omega arith))
+
+module _ (s : List ℤ) (at m tag : ℕ) (g : Target s) (w : Held s at m) (d : tag ≡ tagAt s at) where
+  pub size-int : tag ≡ 0 → 2 ≡ size (heldAt s at m)
+  unfolding size
+  size-int z = rw (held-int s at m g (w .tag) (sym d ∙ z))
+
+  pub size-tuple : (r : ℕ) → tag ≡ 2 → r ≡ size (valueAt s at) → r ≡ size (heldAt s at m)
+  size-tuple r z e = e ∙ ap size (sym (held-tuple s at m g (w .tag) (sym d ∙ z)))
+
+  module _ (f : tag ≡ 0 → ⊥) (h : tag ≡ 2 → ⊥) where
+    pub a-collection : tagAt s at ≡ 1
+    a-collection = by-tag s at g (w .tag) _ (λ e. absurd (f (d ∙ e))) (λ e. e) (λ e. absurd (h (d ∙ e)))
+
+    pub size-collection : size (heldAt s at m) ≡ 2 + sizeLeft s at m
+    unfolding size sizeLeft
+    size-collection = rw (held-collection s at m g (w .tag) a-collection)
+
+    pub size-held : size (heldAt s at m) ≤ 1024
+    unfolding sizeLeft left size
+    size-held =
+        let i = is-here s at g (w .tag) in
+        let v : size (valueAt s at) ≡ 2 + sizeAll (elements (valueAt s at)) = ap size (collection-at s at g (w .tag) a-collection) in
+        omega (arith, size-collection, size-marked (elements (valueAt s at)) m, v, i .fits, g .short)
+
+-- The words of a whole value, up to its end.
+module _ (s : List ℤ) (ends : List ℕ) (at z : ℕ) (g : Target s) (q : Ends s ends) (w : Tag s at) (u : z ≡ getD ends (at / 2) 0) where
+  whole-end : z ≡ at + size (valueAt s at)
+  whole-end = u ∙ q .are at w
+
+  pub whole-le : at ≤ z
+  whole-le = omega (arith, whole-end)
+
+  pub whole-size : z - at ≡ size (valueAt s at)
+  whole-size = omega (arith, whole-end)
+
+pub ruleset whole-rules = (find-half, find-half-mul, whole-le, whole-size, needs)
+
+pub size-done : (s : List ℤ) (at m n x : ℕ) → x ≡ n + sizeLeft s at m → m ≤ 0 → n ≡ x
+unfolding sizeLeft sizeAll
+size-done s at m n x e h = omega (arith, ap sizeAll (left-none s at m h))
+
+module _ (s : List ℤ) (ends : List ℕ) (at m k e : ℕ) (g : Target s) (q : Ends s ends) (w : Held s at m) (d : k ≡ trailingZeros 64 m) (h : 0 < m)
+    (i : e ≡ elementAt s at k) where
+  pub end-half : e / 2 < 512
+  end-half = let t = next-tag s at m k g w d h e i in let l = g .short in omega (arith, t .inside)
+
+  pub end-mul : Fits w64 (e / 2 * 2)
+  end-mul = let b = end-half in record { fits = omega arith }
+
+  module _ (z : ℕ) (u : z ≡ getD ends (e / 2) 0) where
+    end-is : z ≡ e + size (valueAt s e)
+    end-is = u ∙ q .are e (next-tag s at m k g w d h e i)
+
+    pub end-le : e ≤ z
+    end-le = omega (arith, end-is)
+
+    pub end-fits : z ≤ length s
+    end-fits = omega (arith, end-is, is-here s e g (next-tag s at m k g w d h e i) .fits)
+
+    module _ (x : ℕ) (j : x ≡ clear (trailingZeros 64 m) m) where
+      next-size : sizeLeft s at m ≡ (z - e) + sizeLeft s at x
+      unfolding sizeLeft sizeAll
+      next-size = rw (next-left s at m k g w d h e i x j, end-is) (omega arith)
+
+      next-words : wordsLeft s at m ≡ part e z s ++ wordsLeft s at x
+      unfolding wordsLeft wordsAll part
+      next-words = rw (end-is, slice-words s e g (next-tag s at m k g w d h e i), next-left s at m k g w d h e i x j)
+
+    pub size-turn : (n x y : ℕ) → y ≡ n + sizeLeft s at m → x ≡ clear (trailingZeros 64 m) m → y ≡ n + (z - e) + sizeLeft s at x
+    size-turn n x y a j = let b = next-size x j in omega arith
+
+    pub size-fits : (n y : ℕ) → y ≡ n + sizeLeft s at m → y ≤ 1024 → Fits w64 (n + (z - e))
+    size-fits n y a l = let b = next-size _ refl in record { fits = omega arith }
+
+    pub put-turn : (room room′ x : List ℤ) (o o′ y : ℕ) → x ≡ put room o (wordsLeft s at m) → o′ ≡ o + (z - e) → room′ ≡ put room o (part e z s)
+        → y ≡ clear (trailingZeros 64 m) m → x ≡ put room′ o′ (wordsLeft s at y)
+    unfolding part
+    put-turn room room′ x o o′ y a p r n =
+        let l = length-slice e z s end-fits in
+        a ∙ rw (p, r, next-words y n, ← l) (put-append (part e z s) (wordsLeft s at y) room o)
+
+    pub put-size : (o o′ x y : ℕ) → x ≡ o + sizeLeft s at m → o′ ≡ o + (z - e) → y ≡ clear (trailingZeros 64 m) m → x ≡ o′ + sizeLeft s at y
+    put-size o o′ x y a p n = let b = next-size y n in omega arith
+
+    pub put-room : (o x l : ℕ) → x ≡ o + sizeLeft s at m → x ≤ l → o + (z - e) ≤ l
+    put-room o x l a b = let c = next-size _ refl in omega arith
+
+pub ruleset next-rules = (tag-small, end-half, end-mul, end-le, end-fits, held-clear, next-in, next-less, needs)
+
+pub ruleset size-rules = (size-int, size-tuple, size-collection, size-held, size-done, size-turn, size-fits, held-tag, next-rules)
+
+-- ---- The words of a held value.
+
+pub put-done : (s room x : List ℤ) (at m o : ℕ) → x ≡ put room o (wordsLeft s at m) → m ≤ 0 → room ≡ x
+unfolding wordsLeft wordsAll
+put-done s room x at m o a h = sym (a ∙ rw (left-none s at m h) (put-none room o))
+
+pub ruleset left-rules = (put-turn, put-size, put-room, put-done, size-done, length-put, next-rules)
+
+module _ (s room : List ℤ) (at m from tag : ℕ) (g : Target s) (w : Held s at m) (d : tag ≡ tagAt s at) where
+  pub put-collection : (room′ room″ : List ℤ) (n : ℤ) → (tag ≡ 0 → ⊥) → (tag ≡ 2 → ⊥) → n ≡ pos (ones m) → room′ ≡ put room from (pos 1 ∷ n ∷ [])
+      → room″ ≡ put room′ (from + 2) (wordsLeft s at m) → room″ ≡ put room from (words (heldAt s at m))
+  unfolding words wordsLeft left
+  put-collection room′ room″ n f h q r i =
+      i ∙ rw (r, q, held-collection s at m g (w .tag) (a-collection s at m tag g w d f h), count-marked (elements (valueAt s at)) m (held-some s at m g w))
+      (sym (put-append (pos 1 ∷ pos (ones m) ∷ []) (wordsLeft s at m) room from))
+
+  pub put-collection-end : (r : ℕ) → (tag ≡ 0 → ⊥) → (tag ≡ 2 → ⊥) → r ≡ from + 2 + sizeLeft s at m → r ≡ from + size (heldAt s at m)
+  put-collection-end r f h i = omega (arith, i, size-collection s at m tag g w d f h)
+
+  pub put-collection-room : (room′ ws : List ℤ) → (tag ≡ 0 → ⊥) → (tag ≡ 2 → ⊥) → room′ ≡ put room from ws → from + size (heldAt s at m) ≤ length room
+      → from + 2 + sizeLeft s at m ≤ length room′
+  put-collection-room room′ ws f h i b = omega (arith, size-collection s at m tag g w d f h, ap length i ∙ length-put room from ws)
+
+  module _ (n : ℕ) (z : tag ≡ 2) (e : n ≡ size (valueAt s at)) where
+    tuple-size : n ≡ size (heldAt s at m)
+    tuple-size = size-tuple s at m tag g w d n z e
+
+    pub put-tuple : (room′ : List ℤ) → room′ ≡ put room from (part at (at + n) s) → room′ ≡ put room from (words (heldAt s at m))
+    unfolding part
+    put-tuple room′ i = i ∙ ap (put room from) (rw (e, slice-words s at g (w .tag), held-tuple s at m g (w .tag) (sym d ∙ z)))
+
+    pub put-tuple-end : (r : ℕ) → r ≡ from + (at + n - at) → r ≡ from + size (heldAt s at m)
+    put-tuple-end r i = omega (arith, tuple-size)
+
+    pub put-tuple-room : (l : ℕ) → from + size (heldAt s at m) ≤ l → from + (at + n - at) ≤ l
+    put-tuple-room l b = omega (arith, tuple-size)
+
+  pub put-int : (room′ : List ℤ) (x : ℤ) → tag ≡ 0 → x ≡ getD s (at + 1) (pos 0) → room′ ≡ put room from (pos 0 ∷ x ∷ []) → room′ ≡ put room from (words (heldAt s at m))
+  unfolding words
+  put-int room′ x z q i = i ∙ rw (held-int s at m g (w .tag) (sym d ∙ z), q)
+
+  pub put-int-end : tag ≡ 0 → from + 2 ≡ from + size (heldAt s at m)
+  put-int-end z = omega (arith, size-int s at m tag g w d z)
+
+module _ (s : List ℤ) (at m n : ℕ) (g : Target s) (w : Held s at m) (e : n ≡ size (valueAt s at)) where
+  pub put-inside : at + n ≤ length s
+  put-inside = omega (arith, is-here s at g (w .tag) .fits)
+
+  pub put-to : Fits w64 (at + n)
+  put-to = record { fits = omega (arith, put-inside, g .short) }
+
+pub put-two-room : (s : List ℤ) (at m from l : ℕ) → from + size (heldAt s at m) ≤ l → from + 2 ≤ l
+put-two-room s at m from l b = omega (arith, two-words (heldAt s at m))
+
+pub put-second : (s : List ℤ) (at m : ℕ) → Target s → Held s at m → at + 1 < length s
+put-second s at m g w = second s at g (w .tag)
+
+pub ruleset put-rules = (tag-small, put-collection, put-collection-end, put-collection-room, put-int, put-int-end, put-tuple, put-tuple-end, put-tuple-room, put-inside, put-to, put-two-room, put-second, held-tag, length-put, needs)
+
+-- ---- The row.
+
+module _ (s : List ℤ) (b : List Binding) (n v : ℕ) (q : Bound s b n) (h : v < n) where
+  pub row-held : Held s (getD b v nothing .at) (getD b v nothing .marks)
+  row-held = q .are v h
+
+  pub row-16 : v < 16
+  row-16 = omega (arith, q .most)
+
+  pub row-mul : Fits w64 (v * 16)
+  row-mul = let z = row-16 in record { fits = omega arith }
+
+  row-step : row (boundFrom s b v n) ≡ words (heldAt s (getD b v nothing .at) (getD b v nothing .marks)) ++ row (boundFrom s b (v + 1) n)
+  unfolding boundFrom holds row
+  row-step =
+      let l : v < length (take n b) = rw length-take (omega (arith, q .most, q .long)) in
+      rw (drop-cons (take n b) v nothing l, getD-take n b v nothing h, add-one v)
+
+  step-length : length (row (boundFrom s b v n)) ≡ size (heldAt s (getD b v nothing .at) (getD b v nothing .marks)) + length (row (boundFrom s b (v + 1) n))
+  step-length =
+      let x = heldAt s (getD b v nothing .at) (getD b v nothing .marks) in
+      ap length row-step ∙ length-append (words x) (row (boundFrom s b (v + 1) n)) ∙ ap (λ (k : ℕ). k + length (row (boundFrom s b (v + 1) n))) (length-words x)
+
+  pub row-room : (o y l : ℕ) → y ≡ o + length (row (boundFrom s b v n)) → y ≤ l → o + size (heldAt s (getD b v nothing .at) (getD b v nothing .marks)) ≤ l
+  row-room o y l i k = omega (arith, step-length)
+
+  pub row-turn-size : (o o′ y : ℕ) → y ≡ o + length (row (boundFrom s b v n)) → o′ ≡ o + size (heldAt s (getD b v nothing .at) (getD b v nothing .marks))
+      → y ≡ o′ + length (row (boundFrom s b (v + 1) n))
+  row-turn-size o o′ y i k = omega (arith, step-length)
+
+  pub row-turn : (room room′ x : List ℤ) (o o′ : ℕ) → x ≡ put room o (row (boundFrom s b v n)) → o′ ≡ o + size (heldAt s (getD b v nothing .at) (getD b v nothing .marks))
+      → room′ ≡ put room o (words (heldAt s (getD b v nothing .at) (getD b v nothing .marks))) → x ≡ put room′ o′ (row (boundFrom s b (v + 1) n))
+  row-turn room room′ x o o′ i k j =
+      let y = heldAt s (getD b v nothing .at) (getD b v nothing .marks) in
+      i ∙ rw (k, j, ← length-words y, row-step) (put-append (words y) (row (boundFrom s b (v + 1) n)) room o)
+
+row-none : (s : List ℤ) (b : List Binding) (n v : ℕ) → Bound s b n → n ≤ v → row (boundFrom s b v n) ≡ []
+unfolding boundFrom row
+row-none s b n v q h = ap (λ (l : List Binding). row (map (holds s) l)) (all-dropped (take n b) v (rw length-take (omega (arith, q .most, q .long))))
+  where
+    all-dropped : (l : List Binding) (k : ℕ) → length l ≤ k → drop k l ≡ []
+    all-dropped [] zero h = refl
+    all-dropped [] (suc k) h = refl
+    all-dropped (x ∷ l) zero h = absurd (omega arith)
+    all-dropped (x ∷ l) (suc k) h = all-dropped l k (omega arith)
+
+pub row-out : (s room x : List ℤ) (b : List Binding) (n v o : ℕ) → Bound s b n → x ≡ put room o (row (boundFrom s b v n)) → n ≤ v → room ≡ x
+row-out s room x b n v o q i h = sym (i ∙ rw (row-none s b n v q h) (put-none room o))
+
+pub row-out-size : (s : List ℤ) (b : List Binding) (n v o y : ℕ) → Bound s b n → y ≡ o + length (row (boundFrom s b v n)) → n ≤ v → o ≡ y
+row-out-size s b n v o y q i h = omega (arith, ap length (row-none s b n v q h))
+
+module _ (s : List ℤ) (b : List Binding) (n : ℕ) where
+  row-start : row (bound s b n) ≡ row (boundFrom s b 0 n)
+  unfolding bound boundFrom
+  row-start = refl
+
+  pub row-start-size : (o : ℕ) → o + length (row (bound s b n)) ≡ o + length (row (boundFrom s b 0 n))
+  row-start-size o = rw row-start
+
+  pub row-start-sum : length (row (bound s b n)) ≡ 0 + length (row (boundFrom s b 0 n))
+  row-start-sum = omega (arith, ap length row-start)
+
+  pub row-start-room : (room : List ℤ) (o : ℕ) → put room o (row (bound s b n)) ≡ put room o (row (boundFrom s b 0 n))
+  row-start-room room o = rw row-start
+
+pub row-long : (room room′ ws : List ℤ) (o l : ℕ) → room′ ≡ put room o ws → length room ≡ l → length room′ ≡ l
+row-long room room′ ws o l i e = ap length i ∙ length-put room o ws ∙ e
+
+pub row-le : (room room′ ws : List ℤ) (o y : ℕ) → room′ ≡ put room o ws → y ≤ length room → y ≤ length room′
+row-le room room′ ws o y i e = rw (ap length i ∙ length-put room o ws) e
+
+pub ruleset row-rules = (row-held, row-16, row-mul, row-room, row-turn-size, row-turn, row-long, row-le, row-out, row-out-size, row-start-size, row-start-room, needs)
+
+-- ---- The size of the row.
+
+pub held-size : (s : List ℤ) (at m : ℕ) → Target s → Held s at m → size (heldAt s at m) ≤ 1024
+held-size s at m g w = by-tag s at g (w .tag) _
+    (λ e. omega (arith, size-int s at m (tagAt s at) g w refl e))
+    (λ e. size-held s at m (tagAt s at) g w refl (λ z. omega arith) (λ z. omega arith))
+    (λ e. omega (arith, size-tuple s at m (tagAt s at) g w refl (size (valueAt s at)) e refl, is-here s at g (w .tag) .fits, g .short))
+
+module _ (s : List ℤ) (b : List Binding) (n v k r : ℕ) (q : Bound s b n) (h : v < n) (g : Target s)
+    (e : r ≡ size (heldAt s (getD b v nothing .at) (getD b v nothing .marks))) where
+  small : r ≤ 1024
+  small = omega (arith, e, held-size s (getD b v nothing .at) (getD b v nothing .marks) g (row-held s b n v q h))
+
+  pub sum-fits : k ≤ v * 1024 → Fits w64 (k + r)
+  sum-fits a = let z = row-16 s b n v q h in record { fits = omega (arith, small) }
+
+  pub sum-bound : k ≤ v * 1024 → k + r ≤ (v + 1) * 1024
+  sum-bound a = omega (arith, small)
+
+  pub sum-turn : (y : ℕ) → y ≡ k + length (row (boundFrom s b v n)) → y ≡ k + r + length (row (boundFrom s b (v + 1) n))
+  sum-turn y i = omega (arith, step-length s b n v q h)
+
+pub ruleset sum-rules = (sum-fits, sum-bound, sum-turn, row-held, row-16, row-mul, row-out-size, row-start-sum, needs)
+
+-- ---- A bind: one value more at the end, and the earlier ones as they were.
+
+map-end : {A B : Type 0} (f : A → B) (l : List A) (a : A) → map f (l ++ (a ∷ [])) ≡ map f l ++ (f a ∷ [])
+map-end f [] a = refl
+map-end f (x ∷ l) a = ap (λ r. f x ∷ r) (map-end f l a)
+
+pub bind-is : (s : List ℤ) (b : List Binding) (n : ℕ) (x : Binding) → n < length b → bound s (set b n x) (suc n) ≡ bound s b n ++ (holds s x ∷ [])
+unfolding bound
+bind-is s b n x h = rw (take-suc-set b n x h) (map-end (holds s) (take n b) x)
+
+pub bind-bound : (s : List ℤ) (b : List Binding) (n : ℕ) (x : Binding) → n < 16 → Bound s b n → Held s (x .at) (x .marks) → Bound s (set b n x) (suc n)
+bind-bound s b n x h q w = record {
+  most = omega arith;
+  long = length-set b n x ∙ q .long;
+  are = λ v k. go v k (decLt v n);
+}
+  where
+    go : (v : ℕ) → v < suc n → Dec (v < n) → Held s (getD (set b n x) v nothing .at) (getD (set b n x) v nothing .marks)
+    go v k (yes y) = rw (getD-set-other b n v x nothing (λ z. omega arith)) (q .are v y)
+    go v k (no y) = let z : v ≡ n = omega arith in rw (z, getD-set-same b n x nothing (omega (arith, q .long))) w

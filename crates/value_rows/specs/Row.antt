@@ -1,0 +1,33 @@
+-- The values that the variables are bound to.
+use Prim.Native.Nat.{ℕ, _<_, _≤_}
+use mathlib.Core.Path.{_≡_}
+use mathlib.Core.List.{List, map}
+use lib.ListN.{length, getD, take, drop}
+use lib.IntN.{ℤ}
+use Rattle.rules.specs.Equality.{Bindings}
+use Rattle.rules.specs.Forms.{Value}
+use Rattle.value_places.specs.Held.{heldAt, Held}
+use Rattle.value_rows.specs.declared.Binding.{Binding}
+
+-- The value of a binding, and the bindings of the first n variables.
+unfoldable pub holds : List ℤ → Binding → Value
+unfolding heldAt
+holds s x = heldAt s (x .at) (x .marks)
+
+unfoldable pub bound : List ℤ → List Binding → ℕ → Bindings
+unfolding holds
+bound s b n = map (holds s) (take n b)
+
+-- Those from variable v on.
+unfoldable pub boundFrom : List ℤ → List Binding → ℕ → ℕ → Bindings
+unfolding holds
+boundFrom s b v n = map (holds s) (drop v (take n b))
+
+abbrev pub nothing : Binding
+nothing = record { at = 0; marks = 0 }
+
+-- Each of the first n is a held value.
+pub record Bound (s : List ℤ) (b : List Binding) (n : ℕ) : Type 0 where
+  pub most : n ≤ 16
+  pub long : length b ≡ 16
+  pub are : (v : ℕ) → v < n → Held s (getD b v nothing .at) (getD b v nothing .marks)

@@ -1,0 +1,211 @@
+// Document 01, section 4, Row: the values of the variables, each in target form, elements in target order. The size is known before a word is
+// written, and no other word of the room is touched.
+use value_places::places::element;
+use value_places::places::number_at;
+use value_places::places::wide;
+use words::marks::count;
+use words::marks::lowest;
+use words::marks::rest;
+ghost use mathlib.Core.Path.{_≡_};
+ghost use mathlib.Core.List.{_∷_, []};
+ghost use Prim.Native.Nat.{_+_, _-_, _<_, _≤_};
+ghost use lib.ListN.{length, set};
+ghost use lib.IntN.{pos};
+ghost use lib.Count.{ones};
+ghost use Rattle.rules.specs.Forms.{size, words};
+ghost use Rattle.rules.specs.Search.{row};
+ghost use Rattle.value_places.specs.Places.{valueAt, Target, Tag};
+ghost use Rattle.value_places.specs.Tables.{Ends, Places};
+ghost use Rattle.value_places.specs.Held.{Held, heldAt, sizeLeft, wordsLeft, put, part};
+ghost use Rattle.value_rows.specs.Row.{bound, Bound};
+
+// What a variable is bound to: the index of a tag in the target, and marks.
+pub struct Binding {
+    pub at: usize,
+    pub marks: u64,
+}
+
+// Variable v is bound.
+pub fn bind(mut b: [Binding; 16], v: usize, x: Binding) -> [Binding; 16]
+    requires { ⌜ v < 16 ⌝ }
+    ensures { λ r. ⌜ r ≡ set b v x ⌝ }
+{
+    b[v] = x;
+    b
+}
+
+// How many words the value at an index has.
+fn size_at(s: &[i32], ends: &[u16; 512], at: usize) -> usize
+    requires { ⌜ Target (now s) ⌝ ∗ ⌜ Ends (now s) (now ends) ⌝ ∗ ⌜ Tag (now s) at ⌝ }
+    ensures { λ r. ⌜ r ≡ size (valueAt (now (s .entry)) at) ⌝ }
+{
+    let end = wide(ends[at / 2]);
+    end - at
+}
+
+// How many words a held value has. A tuple is held whole.
+fn size_of(
+    s: &[i32],
+    ends: &[u16; 512],
+    base: &[u16; 512],
+    places: &[u16; 512],
+    at: usize,
+    m: u64,
+) -> usize
+    requires { ⌜ Target (now s) ⌝ ∗ ⌜ Ends (now s) (now ends) ⌝ ∗ ⌜ Places (now s) (now base) (now places) ⌝ ∗ ⌜ Held (now s) at m ⌝ }
+    ensures { λ r. ⌜ r ≡ size (heldAt (now (s .entry)) at m) ⌝ }
+{
+    let tag = number_at(s, at);
+    if tag == 0 {
+        return 2;
+    }
+    if tag == 2 {
+        return size_at(s, ends, at);
+    }
+    let mut n: usize = 2;
+    let mut left = m;
+    while 0 < left {
+        let k = lowest(left);
+        let e = element(s, base, places, at, k);
+        let end = wide(ends[e / 2]);
+        n += end - e;
+        left = rest(left);
+    }
+    n
+}
+
+// The words from an index up to another, once more at an index of the room.
+fn copy(s: &[i32], from: usize, to: usize, room: &mut [i32], at: usize) -> usize
+    requires { ⌜ from ≤ to ⌝ ∗ ⌜ to ≤ length (now s) ⌝ ∗ ⌜ at + (to - from) ≤ length (now room) ⌝ }
+    ensures { λ r. ⌜ (r ≡ at + (to - from)) × (now (room .exit) ≡ put (now (room .entry)) at (part from to (now (s .entry)))) ⌝ }
+{
+    let mut i = from;
+    let mut o = at;
+    while i < to {
+        room[o] = s[i];
+        o += 1;
+        i += 1;
+    }
+    o
+}
+
+// Two words, written into the room.
+fn put_two(room: &mut [i32], from: usize, a: i32, b: i32)
+    requires { ⌜ from + 2 ≤ length (now room) ⌝ }
+    ensures { λ r. ⌜ now (room .exit) ≡ put (now (room .entry)) from (a ∷ b ∷ []) ⌝ }
+{
+    room[from] = a;
+    room[from + 1] = b;
+}
+
+// The number of marks as a word.
+fn count_word(m: u64) -> i32
+    ensures { λ r. ⌜ r ≡ pos (ones m) ⌝ }
+{
+    count(m) as i32
+}
+
+// The words of the elements marked.
+fn put_left(
+    s: &[i32],
+    ends: &[u16; 512],
+    base: &[u16; 512],
+    places: &[u16; 512],
+    at: usize,
+    m: u64,
+    room: &mut [i32],
+    from: usize,
+) -> usize
+    requires { ⌜ Target (now s) ⌝ ∗ ⌜ Ends (now s) (now ends) ⌝ ∗ ⌜ Places (now s) (now base) (now places) ⌝ ∗ ⌜ Held (now s) at m ⌝ ∗ ⌜ from + sizeLeft (now s) at m ≤ length (now room) ⌝ }
+    ensures { λ r. ⌜ (r ≡ from + sizeLeft (now (s .entry)) at m) × (now (room .exit) ≡ put (now (room .entry)) from (wordsLeft (now (s .entry)) at m)) ⌝ }
+{
+    let mut o = from;
+    let mut left = m;
+    while 0 < left {
+        let k = lowest(left);
+        let e = element(s, base, places, at, k);
+        let end = wide(ends[e / 2]);
+        o = copy(s, e, end, room, o);
+        left = rest(left);
+    }
+    o
+}
+
+// A held value's words, written into the room from an index on.
+fn put_value(
+    s: &[i32],
+    ends: &[u16; 512],
+    base: &[u16; 512],
+    places: &[u16; 512],
+    at: usize,
+    m: u64,
+    room: &mut [i32],
+    from: usize,
+) -> usize
+    requires { ⌜ Target (now s) ⌝ ∗ ⌜ Ends (now s) (now ends) ⌝ ∗ ⌜ Places (now s) (now base) (now places) ⌝ ∗ ⌜ Held (now s) at m ⌝ ∗ ⌜ from + size (heldAt (now s) at m) ≤ length (now room) ⌝ }
+    ensures { λ r. ⌜ (r ≡ from + size (heldAt (now (s .entry)) at m)) × (now (room .exit) ≡ put (now (room .entry)) from (words (heldAt (now (s .entry)) at m))) ⌝ }
+{
+    let tag = number_at(s, at);
+    if tag == 0 {
+        let x = s[at + 1];
+        put_two(room, from, 0, x);
+        return from + 2;
+    }
+    if tag == 2 {
+        let n = size_at(s, ends, at);
+        return copy(s, at, at + n, room, from);
+    }
+    let n = count_word(m);
+    put_two(room, from, 1, n);
+    put_left(s, ends, base, places, at, m, room, from + 2)
+}
+
+// How many words the row has of which n variables are bound.
+pub fn row_size(
+    s: &[i32],
+    ends: &[u16; 512],
+    base: &[u16; 512],
+    places: &[u16; 512],
+    b: [Binding; 16],
+    n: usize,
+) -> usize
+    requires { ⌜ Target (now s) ⌝ ∗ ⌜ Ends (now s) (now ends) ⌝ ∗ ⌜ Places (now s) (now base) (now places) ⌝ ∗ ⌜ Bound (now s) b n ⌝ }
+    ensures { λ r. ⌜ r ≡ length (row (bound (now (s .entry)) b n)) ⌝ }
+{
+    let mut size: usize = 0;
+    let mut v: usize = 0;
+    while v < n {
+        let x = b[v];
+        let at = x.at;
+        let m = x.marks;
+        size += size_of(s, ends, base, places, at, m);
+        v += 1;
+    }
+    size
+}
+
+// The row, written into the room from an index on.
+pub fn put_row(
+    s: &[i32],
+    ends: &[u16; 512],
+    base: &[u16; 512],
+    places: &[u16; 512],
+    b: [Binding; 16],
+    n: usize,
+    room: &mut [i32],
+    from: usize,
+) -> usize
+    requires { ⌜ Target (now s) ⌝ ∗ ⌜ Ends (now s) (now ends) ⌝ ∗ ⌜ Places (now s) (now base) (now places) ⌝ ∗ ⌜ Bound (now s) b n ⌝ ∗ ⌜ from + length (row (bound (now s) b n)) ≤ length (now room) ⌝ }
+    ensures { λ r. ⌜ (r ≡ from + length (row (bound (now (s .entry)) b n))) × (now (room .exit) ≡ put (now (room .entry)) from (row (bound (now (s .entry)) b n))) ⌝ }
+{
+    let mut o = from;
+    let mut v: usize = 0;
+    while v < n {
+        let x = b[v];
+        let at = x.at;
+        let m = x.marks;
+        o = put_value(s, ends, base, places, at, m, room, o);
+        v += 1;
+    }
+    o
+}
