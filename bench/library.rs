@@ -41,7 +41,9 @@ fn numbers<const N: usize>(bytes: &[u8], answer: u32) -> [u64; N] {
     all
 }
 
-fn call_match(rule: [&[i32]; 2], target: &[i32], budget: u32, room: &mut [i32], numbers: &mut [u8]) -> u32 {
+/// The call itself.
+#[inline(always)]
+pub fn call_match(rule: [&[i32]; 2], target: &[i32], budget: u32, room: &mut [i32], numbers: &mut [u8]) -> u32 {
     let [matcher, pattern] = rule;
     unsafe {
         lozhbinor_match(

@@ -1,7 +1,9 @@
 //! The comparison and the measurement: the library against a Rust program that shares nothing with it.
 //!   bench cases FILE..             case files, through the reference and through the services
 //!   bench compare N SEED           N random inputs: the services against the reference
-//!   bench speed CASE ROUNDS WHO    one rule again and again, by the `reference` or the `services`; prints the steps of one run
+//!   bench rules                    what is measured: name, bar in tenths of an instruction, for a `step` or a `call`, and what it is
+//!   bench speed CASE ROUNDS WHO    one of them again and again, by `plain`, `tuned` or `library`; prints the steps of one run
+//!   bench stack                    the deepest stack of a call in bytes, and its bar
 //! The services are the library's, through the C border (built with `--cfg library`), or else those of a slow second program.
 
 mod cases;
@@ -13,6 +15,8 @@ mod library;
 mod model;
 mod reference;
 mod speed;
+#[cfg(library)]
+mod stack;
 mod text;
 
 /// What is put to the test: the two services of section 1.
@@ -24,6 +28,9 @@ pub struct Services {
 
 const REFERENCE: Services =
     Services { name: "the reference", match_words: reference::match_words, review: reference::review };
+
+const TUNED: Services =
+    Services { name: "the tuned program", match_words: reference::tuned::match_words, review: reference::review };
 
 #[cfg(library)]
 const TESTED: Services = Services { name: "the library", match_words: library::match_words, review: library::review };
@@ -52,11 +59,29 @@ fn run_comparison(inputs: u64, seed: u64) -> bool {
     tally.differ == 0
 }
 
+fn list_rules() -> bool {
+    for case in &speed::CASES {
+        let per = if case.per == speed::Per::Step { "step" } else { "call" };
+        println!("{} {} {} {}", case.name, case.bar, per, case.about);
+    }
+    true
+}
+
 fn run_speed(name: &str, rounds: u64, who: &str) -> bool {
-    let services = if who == "reference" { &REFERENCE } else { &TESTED };
+    let services = match who {
+        "plain" => &REFERENCE,
+        "tuned" => &TUNED,
+        _ => &TESTED,
+    };
     let case = speed::CASES.iter().find(|case| case.name == name);
-    let case = case.unwrap_or_else(|| panic!("no case {name}: {:?}", speed::CASES.map(|case| case.name)));
+    let case = case.unwrap_or_else(|| panic!("no case {name}: bench rules lists them"));
     println!("{}", case.run(services, rounds));
+    true
+}
+
+fn run_stack() -> bool {
+    #[cfg(library)]
+    println!("{} {}", stack::deepest(), speed::STACK_BAR);
     true
 }
 
@@ -67,10 +92,12 @@ fn number(words: &[String], at: usize) -> u64 {
 fn main() {
     let words: Vec<String> = std::env::args().skip(1).collect();
     let good = match words.first().map(String::as_str) {
-        Some("cases") => run_cases(&REFERENCE, &words[1..]) & run_cases(&TESTED, &words[1..]),
+        Some("cases") => [REFERENCE, TUNED, TESTED].iter().all(|services| run_cases(services, &words[1..])),
         Some("compare") => run_comparison(number(&words, 1), number(&words, 2)),
+        Some("rules") => list_rules(),
         Some("speed") if words.len() == 4 => run_speed(&words[1], number(&words, 2), &words[3]),
-        _ => panic!("bench cases FILE.. | compare N SEED | speed CASE ROUNDS WHO"),
+        Some("stack") => run_stack(),
+        _ => panic!("bench cases FILE.. | compare N SEED | rules | speed CASE ROUNDS WHO | stack"),
     };
     std::process::exit(if good { 0 } else { 1 });
 }

@@ -1,6 +1,8 @@
 //! Document 01, with the requests No. 1, 2, 3, 5 and 6 of document 02, by plain recursion on the words, as a good Rust engineer would write it: no tree, no heap.
 //! It knows nothing of the library and nothing of the proofs.
 
+pub mod tuned;
+
 /// Match's six numbers: answer, place, rows, steps, words written, cause.
 pub type Matched = [u64; 6];
 
@@ -259,6 +261,16 @@ impl Places {
         Places { first: [0; 1024], end: [0; 1024], elements: [0; 1024], used: 0 }
     }
 
+    /// An element of a collection, most often an integer: these are read at once.
+    #[inline]
+    fn element(&mut self, words: &[i32], at: usize, depth: usize) -> ReadUnits {
+        if at + 1 < words.len() && words[at] == 0 {
+            self.end[at] = at as u16 + 2;
+            return Ok(at + 2);
+        }
+        self.value(words, at, depth)
+    }
+
     fn value(&mut self, words: &[i32], at: usize, depth: usize) -> ReadUnits {
         let end = match words.get(at) {
             None => return Err((at, Cause::CutShort)),
@@ -273,7 +285,7 @@ impl Places {
                 self.used += count;
                 for k in 0..count {
                     self.elements[first + k] = end as u16;
-                    end = self.value(words, end, depth - 1)?;
+                    end = self.element(words, end, depth - 1)?;
                 }
                 end
             }
@@ -314,7 +326,9 @@ fn fits_value(r: Forms, m: usize, at: usize) -> Result<(), usize> {
         (LIST, 1) | (MULTISET, 1) => {
             let mut element = at + 2;
             for _ in 0..r.target[at + 1] {
-                fits_value(r, m + 1, element)?;
+                if r.matcher[m + 1] != INTEGER || r.target[element] != 0 {
+                    fits_value(r, m + 1, element)?;
+                }
                 element = r.places.end[element] as usize;
             }
             Ok(())
@@ -674,6 +688,16 @@ impl Search<'_> {
         }
     }
 
+    /// Match's numbers when the search has ended.
+    fn numbers(&self, ended: Result<(), Stop>) -> Matched {
+        let answer = match ended {
+            Ok(()) => 0,
+            Err(Stop::Budget) => 7,
+            Err(_) => 8,
+        };
+        [answer, 0, self.rows as u64, self.steps as u64, self.words as u64, 0]
+    }
+
     /// Writes a whole value of the target.
     fn copy(&mut self, at: usize) {
         let words = &self.target[at..self.places.end[at] as usize];
@@ -704,7 +728,15 @@ fn read_rule(matcher: &[i32], pattern: &[i32], rule: &mut Rule) -> Result<usize,
     Ok(variables)
 }
 
-pub fn match_words(matcher: &[i32], pattern: &[i32], target: &[i32], budget: u32, room: &mut [i32]) -> Matched {
+/// The tests 1 to 6, and the search ready to begin, given to what runs it.
+fn checked(
+    matcher: &[i32],
+    pattern: &[i32],
+    target: &[i32],
+    budget: u32,
+    room: &mut [i32],
+    run: impl FnOnce(Search) -> Matched,
+) -> Matched {
     let mut rule = Rule { matcher_ends: [0; 64], ends: [0; 256] };
     let mut places = Places::new();
     let read = |rule: &mut Rule, places: &mut Places| {
@@ -719,7 +751,7 @@ pub fn match_words(matcher: &[i32], pattern: &[i32], target: &[i32], budget: u32
         Ok(variables) => variables,
         Err(numbers) => return numbers,
     };
-    let mut search = Search {
+    run(Search {
         matcher,
         matcher_ends: &rule.matcher_ends,
         pattern,
@@ -734,14 +766,15 @@ pub fn match_words(matcher: &[i32], pattern: &[i32], target: &[i32], budget: u32
         rows: 0,
         steps: 0,
         words: 0,
-    };
-    let start = Atom { pattern: 0, matcher: 0, value: search.whole(0), older: None };
-    let answer = match search.take_up(Some(&start)) {
-        Ok(()) => 0,
-        Err(Stop::Budget) => 7,
-        Err(_) => 8,
-    };
-    [answer, 0, search.rows as u64, search.steps as u64, search.words as u64, 0]
+    })
+}
+
+pub fn match_words(matcher: &[i32], pattern: &[i32], target: &[i32], budget: u32, room: &mut [i32]) -> Matched {
+    checked(matcher, pattern, target, budget, room, |mut search| {
+        let start = Atom { pattern: 0, matcher: 0, value: search.whole(0), older: None };
+        let ended = search.take_up(Some(&start));
+        search.numbers(ended)
+    })
 }
 
 /// Section 6's sum and product, as far as a walk of the pattern has come. Each is exact or at its largest number; so 0 times what is too large is 0.

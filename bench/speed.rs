@@ -1,44 +1,94 @@
-//! Rules to measure: the same run again and again, so that the instructions of one step can be counted from outside.
+//! What is measured: ten rules and two small calls, each again and again, so that the instructions of one step or one call can be counted from
+//! outside; and the stack of a call. The bars stand here, in one table: above them `bench/run speed` fails.
 
 use crate::Services;
 
+/// A rule, its units, and the most instructions, in tenths, that the library may take: for a step, or for the whole call.
 pub struct Case {
     pub name: &'static str,
+    pub about: &'static str,
+    pub bar: u64,
+    pub per: Per,
     matcher: &'static [i32],
     pattern: &'static [i32],
-    units: fn(usize) -> i32,
-    count: usize,
+    target: fn() -> Vec<i32>,
+    budget: u32,
 }
 
-const TWO_OF_A_RANK: [i32; 8] = [5, 1, 0, 5, 3, 0, 0, 0];
-const FOUR_VARIABLES: [i32; 13] = [5, 1, 0, 5, 1, 1, 5, 1, 2, 5, 1, 3, 0];
-const FOUR_WILDCARDS: [i32; 9] = [5, 0, 5, 0, 5, 0, 5, 0, 0];
-const MULTISET: [i32; 2] = [3, 1];
+#[derive(Clone, Copy, PartialEq)]
+pub enum Per {
+    Step,
+    Call,
+}
 
-pub const CASES: [Case; 4] = [
-    Case { name: "equal", matcher: &MULTISET, pattern: &TWO_OF_A_RANK, units: |_| 7, count: 64 },
-    Case { name: "unequal", matcher: &MULTISET, pattern: &TWO_OF_A_RANK, units: |k| k as i32, count: 64 },
-    Case { name: "variables", matcher: &MULTISET, pattern: &FOUR_VARIABLES, units: |k| k as i32, count: 16 },
-    Case { name: "wildcards", matcher: &MULTISET, pattern: &FOUR_WILDCARDS, units: |k| k as i32, count: 16 },
+/// The deepest stack of a match call that is allowed, in bytes.
+pub const STACK_BAR: usize = 33_952;
+
+const MULTISET: &[i32] = &[3, 1];
+const LIST: &[i32] = &[2, 1];
+const PAIRS: &[i32] = &[3, 4, 2, 1, 1];
+const HANDS: &[i32] = &[3, 3, 1];
+
+const TWO_OF_A_RANK: &[i32] = &[5, 1, 0, 5, 3, 0, 0, 0];
+const THREE_OF_A_RANK: &[i32] = &[5, 1, 0, 5, 3, 0, 0, 5, 3, 0, 0, 0];
+const FOUR_VARIABLES: &[i32] = &[5, 1, 0, 5, 1, 1, 5, 1, 2, 5, 1, 3, 0];
+const FOUR_WILDCARDS: &[i32] = &[5, 0, 5, 0, 5, 0, 5, 0, 0];
+const TWICE_IN_A_LIST: &[i32] = &[6, 0, 5, 1, 0, 6, 0, 5, 3, 0, 0, 0];
+const ONE_KIND_TWO_RANKS: &[i32] = &[5, 7, 2, 1, 0, 1, 1, 5, 7, 2, 3, 0, 0, 3, 1, 1, 0];
+const NO_OTHER_OF_ITS_KIND: &[i32] = &[5, 7, 2, 1, 0, 1, 1, 10, 5, 7, 2, 3, 0, 0, 0, 0];
+const THREE_IN_A_ROW: &[i32] = &[6, 0, 5, 1, 0, 5, 3, 0, 1, 5, 3, 0, 2, 0];
+
+#[rustfmt::skip]
+pub const CASES: [Case; 12] = [
+    Case { name: "T1", about: "two of a rank, 64 equal", bar: 520, per: Per::Step,
+        matcher: MULTISET, pattern: TWO_OF_A_RANK, target: || units(64, |_| 7), budget: u32::MAX },
+    Case { name: "T2", about: "two of a rank, 64 unequal", bar: 489, per: Per::Step,
+        matcher: MULTISET, pattern: TWO_OF_A_RANK, target: || units(64, |k| k), budget: u32::MAX },
+    Case { name: "T3", about: "four cons over variables, 16", bar: 736, per: Per::Step,
+        matcher: MULTISET, pattern: FOUR_VARIABLES, target: || units(16, |k| k), budget: u32::MAX },
+    Case { name: "T4", about: "four cons over wildcards, 16", bar: 273, per: Per::Step,
+        matcher: MULTISET, pattern: FOUR_WILDCARDS, target: || units(16, |k| k), budget: u32::MAX },
+    Case { name: "T5", about: "list: join cons join cons, 64", bar: 349, per: Per::Step,
+        matcher: LIST, pattern: TWICE_IN_A_LIST, target: || units(64, |k| k % 24), budget: u32::MAX },
+    Case { name: "T6", about: "three of a rank, 64 in 8 ranks", bar: 470, per: Per::Step,
+        matcher: MULTISET, pattern: THREE_OF_A_RANK, target: || units(64, |k| k % 8), budget: u32::MAX },
+    Case { name: "T7", about: "pairs, one kind, ranks one apart, 32", bar: 672, per: Per::Step,
+        matcher: PAIRS, pattern: ONE_KIND_TWO_RANKS, target: || pairs(32, |k| (k % 4, k / 4)), budget: u32::MAX },
+    Case { name: "T8", about: "pairs, no other of its kind, 32", bar: 764, per: Per::Step,
+        matcher: PAIRS, pattern: NO_OTHER_OF_ITS_KIND, target: || pairs(32, |k| (k % 12, k)), budget: u32::MAX },
+    Case { name: "T9", about: "list: join, three conses, 64", bar: 650, per: Per::Step,
+        matcher: LIST, pattern: THREE_IN_A_ROW, target: || units(64, |k| k), budget: u32::MAX },
+    Case { name: "T10", about: "twelve hands of six, as multisets", bar: 6350, per: Per::Step,
+        matcher: HANDS, pattern: TWO_OF_A_RANK, target: || hands(12), budget: u32::MAX },
+    Case { name: "none", about: "budget 0 on 64 units, whole call", bar: 141_000, per: Per::Call,
+        matcher: MULTISET, pattern: TWO_OF_A_RANK, target: || units(64, |_| 7), budget: 0 },
+    Case { name: "P1", about: "two of a rank, {2 8 2}, whole call", bar: 48_300, per: Per::Call,
+        matcher: MULTISET, pattern: TWO_OF_A_RANK, target: || vec![1, 3, 0, 2, 0, 8, 0, 2], budget: u32::MAX },
 ];
 
-impl Case {
-    fn target(&self) -> Vec<i32> {
-        let mut words = vec![1, self.count as i32];
-        for k in 0..self.count {
-            words.extend([0, (self.units)(k)]);
-        }
-        words
-    }
+fn units(count: i32, unit: fn(i32) -> i32) -> Vec<i32> {
+    [1, count].into_iter().chain((0..count).flat_map(|k| [0, unit(k)])).collect()
+}
 
+fn pairs(count: i32, pair: fn(i32) -> (i32, i32)) -> Vec<i32> {
+    [1, count].into_iter().chain((0..count).flat_map(|k| [2, 2, 0, pair(k).0, 0, pair(k).1])).collect()
+}
+
+/// Hands of six, of three sorts, each turned by a few places.
+fn hands(count: i32) -> Vec<i32> {
+    let hand = |h| [1, 6].into_iter().chain((0..6).flat_map(move |k| [0, h % 3 * 6 + (k + h) % 6]));
+    [1, count].into_iter().chain((0..count).flat_map(hand)).collect()
+}
+
+impl Case {
     /// Runs the rule `rounds` times; gives the steps of one run. With no rounds all else is done, so that it can be taken off.
     pub fn run(&self, services: &Services, rounds: u64) -> u64 {
-        let target = self.target();
+        let target = (self.target)();
         let mut room = vec![0; 400_000];
         let mut steps = 0;
         for _ in 0..rounds {
-            let numbers = (services.match_words)(self.matcher, self.pattern, &target, u32::MAX, &mut room);
-            assert_eq!(numbers[0], 0);
+            let numbers = (services.match_words)(self.matcher, self.pattern, &target, self.budget, &mut room);
+            assert_eq!(numbers[0], if self.budget == 0 { 7 } else { 0 });
             steps = numbers[3];
         }
         steps
