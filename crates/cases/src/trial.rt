@@ -10,7 +10,7 @@ ghost use Prim.Native.Nat.{_≤_};
 ghost use lib.ListN.{length};
 
 // Writes empty lines from an index on, as far as there is room; gives their end.
-pub(crate) fn pad(out: &mut [u8], at: usize, lines: u64) -> usize
+fn pad(out: &mut [u8], at: usize, lines: u64) -> usize
     requires { ⌜ at ≤ length (now out) ⌝ }
     ensures { λ r. ⌜ r ≤ length (now (out .exit)) ⌝ }
 {
@@ -28,7 +28,7 @@ pub(crate) fn pad(out: &mut [u8], at: usize, lines: u64) -> usize
 }
 
 // What the library prints for an input: how many bytes.
-pub(crate) fn printed(input: &[u8], out: &mut [u8]) -> usize
+fn printed(input: &[u8], out: &mut [u8]) -> usize
     ensures { λ r. ⌜ r ≤ length (now (out .exit)) ⌝ }
 {
     match text::answer(input, out) {
@@ -38,7 +38,7 @@ pub(crate) fn printed(input: &[u8], out: &mut [u8]) -> usize
 }
 
 // Whether two texts are the same.
-pub(crate) fn same(a: &[u8], b: &[u8]) -> bool {
+fn same(a: &[u8], b: &[u8]) -> bool {
     if a.len() == b.len() {
         stands_at(a, 0, b)
     } else {
