@@ -11,7 +11,7 @@ use lib.IntN.{ℤ, pos, negsuc}
 use mir.Syntax.{w64}
 use mir.Val.{Fits}
 use Rattle.rules.specs.Forms.{Matcher, something, integer, list, multiset, tupleOf, Matchers, noMatchers, _▸ᵐ_, countᵐ}
-use Rattle.promises.specs.Written.{matcherWords, matcherWordsAll, IsWidth, Widthsᵐ, WidthsAllᵐ}
+use Rattle.forms.specs.Written.{matcherWords, matcherWordsAll, IsWidth, Widthsᵐ, WidthsAllᵐ}
 use Rattle.words.specs.Words.{tagZ, tagAt}
 use Rattle.words.proofs.Signed.{within}
 use Rattle.matchers.proofs.Ends.{spans-none}

@@ -11,10 +11,10 @@ use lib.IntN.{ℤ}
 use Rattle.rules.specs.Forms.{Matcher, Matchers, Pattern, wildcard, nil, variable, constant, value, cons, join, tuple, both, either, never, Patterns, noPatterns, _▸ᵖ_, countᵖ, span, spanAll}
 use Rattle.rules.specs.Fit.{element, members, isSomething}
 use Rattle.rules.specs.Services.{accepted, Rule, ruleOf}
-use Rattle.promises.specs.Written.{patternWords, length-pattern-words, IsWidth, Widthsᵖ, WidthsAllᵖ}
-use Rattle.promises.specs.ReadMatcher.{matcher-read}
-use Rattle.promises.specs.ReadPattern.{pattern-read}
-use Rattle.promises.specs.Faults.{WellFormed, rule-accepted}
+use Rattle.forms.specs.Written.{patternWords, length-pattern-words, IsWidth, Widthsᵖ, WidthsAllᵖ}
+use Rattle.forms.specs.ReadMatcher.{matcher-read}
+use Rattle.forms.specs.ReadPattern.{pattern-read}
+use Rattle.forms.specs.Faults.{WellFormed, rule-accepted}
 use Rattle.program_rules.specs.Points.{Instr, Point, point, elsePlace, endPlace, cutting, finish, reserve, beyond, firstOf, othersOf, Follows, after-end}
 use Rattle.program_rules.specs.Length.{instrs, instrsParts, toCome, all-some}
 use Rattle.program_rules.specs.Program.{pointAt, followOf, program}

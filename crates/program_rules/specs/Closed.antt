@@ -8,9 +8,9 @@ use Rattle.rules.specs.Forms.{Matcher, Matchers, Pattern, wildcard, nil, variab
 use Rattle.rules.specs.Reading.{ok}
 use Rattle.rules.specs.Variables.{variables, variablesAll}
 use Rattle.rules.specs.Fit.{element, members}
-use Rattle.promises.specs.Readers.{then-ok}
-use Rattle.promises.specs.Written.{variableTags, variableTagsAll}
-use Rattle.promises.specs.Numbering.{none-inside}
+use Rattle.forms.specs.Readers.{then-ok}
+use Rattle.forms.specs.Written.{variableTags, variableTagsAll}
+use Rattle.forms.specs.Numbering.{none-inside}
 use Rattle.program_rules.specs.Points.{firstOf, othersOf}
 use Rattle.program_rules.specs.Walk.{bindsOf, bindsParts}
 

@@ -11,7 +11,7 @@ use lib.Seq.{getD-set-same, getD-set-other}
 use lib.IntN.{ℤ, pos}
 use Rattle.rules.specs.Services.{accepted, Rule, ruleOf}
 use Rattle.words.specs.Words.{entries}
-use Rattle.promises.specs.Faults.{rule-accepted}
+use Rattle.forms.specs.Faults.{rule-accepted}
 use Rattle.program_rules.specs.Program.{program}
 use Rattle.program_rules.specs.Length.{instrs}
 use Rattle.program_rules.specs.Lines.{Line, line, endLine, linesOf, variablesIn, Columns, columns, written, laid, getD-same}

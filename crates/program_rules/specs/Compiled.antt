@@ -11,8 +11,8 @@ use lib.ListN.{length, length-append}
 use lib.IntN.{ℤ, pos}
 use Rattle.rules.specs.Forms.{Matcher, something, integer, list, multiset, tupleOf, Matchers, noMatchers, _▸ᵐ_, countᵐ}
 use Rattle.rules.specs.Forms.{Pattern, wildcard, nil, variable, constant, value, tuple, both, either, never, Patterns, noPatterns, _▸ᵖ_, countᵖ}
-use Rattle.rules.specs.Fit.{members, solid, isInteger, isSomething}
-use Rattle.promises.specs.Written.{patternWords, patternWordsAll}
+use Rattle.rules.specs.Fit.{members, withoutSomething, isInteger, isSomething}
+use Rattle.forms.specs.Written.{patternWords, patternWordsAll}
 use Rattle.words.specs.Words.{tagZ, tagAt}
 use Rattle.matchers.specs.Places.{matcherEnd}
 use Rattle.program_rules.specs.Points.{Kind, listCons, multisetCons, joins, over, firstBy, whole, asConstant, asValue, asNil, tested, testBy, Sound, Loose, loose-wildcard, loose-variable}
@@ -320,9 +320,9 @@ module _ {ms : List ℤ} {vars pc : ℕ} where
       let r = e ∙ plain-lines ms i us pc (pos 4) [] (itemWords ts) (tagOf m) 7 (matcher-tag m a) refl refl refl (tight-strip (tagOf m) 7 i refl) in
       leaf-goes ks ks 7 i (itemWords ts) ps r v (omega arith) (λ to y. rw (slot-from ps, y) (means-nil m refl))
 
-  value-goes : {ks : List Matcher} (x : ℕ) (c : ℤ) (m : Matcher) {ts : List Item} {ls : List Line} → x < 16 → solid m ≡ true
+  value-goes : {ks : List Matcher} (x : ℕ) (c : ℤ) (m : Matcher) {ts : List Item} {ls : List Line} → x < 16 → withoutSomething m ≡ true
       → Stands ms vars pc ls (point ks (value (pos x) c) m m ts) → (t : ℕ) → Goes ms vars pc ls (test (asValue m x c) (from ts) t) (beside ks ts)
-  unfolding patternWords binding opOf operandsOf leafLine tagOf solid isInteger Leads
+  unfolding patternWords binding opOf operandsOf leafLine tagOf withoutSomething isInteger Leads
   value-goes x c something l z s t = absent (sym z)
   value-goes {ks} x c integer {ts} l z (at-tag i us a ps e v) t =
       let r = e ∙ plain-lines ms i us pc (pos 3) (pos x ∷ c ∷ []) (itemWords ts) 1 5 (matcher-tag integer a) refl refl refl (tight-strip 1 5 i refl) in

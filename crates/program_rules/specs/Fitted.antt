@@ -13,11 +13,11 @@ use Rattle.rules.specs.Forms.{Pattern, wildcard, nil, variable, constant, value
 use Rattle.rules.specs.Reading.{Verdict, ok, fault, _then_, entry}
 use Rattle.rules.specs.Numbers.{same}
 use Rattle.rules.specs.Variables.{demand}
-use Rattle.rules.specs.Fit.{anywhere, tagsOf, among, takes, element, members, isInteger, isSomething, solid, sameShape, alike, comparable, fits, fitsParts}
-use Rattle.promises.specs.Tests.{is-true, and-split}
-use Rattle.promises.specs.Readers.{then-ok}
-use Rattle.promises.specs.Numbering.{demand-ok}
-use Rattle.promises.specs.Written.{IsWidth, Widthsᵖ, WidthsAllᵖ}
+use Rattle.rules.specs.Fit.{anywhere, tagsOf, among, takes, element, members, isInteger, isSomething, withoutSomething, sameShape, alike, comparable, fits, fitsParts}
+use Rattle.forms.specs.Tests.{is-true, and-split}
+use Rattle.forms.specs.Readers.{then-ok}
+use Rattle.forms.specs.Numbering.{demand-ok}
+use Rattle.forms.specs.Written.{IsWidth, Widthsᵖ, WidthsAllᵖ}
 use Rattle.program_rules.specs.Points.{listCons, multisetCons, joins, over, firstBy, whole, asConstant, asValue, asNil, tested, testBy, Sound, Loose, loose-wildcard, loose-variable}
 use Rattle.program_rules.specs.Points.{Item, item, orElse, endOr, stop, Point, point, elsePlace, endPlace, cutting, finish, reserve, beyond, enter, beside, reserved, firstOf, othersOf, items, parted}
 use Rattle.program_rules.specs.Points.{Follows, strips, drops, binds, tests, splits, aparts, keeps, chooses, denies, cuts, elses, closes, reserves, ends, after-end}
@@ -88,13 +88,13 @@ alike-ok m none h = absurd h
 alike-ok m (some k) h = (k, refl, is-true (sameShape m k) h)
 
 value-ok : (v c : ℤ) (m : Matcher) (at : ℕ) (ms ks : List Matcher) → demand (takes m 3 && comparable v c m ms) at ms ≡ ok ks
-    → (solid m ≡ true) × ((k : Matcher) × (entry ms v ≡ some k) × (sameShape m k ≡ true)) × (ms ≡ ks)
+    → (withoutSomething m ≡ true) × ((k : Matcher) × (entry ms v ≡ some k) × (sameShape m k ≡ true)) × (ms ≡ ks)
 unfolding comparable
 value-ok v c m at ms ks h =
     let r = demand-ok (takes m 3 && comparable v c m ms) at ms ks h in
     let b = and-split (takes m 3) (comparable v c m ms) (r .0) .1 in
-    let t = and-split (solid m) (alike m (entry ms v)) (and-split (solid m && alike m (entry ms v)) (isInteger m || same c (pos 0)) b .0) in
-    (is-true (solid m) (t .0), alike-ok m (entry ms v) (t .1), r .1)
+    let t = and-split (withoutSomething m) (alike m (entry ms v)) (and-split (withoutSomething m && alike m (entry ms v)) (isInteger m || same c (pos 0)) b .0) in
+    (is-true (withoutSomething m) (t .0), alike-ok m (entry ms v) (t .1), r .1)
 
 -- ---- Where the states that follow stand.
 

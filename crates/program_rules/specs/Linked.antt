@@ -12,7 +12,7 @@ use lib.IntN.{ℤ}
 use Rattle.rules.specs.Forms.{Matcher, something, Matchers, Pattern, wildcard, variable, either, never, both, tuple, Patterns, noPatterns, _▸ᵖ_, countᵖ}
 use Rattle.rules.specs.Fit.{element, isSomething, members}
 use Rattle.rules.specs.Services.{Rule}
-use Rattle.promises.specs.Faults.{WellFormed}
+use Rattle.forms.specs.Faults.{WellFormed}
 use Rattle.program_rules.specs.Points.{Kind, listCons, multisetCons, joins, over, firstBy, whole, Test, asConstant, asValue, asNil, tested, testBy, Loose, loose-wildcard, loose-variable}
 use Rattle.program_rules.specs.Points.{Instr, strip, keep, other, close, drop as drops-to, bind, test, split, apart, choice, deny, cutAt, end}
 use Rattle.program_rules.specs.Points.{Item, item, orElse, endOr, stop, Point, point, elsePlace, endPlace, cutting, finish, reserve, beyond, beside, from, reserved, firstOf, othersOf, items, parted}

@@ -9,7 +9,7 @@ use lib.Seq.{drop-drop, getD-drop}
 use lib.IntN.{ℤ, negsuc}
 use Rattle.rules.specs.Forms.{Matcher, something, integer, list, multiset, tupleOf, Matchers, _▸ᵐ_}
 use Rattle.rules.specs.Fit.{isInteger}
-use Rattle.promises.specs.Written.{matcherWords, matcherWordsAll, Widthsᵐ, WidthsAllᵐ}
+use Rattle.forms.specs.Written.{matcherWords, matcherWordsAll, Widthsᵐ, WidthsAllᵐ}
 use Rattle.words.specs.Words.{tagZ, tagAt}
 use Rattle.matchers.specs.Places.{matcherEnd}
 use Rattle.matchers.proofs.Matchers.{end-drop}

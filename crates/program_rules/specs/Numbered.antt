@@ -12,11 +12,11 @@ use Rattle.rules.specs.Forms.{Matcher, something, Matchers, Pattern, wildcard, 
 use Rattle.rules.specs.Reading.{Verdict, ok}
 use Rattle.rules.specs.Variables.{isNext, isLeft, variables, variablesAll}
 use Rattle.rules.specs.Fit.{members, isSomething}
-use Rattle.promises.specs.Tests.{and-split}
-use Rattle.promises.specs.Readers.{then-ok}
-use Rattle.promises.specs.Written.{variableTags}
-use Rattle.promises.specs.Pairing.{same-eq}
-use Rattle.promises.specs.Numbering.{variables-found, demand-ok}
+use Rattle.forms.specs.Tests.{and-split}
+use Rattle.forms.specs.Readers.{then-ok}
+use Rattle.forms.specs.Written.{variableTags}
+use Rattle.forms.specs.Pairing.{same-eq}
+use Rattle.forms.specs.Numbering.{variables-found, demand-ok}
 use Rattle.program_rules.specs.Points.{Item, item, orElse, endOr, stop, Point, point, elsePlace, endPlace, cutting, finish, reserve, beyond, beside, reserved, firstOf, othersOf, items, parted}
 use Rattle.program_rules.specs.Program.{followOf, pointAt}
 use Rattle.program_rules.specs.Length.{toCome, come-reserved, come-parted, all-some}

@@ -8,15 +8,15 @@ use lib.ListN.{length, getElem?}
 use lib.IntN.{ℤ, pos}
 use Rattle.rules.specs.Forms.{Matcher, something, integer, list, multiset, tupleOf, Matchers, noMatchers, _▸ᵐ_, countᵐ, Value}
 use Rattle.rules.specs.Forms.{Pattern, wildcard, nil, variable, constant, value, cons, join, tuple, both, either, never, Patterns, noPatterns, _▸ᵖ_, countᵖ}
-use Rattle.rules.specs.Fit.{element, takes, solid, sameShape, isSomething}
+use Rattle.rules.specs.Fit.{element, takes, withoutSomething, sameShape, isSomething}
 use Rattle.rules.specs.Equality.{Bindings, isConstant, isValue, isEmpty}
-use Rattle.rules.specs.Search.{Halves, consHalves, joinHalves, Atom, atom, cut, State, state, dropIf, after, cutBack}
+use Rattle.rules.specs.Search.{Halves, consHalves, joinHalves, Atom, atom, endOfNot, State, state, dropIf, after, leaveNot}
 
 -- What waits when a state has been taken up and `ss` waited behind it.
 unfoldable pub resume : State → List State → List State
-unfolding after cutBack
+unfolding after leaveNot
 resume (state g [] e) ss = ss
-resume (state g (cut ∷ older) e) ss = cutBack ss
+resume (state g (endOfNot ∷ older) e) ss = leaveNot ss
 resume (state g (atom p m v ∷ older) e) ss = after p m v older e ++ ss
 
 -- ---- The ways in which an atom is divided into two, each with the matcher that it stands under.
@@ -79,9 +79,9 @@ passes (asNil m) e v = isEmpty v
 
 -- What the fit of the pattern says of a test, `ms` being the matchers of the variables to its left.
 unfoldable pub Sound : Test → List Matcher → Type 0
-unfolding solid sameShape takes
+unfolding withoutSomething sameShape takes
 Sound (asConstant c) ms = Unit {0}
-Sound (asValue m x c) ms = (k : Matcher) × (getElem? ms x ≡ some k) × (sameShape m k ≡ true) × (solid m ≡ true)
+Sound (asValue m x c) ms = (k : Matcher) × (getElem? ms x ≡ some k) × (sameShape m k ≡ true) × (withoutSomething m ≡ true)
 Sound (asNil m) ms = takes m 4 ≡ true
 
 pub after-test : (t : Test) (v : Value) (older : List Atom) (e : Bindings)

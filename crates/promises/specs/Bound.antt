@@ -14,12 +14,12 @@ use Rattle.rules.specs.Equality.{Bindings, isConstant, isValue, isEmpty, picks,
 use Rattle.rules.specs.Search.{cuts, longer, Halves, consHalves, joinHalves, start}
 use Rattle.rules.specs.Ways.{Way}
 use Rattle.rules.specs.Review.{leafSteps, consFactor, factor, factorAll, summed, summedAll, formula}
-use Rattle.promises.specs.Written.{largest, largestOf}
+use Rattle.forms.specs.Written.{largest, largestOf}
 use Rattle.promises.specs.Parts.{Parts, cons-parts, join-parts, part-largest}
 use Rattle.promises.specs.Suited.{Suits, SuitsEach, cons-suits, join-suits, tuple-suits}
-use Rattle.rules.specs.Lists.{Mem, length-flatMap-le}
-use Rattle.rules.specs.Following.{Solution, up, numbered, isMultiset, mark, chain, onSide, combine, just, whenSo, none, solve, solveEach}
-use Rattle.rules.specs.Choices.{in-numbered}
+use Rattle.forms.specs.Lists.{Mem, length-flatMap-le}
+use Rattle.rules.specs.Following.{Solution, up, numbered, isMultiset, mark, chain, onSide, combine, just, whenSo, noSolution, solve, solveEach}
+use Rattle.promises.specs.Choices.{in-numbered}
 use Rattle.promises.specs.Trace.{Taken, found, Met, taken, ended, pass, onlyIf, inside, visit, visitEach, met, close, trace}
 
 -- ---- A cons or a join has no more choices than its factor says.
@@ -34,44 +34,44 @@ unfolding cuts count
 length-cuts empty = refl
 length-cuts (v ▸ vs) = ap suc (length-map (cuts vs) (longer v) ∙ length-cuts vs)
 
-cons-count : (most : ℕ) (m : Matcher) (v : Value) → largest v ≤ most → length (consHalves m v) ≤ consFactor most m
+cons-count : (cap : ℕ) (m : Matcher) (v : Value) → largest v ≤ cap → length (consHalves m v) ≤ consFactor cap m
 unfolding consHalves consFactor largest
-cons-count most something v h = omega arith
-cons-count most integer v h = omega arith
-cons-count most (list m) (int x) h = omega arith
-cons-count most (list m) (collection empty) h = omega arith
-cons-count most (list m) (collection (v ▸ vs)) h = omega arith
-cons-count most (list m) (tupled vs) h = omega arith
-cons-count most (multiset m) (int x) h = omega arith
-cons-count most (multiset m) (collection vs) h = simp length-map (omega (arith, length-picks vs))
-cons-count most (multiset m) (tupled vs) h = omega arith
-cons-count most (tupleOf ms) v h = omega arith
+cons-count cap something v h = omega arith
+cons-count cap integer v h = omega arith
+cons-count cap (list m) (int x) h = omega arith
+cons-count cap (list m) (collection empty) h = omega arith
+cons-count cap (list m) (collection (v ▸ vs)) h = omega arith
+cons-count cap (list m) (tupled vs) h = omega arith
+cons-count cap (multiset m) (int x) h = omega arith
+cons-count cap (multiset m) (collection vs) h = simp length-map (omega (arith, length-picks vs))
+cons-count cap (multiset m) (tupled vs) h = omega arith
+cons-count cap (tupleOf ms) v h = omega arith
 
-join-count : (most : ℕ) (v : Value) → largest v ≤ most → length (joinHalves v) ≤ suc most
+join-count : (cap : ℕ) (v : Value) → largest v ≤ cap → length (joinHalves v) ≤ suc cap
 unfolding joinHalves largest
-join-count most (int x) h = omega arith
-join-count most (collection vs) h = simp length-map (omega (arith, length-cuts vs))
-join-count most (tupled vs) h = omega arith
+join-count cap (int x) h = omega arith
+join-count cap (collection vs) h = simp length-map (omega (arith, length-cuts vs))
+join-count cap (tupled vs) h = omega arith
 
 -- A value that fits, with no collection over the cap; and so a tuple's parts.
 abbrev pub Fine : ℕ → Matcher → Value → Type 0
-Fine most m v = Suits m v × (largest v ≤ most)
+Fine cap m v = Suits m v × (largest v ≤ cap)
 
 abbrev FineEach : ℕ → Matchers → Values → Type 0
-FineEach most ms vs = SuitsEach ms vs × (largestOf vs ≤ most)
+FineEach cap ms vs = SuitsEach ms vs × (largestOf vs ≤ cap)
 
 -- What is taken out of it is so too.
-halves-fine : (most : ℕ) (m k : Matcher) (v : Value) (h : Halves) → Parts h v → Suits k (h .first) × Suits m (h .second) → largest v ≤ most
-    → Fine most k (h .first) × Fine most m (h .second)
-halves-fine most m k v h p s l = ((s .0, le-trans (part-largest (p .first)) l), (s .1, le-trans (part-largest (p .second)) l))
+halves-fine : (cap : ℕ) (m k : Matcher) (v : Value) (h : Halves) → Parts h v → Suits k (h .first) × Suits m (h .second) → largest v ≤ cap
+    → Fine cap k (h .first) × Fine cap m (h .second)
+halves-fine cap m k v h p s l = ((s .0, le-trans (part-largest (p .first)) l), (s .1, le-trans (part-largest (p .second)) l))
 
-cons-fine : (most : ℕ) (m : Matcher) (v : Value) → Fine most m v → (h : Halves) → Mem h (consHalves m v)
-    → Fine most (element m) (h .first) × Fine most m (h .second)
-cons-fine most m v s h i = halves-fine most m (element m) v h (cons-parts m v h i) (cons-suits m v h i (s .0)) (s .1)
+cons-fine : (cap : ℕ) (m : Matcher) (v : Value) → Fine cap m v → (h : Halves) → Mem h (consHalves m v)
+    → Fine cap (element m) (h .first) × Fine cap m (h .second)
+cons-fine cap m v s h i = halves-fine cap m (element m) v h (cons-parts m v h i) (cons-suits m v h i (s .0)) (s .1)
 
-join-fine : (most : ℕ) (m : Matcher) (v : Value) → Fine most m v → (h : Halves) → Mem h (joinHalves v)
-    → Fine most m (h .first) × Fine most m (h .second)
-join-fine most m v s h i = halves-fine most m m v h (join-parts v h i) (join-suits m v h i (s .0)) (s .1)
+join-fine : (cap : ℕ) (m : Matcher) (v : Value) → Fine cap m v → (h : Halves) → Mem h (joinHalves v)
+    → Fine cap m (h .first) × Fine cap m (h .second)
+join-fine cap m v s h i = halves-fine cap m m v h (join-parts v h i) (join-suits m v h i (s .0)) (s .1)
 
 -- ---- The steps. What an atom costs if what comes after it costs at most `k`.
 
@@ -79,22 +79,22 @@ unfoldable mutual
   unfolding leafSteps consFactor element members
 
   pub horner : ℕ → Pattern → Matcher → ℕ → ℕ
-  horner most wildcard m k = leafSteps m + k
-  horner most (variable x) m k = leafSteps m + k
-  horner most (constant c) m k = 1 + k
-  horner most (value x c) m k = 1 + k
-  horner most nil m k = 1 + k
-  horner most (cons p q) m k = 1 + consFactor most m * horner most p (element m) (horner most q m k)
-  horner most (join p q) m k = 1 + suc most * horner most p m (horner most q m k)
-  horner most (tuple ps) m k = 1 + hornerEach most ps (members m) k
-  horner most (both p q) m k = 1 + horner most p m (horner most q m k)
-  horner most (either p q) m k = 1 + (horner most p m k + horner most q m k)
-  horner most (never p) m k = 1 + (horner most p m 1 + k)
+  horner cap wildcard m k = leafSteps m + k
+  horner cap (variable x) m k = leafSteps m + k
+  horner cap (constant c) m k = 1 + k
+  horner cap (value x c) m k = 1 + k
+  horner cap nil m k = 1 + k
+  horner cap (cons p q) m k = 1 + consFactor cap m * horner cap p (element m) (horner cap q m k)
+  horner cap (join p q) m k = 1 + suc cap * horner cap p m (horner cap q m k)
+  horner cap (tuple ps) m k = 1 + hornerEach cap ps (members m) k
+  horner cap (both p q) m k = 1 + horner cap p m (horner cap q m k)
+  horner cap (either p q) m k = 1 + (horner cap p m k + horner cap q m k)
+  horner cap (never p) m k = 1 + (horner cap p m 1 + k)
 
   pub hornerEach : ℕ → Patterns → Matchers → ℕ → ℕ
-  hornerEach most noPatterns ms k = k
-  hornerEach most (p ▸ᵖ ps) noMatchers k = k
-  hornerEach most (p ▸ᵖ ps) (m ▸ᵐ ms) k = horner most p m (hornerEach most ps ms k)
+  hornerEach cap noPatterns ms k = k
+  hornerEach cap (p ▸ᵖ ps) noMatchers k = k
+  hornerEach cap (p ▸ᵖ ps) (m ▸ᵐ ms) k = horner cap p m (hornerEach cap ps ms k)
 
 leaf-cost : (b : Bool) (ts : List Met) (n : ℕ) → length ts ≤ n
     → suc (length {A = Met} (elim b as (λ _. List Met) [ true ↦ ts | false ↦ pass ∷ ts ])) ≤ cond b 1 2 + n
@@ -119,74 +119,74 @@ inside-cost (ended ∷ ms) ns a n h k = omega arith
 mutual
   unfolding visit horner largest Suits
 
-  pub visit-cost : (most : ℕ) (p : Pattern) (m : Matcher) (v : Value) (e : Bindings) (k : Bindings → List Met) (n : ℕ)
-      → Fine most m v → ((d : Bindings) → length (k d) ≤ n) → length (visit p m v e k) ≤ horner most p m n
-  visit-cost most wildcard m v e k n s h = leaf-cost (isSomething m) (k e) n (h e)
-  visit-cost most nil m v e k n s h = test-cost (isEmpty v) (k e) n (h e)
-  visit-cost most (variable x) m v e k n s h = leaf-cost (isSomething m) (k (e ++ (v ∷ []))) n (h (e ++ (v ∷ [])))
-  visit-cost most (constant c) m v e k n s h = test-cost (isConstant c v) (k e) n (h e)
-  visit-cost most (value x c) m v e k n s h = test-cost (isValue m e x c v) (k e) n (h e)
-  visit-cost most (cons p q) m v e k n s h = both-cost _ (consHalves m v) (consFactor most m) _ (cons-count most m v (s .1))
-      (λ g i. let j = cons-fine most m v s g i in
-      visit-cost most p (element m) (g .first) e _ _ (j .0) (λ d. visit-cost most q m (g .second) d k n (j .1) h))
-  visit-cost most (join p q) m v e k n s h = both-cost _ (joinHalves v) (suc most) _ (join-count most v (s .1))
-      (λ g i. let j = join-fine most m v s g i in
-      visit-cost most p m (g .first) e _ _ (j .0) (λ d. visit-cost most q m (g .second) d k n (j .1) h))
-  visit-cost most (tuple ps) m (int x) e k n s h = omega arith
-  visit-cost most (tuple ps) m (collection vs) e k n s h = omega arith
-  visit-cost most (tuple ps) m (tupled vs) e k n s h =
-      omega (arith, visit-each-cost most ps (members m) vs e k n (tuple-suits m vs (s .0), s .1) h)
-  visit-cost most (both p q) m v e k n s h = omega (arith, visit-cost most p m v e (λ d. visit q m v d k) (horner most q m n) s (λ d. visit-cost most q m v d k n s h))
-  visit-cost most (either p q) m v e k n s h =
-      omega (arith, length-append (visit p m v e k) (visit q m v e k), visit-cost most p m v e k n s h, visit-cost most q m v e k n s h)
-  visit-cost most (never p) m v e k n s h = omega (
+  pub visit-cost : (cap : ℕ) (p : Pattern) (m : Matcher) (v : Value) (e : Bindings) (k : Bindings → List Met) (n : ℕ)
+      → Fine cap m v → ((d : Bindings) → length (k d) ≤ n) → length (visit p m v e k) ≤ horner cap p m n
+  visit-cost cap wildcard m v e k n s h = leaf-cost (isSomething m) (k e) n (h e)
+  visit-cost cap nil m v e k n s h = test-cost (isEmpty v) (k e) n (h e)
+  visit-cost cap (variable x) m v e k n s h = leaf-cost (isSomething m) (k (e ++ (v ∷ []))) n (h (e ++ (v ∷ [])))
+  visit-cost cap (constant c) m v e k n s h = test-cost (isConstant c v) (k e) n (h e)
+  visit-cost cap (value x c) m v e k n s h = test-cost (isValue m e x c v) (k e) n (h e)
+  visit-cost cap (cons p q) m v e k n s h = both-cost _ (consHalves m v) (consFactor cap m) _ (cons-count cap m v (s .1))
+      (λ g i. let j = cons-fine cap m v s g i in
+      visit-cost cap p (element m) (g .first) e _ _ (j .0) (λ d. visit-cost cap q m (g .second) d k n (j .1) h))
+  visit-cost cap (join p q) m v e k n s h = both-cost _ (joinHalves v) (suc cap) _ (join-count cap v (s .1))
+      (λ g i. let j = join-fine cap m v s g i in
+      visit-cost cap p m (g .first) e _ _ (j .0) (λ d. visit-cost cap q m (g .second) d k n (j .1) h))
+  visit-cost cap (tuple ps) m (int x) e k n s h = omega arith
+  visit-cost cap (tuple ps) m (collection vs) e k n s h = omega arith
+  visit-cost cap (tuple ps) m (tupled vs) e k n s h =
+      omega (arith, visit-each-cost cap ps (members m) vs e k n (tuple-suits m vs (s .0), s .1) h)
+  visit-cost cap (both p q) m v e k n s h = omega (arith, visit-cost cap p m v e (λ d. visit q m v d k) (horner cap q m n) s (λ d. visit-cost cap q m v d k n s h))
+  visit-cost cap (either p q) m v e k n s h =
+      omega (arith, length-append (visit p m v e k) (visit q m v e k), visit-cost cap p m v e k n s h, visit-cost cap q m v e k n s h)
+  visit-cost cap (never p) m v e k n s h = omega (
     arith,
-    inside-cost (visit p m v e (λ d. ended ∷ [])) (k e) (horner most p m 1) n
-        (visit-cost most p m v e (λ d. ended ∷ []) 1 s (λ d. omega arith)) (h e),
+    inside-cost (visit p m v e (λ d. ended ∷ [])) (k e) (horner cap p m 1) n
+        (visit-cost cap p m v e (λ d. ended ∷ []) 1 s (λ d. omega arith)) (h e),
   )
 
-  visit-each-cost : (most : ℕ) (ps : Patterns) (ms : Matchers) (vs : Values) (e : Bindings) (k : Bindings → List Met) (n : ℕ)
-      → FineEach most ms vs → ((d : Bindings) → length (k d) ≤ n) → length (visitEach ps ms vs e k) ≤ hornerEach most ps ms n
-  visit-each-cost most noPatterns ms vs e k n s h = h e
-  visit-each-cost most (p ▸ᵖ ps) noMatchers vs e k n s h = h e
-  visit-each-cost most (p ▸ᵖ ps) (m ▸ᵐ ms) empty e k n s h = absurd (s .0)
-  visit-each-cost most (p ▸ᵖ ps) (m ▸ᵐ ms) (v ▸ vs) e k n s h =
-      visit-cost most p m v e _ _ (s .0 .0, omega (arith, s .1)) (λ d. visit-each-cost most ps ms vs d k n (s .0 .1, omega (arith, s .1)) h)
+  visit-each-cost : (cap : ℕ) (ps : Patterns) (ms : Matchers) (vs : Values) (e : Bindings) (k : Bindings → List Met) (n : ℕ)
+      → FineEach cap ms vs → ((d : Bindings) → length (k d) ≤ n) → length (visitEach ps ms vs e k) ≤ hornerEach cap ps ms n
+  visit-each-cost cap noPatterns ms vs e k n s h = h e
+  visit-each-cost cap (p ▸ᵖ ps) noMatchers vs e k n s h = h e
+  visit-each-cost cap (p ▸ᵖ ps) (m ▸ᵐ ms) empty e k n s h = absurd (s .0)
+  visit-each-cost cap (p ▸ᵖ ps) (m ▸ᵐ ms) (v ▸ vs) e k n s h =
+      visit-cost cap p m v e _ _ (s .0 .0, omega (arith, s .1)) (λ d. visit-each-cost cap ps ms vs d k n (s .0 .1, omega (arith, s .1)) h)
 
 -- ---- Review's formula is that cost.
 
 mutual
   unfolding horner summed factor
 
-  horner-summed : (most : ℕ) (p : Pattern) (m : Matcher) (a k : ℕ) → a * horner most p m k ≡ summed most p m a + a * factor most p m * k
-  horner-summed most wildcard m a k = omega arith
-  horner-summed most nil m a k = omega arith
-  horner-summed most (variable x) m a k = omega arith
-  horner-summed most (constant c) m a k = omega arith
-  horner-summed most (value x c) m a k = omega arith
-  horner-summed most (cons p q) m a k = omega (
+  horner-summed : (cap : ℕ) (p : Pattern) (m : Matcher) (a k : ℕ) → a * horner cap p m k ≡ summed cap p m a + a * factor cap p m * k
+  horner-summed cap wildcard m a k = omega arith
+  horner-summed cap nil m a k = omega arith
+  horner-summed cap (variable x) m a k = omega arith
+  horner-summed cap (constant c) m a k = omega arith
+  horner-summed cap (value x c) m a k = omega arith
+  horner-summed cap (cons p q) m a k = omega (
     arith,
-    horner-summed most p (element m) (a * consFactor most m) (horner most q m k),
-    horner-summed most q m (a * consFactor most m * factor most p (element m)) k,
+    horner-summed cap p (element m) (a * consFactor cap m) (horner cap q m k),
+    horner-summed cap q m (a * consFactor cap m * factor cap p (element m)) k,
   )
-  horner-summed most (join p q) m a k =
-      omega (arith, horner-summed most p m (a * suc most) (horner most q m k), horner-summed most q m (a * suc most * factor most p m) k)
-  horner-summed most (tuple ps) m a k = omega (arith, horner-summed-each most ps (members m) a k)
-  horner-summed most (both p q) m a k =
-      omega (arith, horner-summed most p m a (horner most q m k), horner-summed most q m (a * factor most p m) k)
-  horner-summed most (either p q) m a k = omega (arith, horner-summed most p m a k, horner-summed most q m a k)
-  horner-summed most (never p) m a k = omega (arith, horner-summed most p m a 1)
+  horner-summed cap (join p q) m a k =
+      omega (arith, horner-summed cap p m (a * suc cap) (horner cap q m k), horner-summed cap q m (a * suc cap * factor cap p m) k)
+  horner-summed cap (tuple ps) m a k = omega (arith, horner-summed-each cap ps (members m) a k)
+  horner-summed cap (both p q) m a k =
+      omega (arith, horner-summed cap p m a (horner cap q m k), horner-summed cap q m (a * factor cap p m) k)
+  horner-summed cap (either p q) m a k = omega (arith, horner-summed cap p m a k, horner-summed cap q m a k)
+  horner-summed cap (never p) m a k = omega (arith, horner-summed cap p m a 1)
 
-  horner-summed-each : (most : ℕ) (ps : Patterns) (ms : Matchers) (a k : ℕ)
-      → a * hornerEach most ps ms k ≡ summedAll most ps ms a + a * factorAll most ps ms * k
-  horner-summed-each most noPatterns ms a k = omega arith
-  horner-summed-each most (p ▸ᵖ ps) noMatchers a k = omega arith
-  horner-summed-each most (p ▸ᵖ ps) (m ▸ᵐ ms) a k =
-      omega (arith, horner-summed most p m a (hornerEach most ps ms k), horner-summed-each most ps ms (a * factor most p m) k)
+  horner-summed-each : (cap : ℕ) (ps : Patterns) (ms : Matchers) (a k : ℕ)
+      → a * hornerEach cap ps ms k ≡ summedAll cap ps ms a + a * factorAll cap ps ms * k
+  horner-summed-each cap noPatterns ms a k = omega arith
+  horner-summed-each cap (p ▸ᵖ ps) noMatchers a k = omega arith
+  horner-summed-each cap (p ▸ᵖ ps) (m ▸ᵐ ms) a k =
+      omega (arith, horner-summed cap p m a (hornerEach cap ps ms k), horner-summed-each cap ps ms (a * factor cap p m) k)
 
-pub horner-formula : (most : ℕ) (p : Pattern) (m : Matcher) → horner most p m 1 ≡ formula most p m
+pub horner-formula : (cap : ℕ) (p : Pattern) (m : Matcher) → horner cap p m 1 ≡ formula cap p m
 unfolding formula
-horner-formula most p m = omega (arith, horner-summed most p m 1 1)
+horner-formula cap p m = omega (arith, horner-summed cap p m 1 1)
 
 close-cost : (ms : List Met) → length (close ms) ≤ length ms
 unfolding close
@@ -195,10 +195,10 @@ close-cost (taken t ∷ ms) = omega (arith, close-cost ms)
 close-cost (ended ∷ ms) = omega arith
 
 -- THE BOUND: the whole search has at most as many states as review says.
-pub steps-bound : (most : ℕ) (m : Matcher) (p : Pattern) (v : Value) → Fine most m v → length (trace (start m p v ∷ [])) ≤ formula most p m
+pub steps-bound : (cap : ℕ) (m : Matcher) (p : Pattern) (v : Value) → Fine cap m v → length (trace (start m p v ∷ [])) ≤ formula cap p m
 unfolding trace met start
-steps-bound most m p v s = rw (← horner-formula most p m) (le-trans (close-cost (visit p m v [] (λ d. taken (found d) ∷ [])))
-    (visit-cost most p m v [] (λ d. taken (found d) ∷ []) 1 s (λ d. omega arith)))
+steps-bound cap m p v s = rw (← horner-formula cap p m) (le-trans (close-cost (visit p m v [] (λ d. taken (found d) ∷ [])))
+    (visit-cost cap p m v [] (λ d. taken (found d) ∷ []) 1 s (λ d. omega arith)))
 
 -- ---- The rows: the product of all factors bounds them.
 
@@ -229,39 +229,39 @@ when-count false e = omega arith
 mutual
   unfolding solve factor just largest Suits
 
-  pub rows-bound : (most : ℕ) (p : Pattern) (m : Matcher) (v : Value) (e : Bindings) → Fine most m v → length (solve p m v e) ≤ factor most p m
-  rows-bound most wildcard m v e s = omega arith
-  rows-bound most nil m v e s = when-count (isEmpty v) e
-  rows-bound most (variable x) m v e s = omega arith
-  rows-bound most (constant c) m v e s = when-count (isConstant c v) e
-  rows-bound most (value x c) m v e s = when-count (isValue m e x c v) e
-  rows-bound most (cons p q) m v e s =
-      combine-count (isMultiset m) (λ a. solve p (element m) a e) (λ a d. solve q m a d) (consHalves m v) _ _ _ (cons-count most m v (s .1))
-      (λ h i. rows-bound most p (element m) (h .first) e (cons-fine most m v s h i .0))
-      (λ h i d. rows-bound most q m (h .second) d (cons-fine most m v s h i .1))
-  rows-bound most (join p q) m v e s =
-      combine-count true (λ a. solve p m a e) (λ a d. solve q m a d) (joinHalves v) _ _ _ (join-count most v (s .1))
-      (λ h i. rows-bound most p m (h .first) e (join-fine most m v s h i .0))
-      (λ h i d. rows-bound most q m (h .second) d (join-fine most m v s h i .1))
-  rows-bound most (tuple ps) m (int x) e s = omega arith
-  rows-bound most (tuple ps) m (collection vs) e s = omega arith
-  rows-bound most (tuple ps) m (tupled vs) e s = omega (arith, rows-bound-each most ps (members m) vs e (tuple-suits m vs (s .0), s .1))
-  rows-bound most (both p q) m v e s = chain-count [] (solve p m v e) (λ d. solve q m v d) _ _ (rows-bound most p m v e s) (λ d. rows-bound most q m v d s)
-  rows-bound most (either p q) m v e s = omega (
+  pub rows-bound : (cap : ℕ) (p : Pattern) (m : Matcher) (v : Value) (e : Bindings) → Fine cap m v → length (solve p m v e) ≤ factor cap p m
+  rows-bound cap wildcard m v e s = omega arith
+  rows-bound cap nil m v e s = when-count (isEmpty v) e
+  rows-bound cap (variable x) m v e s = omega arith
+  rows-bound cap (constant c) m v e s = when-count (isConstant c v) e
+  rows-bound cap (value x c) m v e s = when-count (isValue m e x c v) e
+  rows-bound cap (cons p q) m v e s =
+      combine-count (isMultiset m) (λ a. solve p (element m) a e) (λ a d. solve q m a d) (consHalves m v) _ _ _ (cons-count cap m v (s .1))
+      (λ h i. rows-bound cap p (element m) (h .first) e (cons-fine cap m v s h i .0))
+      (λ h i d. rows-bound cap q m (h .second) d (cons-fine cap m v s h i .1))
+  rows-bound cap (join p q) m v e s =
+      combine-count true (λ a. solve p m a e) (λ a d. solve q m a d) (joinHalves v) _ _ _ (join-count cap v (s .1))
+      (λ h i. rows-bound cap p m (h .first) e (join-fine cap m v s h i .0))
+      (λ h i d. rows-bound cap q m (h .second) d (join-fine cap m v s h i .1))
+  rows-bound cap (tuple ps) m (int x) e s = omega arith
+  rows-bound cap (tuple ps) m (collection vs) e s = omega arith
+  rows-bound cap (tuple ps) m (tupled vs) e s = omega (arith, rows-bound-each cap ps (members m) vs e (tuple-suits m vs (s .0), s .1))
+  rows-bound cap (both p q) m v e s = chain-count [] (solve p m v e) (λ d. solve q m v d) _ _ (rows-bound cap p m v e s) (λ d. rows-bound cap q m v d s)
+  rows-bound cap (either p q) m v e s = omega (
     arith,
     length-append (map (onSide 0) (solve p m v e)) (map (onSide 1) (solve q m v e)),
     length-map (solve p m v e) (onSide 0),
     length-map (solve q m v e) (onSide 1),
-    rows-bound most p m v e s,
-    rows-bound most q m v e s,
+    rows-bound cap p m v e s,
+    rows-bound cap q m v e s,
   )
-  rows-bound most (never p) m v e s = when-count (none (solve p m v e)) e
+  rows-bound cap (never p) m v e s = when-count (noSolution (solve p m v e)) e
 
-  rows-bound-each : (most : ℕ) (ps : Patterns) (ms : Matchers) (vs : Values) (e : Bindings) → FineEach most ms vs
-      → length (solveEach ps ms vs e) ≤ factorAll most ps ms
-  rows-bound-each most noPatterns ms vs e s = omega arith
-  rows-bound-each most (p ▸ᵖ ps) noMatchers vs e s = omega arith
-  rows-bound-each most (p ▸ᵖ ps) (m ▸ᵐ ms) empty e s = absurd (s .0)
-  rows-bound-each most (p ▸ᵖ ps) (m ▸ᵐ ms) (v ▸ vs) e s =
-      chain-count [] (solve p m v e) (λ d. solveEach ps ms vs d) _ _ (rows-bound most p m v e (s .0 .0, omega (arith, s .1)))
-      (λ d. rows-bound-each most ps ms vs d (s .0 .1, omega (arith, s .1)))
+  rows-bound-each : (cap : ℕ) (ps : Patterns) (ms : Matchers) (vs : Values) (e : Bindings) → FineEach cap ms vs
+      → length (solveEach ps ms vs e) ≤ factorAll cap ps ms
+  rows-bound-each cap noPatterns ms vs e s = omega arith
+  rows-bound-each cap (p ▸ᵖ ps) noMatchers vs e s = omega arith
+  rows-bound-each cap (p ▸ᵖ ps) (m ▸ᵐ ms) empty e s = absurd (s .0)
+  rows-bound-each cap (p ▸ᵖ ps) (m ▸ᵐ ms) (v ▸ vs) e s =
+      chain-count [] (solve p m v e) (λ d. solveEach ps ms vs d) _ _ (rows-bound cap p m v e (s .0 .0, omega (arith, s .1)))
+      (λ d. rows-bound-each cap ps ms vs d (s .0 .1, omega (arith, s .1)))

@@ -12,8 +12,8 @@ use lib.Dec.{T, leb, leb→le, le→leb}
 use lib.IntN.{ℤ}
 use Rattle.rules.specs.Equality.{Bindings}
 use Rattle.rules.specs.Search.{row, Run, stopped, step, rowStep}
-use Rattle.promises.specs.Tests.{leb-true, leb-false}
-use Rattle.rules.specs.Lists.{flatMap-append}
+use Rattle.forms.specs.Tests.{leb-true, leb-false}
+use Rattle.forms.specs.Lists.{flatMap-append}
 use Rattle.promises.specs.Trace.{Taken, passed, found, walk}
 use Rattle.promises.specs.Solve.{founds, founds-append}
 

@@ -12,23 +12,23 @@ use lib.IntN.{ℤ}
 use Rattle.rules.specs.Forms.{Value, words}
 use Rattle.rules.specs.Reading.{Verdict, ok, fault, _then_, Got, ended, whole, limited}
 use Rattle.rules.specs.Reading.{target, readTarget}
-use Rattle.rules.specs.Causes.{Cause, overLength, leftOver, numbered}
+use Rattle.rules.specs.Causes.{Cause, overLength, leftOver, causeNumber}
 use Rattle.rules.specs.Causes.{Look, well, wrong, value, told, causeOf}
-use Rattle.promises.specs.Tests.{is-false, leb-true, leb-false}
-use Rattle.promises.specs.Readers.{Sound}
-use Rattle.promises.specs.ReadTarget.{target-sound, target-complete}
-use Rattle.promises.specs.Wrong.{Wrong, long, early, over, number-range, number-once, Says, wrong-says}
+use Rattle.forms.specs.Tests.{is-false, leb-true, leb-false}
+use Rattle.forms.specs.Readers.{Sound}
+use Rattle.forms.specs.ReadTarget.{target-sound, target-complete}
+use Rattle.forms.specs.Wrong.{Wrong, long, early, over, number-range, number-once, Says, wrong-says}
 use Rattle.rules.specs.Services.{accepted, Rule, ruleOf, Matched, causeIn, turnedAway, carriedOut, match}
-use Rattle.promises.specs.Faults.{Fault, ofRule, ofTarget, notTarget, unfit, Judgement, turned, ran, rule-accepted, rule-range, match-turned, match-judged, refused-exactly}
+use Rattle.forms.specs.Faults.{Fault, ofRule, ofTarget, notTarget, unfit, Judgement, turned, ran, rule-accepted, rule-range, match-turned, match-judged, refused-exactly}
 use Rattle.promises.specs.Found.{Found, awaits-found}
-use Rattle.promises.specs.Together.{Agree, took, target-agrees, value-well}
+use Rattle.forms.specs.Together.{Agree, took, target-agrees, value-well}
 
 -- ---- The whole target.
 
 -- What the cause's number n says beside what was read.
 Told : List ℤ → Verdict Value → ℕ → Type 0
 Told ts (ok v) n = n ≡ 0
-Told ts (fault i) n = (c : Cause) × (n ≡ numbered c) × Wrong ts i c
+Told ts (fault i) n = (c : Cause) × (n ≡ causeNumber c) × Wrong ts i c
 
 whole-told : (ts : List ℤ) → length ts ≤ 1024 → (x : Verdict (Got Value)) → target 8 0 ts ≡ x → (y : Look) → Agree 8 0 ts x y → Told ts (x then ended) (told y)
 unfolding Told Agree _then_ ended told Sound
@@ -45,12 +45,12 @@ whole-told ts h (fault i) e (wrong c) b =
     (c, refl, subst (λ j. Wrong ts j c) n (early h (b .front) (b .rest) (b .split) (b .awaits) (b .spot)))
 
 cause-told : (ts : List ℤ) → Told ts (readTarget ts) (causeOf ts)
-unfolding readTarget limited whole causeOf Told numbered
+unfolding readTarget limited whole causeOf Told causeNumber
 cause-told ts = go (leb (length ts) 1024) refl
   where
     go : (b : Bool) → leb (length ts) 1024 ≡ b
         → Told ts (elim b as (λ _. Verdict Value) [ true ↦ (target 8 0 ts then ended) | false ↦ fault 1024 ])
-        (elim b as (λ _. ℕ) [ true ↦ told (value 8 ts) | false ↦ numbered overLength ])
+        (elim b as (λ _. ℕ) [ true ↦ told (value 8 ts) | false ↦ causeNumber overLength ])
     go true e = whole-told ts (leb→le (length ts) 1024 (subst T (sym e) tt)) (target 8 0 ts) refl (value 8 ts) (target-agrees 8 0 ts)
     go false e = (overLength, refl, long (nleb→lt (length ts) 1024 (subst (λ t. T (not t)) (sym e) tt)))
 
@@ -61,17 +61,17 @@ module _ (ts : List ℤ) (h : length ts ≤ 1024) where
 
   look-in-limit : causeOf ts ≡ told (value 8 ts)
   unfolding causeOf
-  look-in-limit = ap (λ b. elim b as (λ _. ℕ) [ true ↦ told (value 8 ts) | false ↦ numbered overLength ]) (leb-true (length ts) 1024 h)
+  look-in-limit = ap (λ b. elim b as (λ _. ℕ) [ true ↦ told (value 8 ts) | false ↦ causeNumber overLength ]) (leb-true (length ts) 1024 h)
 
-  found-in-limit : (i : ℕ) (c : Cause) → Found 8 0 ts i c → (readTarget ts ≡ fault i) × (causeOf ts ≡ numbered c)
+  found-in-limit : (i : ℕ) (c : Cause) → Found 8 0 ts i c → (readTarget ts ≡ fault i) × (causeOf ts ≡ causeNumber c)
   unfolding _then_ told
   found-in-limit i c f = (read-in-limit ∙ ap (λ x. x then ended) (f .0), look-in-limit ∙ ap told (f .1))
 
-wrong-found : (ts : List ℤ) (i : ℕ) (c : Cause) → Wrong ts i c → (readTarget ts ≡ fault i) × (causeOf ts ≡ numbered c)
+wrong-found : (ts : List ℤ) (i : ℕ) (c : Cause) → Wrong ts i c → (readTarget ts ≡ fault i) × (causeOf ts ≡ causeNumber c)
 unfolding readTarget limited causeOf told _then_ ended
 wrong-found ts i c (long h) = (
   ap (λ b. elim b as (λ _. Verdict Value) [ true ↦ whole (target 8) ts | false ↦ fault 1024 ]) (leb-false (length ts) 1024 h),
-  ap (λ b. elim b as (λ _. ℕ) [ true ↦ told (value 8 ts) | false ↦ numbered overLength ]) (leb-false (length ts) 1024 h),
+  ap (λ b. elim b as (λ _. ℕ) [ true ↦ told (value 8 ts) | false ↦ causeNumber overLength ]) (leb-false (length ts) 1024 h),
 )
 wrong-found ts i c (early {k = k} h front rest e a s) =
     let n : 0 + (length front + k) ≡ length front + k = omega arith in
@@ -84,11 +84,11 @@ wrong-found ts i c (over h v w us k e) =
 -- ---- The cause of the words of a target.
 
 -- It stands with the place exactly where Wrong says.
-pub cause-at : (ts : List ℤ) (i : ℕ) (c : Cause) → (readTarget ts ≡ fault i) × (causeOf ts ≡ numbered c) ↔ Wrong ts i c
+pub cause-at : (ts : List ℤ) (i : ℕ) (c : Cause) → (readTarget ts ≡ fault i) × (causeOf ts ≡ causeNumber c) ↔ Wrong ts i c
 unfolding Told
 cause-at ts i c = ((λ h. go (readTarget ts) (h .0) (causeOf ts) (h .1) (cause-told ts)), wrong-found ts i c)
   where
-    go : (x : Verdict Value) → x ≡ fault i → (n : ℕ) → n ≡ numbered c → Told ts x n → Wrong ts i c
+    go : (x : Verdict Value) → x ≡ fault i → (n : ℕ) → n ≡ causeNumber c → Told ts x n → Wrong ts i c
     go (ok v) p n q t = let z : _≡_ {A = ℕ} 0 1 = cc in absurd (omega arith)
     go (fault j) p n q t =
         let a : j ≡ i = cc in
@@ -105,7 +105,7 @@ cause-none ts = (go (readTarget ts) refl (cause-told ts), λ h. subst (λ x. Tol
 
 -- Over length: whatever the words are.
 pub cause-length : (ts : List ℤ) → causeOf ts ≡ 1 ↔ 1024 < length ts
-unfolding Told Says numbered
+unfolding Told Says causeNumber
 cause-length ts = (go (readTarget ts) (cause-told ts), λ h. wrong-found ts 1024 overLength (long h) .1)
   where
     go : (x : Verdict Value) → Told ts x (causeOf ts) → causeOf ts ≡ 1 → 1024 < length ts
@@ -132,17 +132,17 @@ module _ (ms ps ts : List ℤ) (budget : ℕ) (room : List ℤ) where
 
   -- Answer 5 at a place with a cause: exactly for a rule that is accepted and words so wrong.
   pub answer-5 : (i : ℕ) (c : Cause) → ((r : Rule) × (ruleOf ms ps ≡ accepted r)) × Wrong ts i c
-      ↔ (it .answer ≡ 5) × (it .place ≡ i) × (it .cause ≡ numbered c)
+      ↔ (it .answer ≡ 5) × (it .place ≡ i) × (it .cause ≡ causeNumber c)
   answer-5 i c = (to, from)
     where
-      to : ((r : Rule) × (ruleOf ms ps ≡ accepted r)) × Wrong ts i c → (it .answer ≡ 5) × (it .place ≡ i) × (it .cause ≡ numbered c)
+      to : ((r : Rule) × (ruleOf ms ps ≡ accepted r)) × Wrong ts i c → (it .answer ≡ 5) × (it .place ≡ i) × (it .cause ≡ causeNumber c)
       to h =
           let w = cause-at ts i c .1 (h .1) in
           let f = ofTarget (h .0 .0) (rule-accepted ms ps (h .0 .0) .0 (h .0 .1)) (notTarget (w .0)) in
           let r = refused-exactly ms ps ts budget room 5 i .0 f in
           (r .2, r .3, told-5 i f ∙ w .1)
 
-      from : (it .answer ≡ 5) × (it .place ≡ i) × (it .cause ≡ numbered c) → ((r : Rule) × (ruleOf ms ps ≡ accepted r)) × Wrong ts i c
+      from : (it .answer ≡ 5) × (it .place ≡ i) × (it .cause ≡ causeNumber c) → ((r : Rule) × (ruleOf ms ps ≡ accepted r)) × Wrong ts i c
       from h =
           let f = refused-exactly ms ps ts budget room 5 i .1 (omega arith, omega arith, h .0, h .1) in
           let k = fault-5 refl f in

@@ -10,8 +10,8 @@ use lib.IntN.{ℤ}
 use Rattle.rules.specs.Forms.{Pattern, noPatterns, _▸ᵖ_}
 use Rattle.rules.specs.Reading.{Verdict, ok, fault, _then_, Got, Reader, give, _>>=_, known, entry, times, width}
 use Rattle.rules.specs.Reading.{PatternTag, alone, operand, operands, inner, parts, wide, patternTags, patternParts, pattern}
-use Rattle.promises.specs.Readers.{Sound, bind-ok, known-ok}
-use Rattle.promises.specs.ReadPattern.{pattern-sound}
+use Rattle.forms.specs.Readers.{Sound, bind-ok, known-ok}
+use Rattle.forms.specs.ReadPattern.{pattern-sound}
 
 -- What is left is no longer than what there was.
 Shorter : {A : Type 0} → Reader A → Type 0

@@ -14,9 +14,9 @@ use Rattle.rules.specs.Fit.{among, takes, members, fits, fitsParts}
 use Rattle.rules.specs.Equality.{Bindings}
 use Rattle.rules.specs.Ways.{Way, Parts, JoinBy, Follows, FollowsAll}
 use Rattle.rules.specs.Always.{tags, tagsAll, failing, noneFails, alwaysTrue}
-use Rattle.promises.specs.Tests.{and-split}
-use Rattle.promises.specs.Readers.{then-ok}
-use Rattle.promises.specs.Numbering.{demand-ok}
+use Rattle.forms.specs.Tests.{and-split}
+use Rattle.forms.specs.Readers.{then-ok}
+use Rattle.forms.specs.Numbering.{demand-ok}
 use Rattle.promises.specs.Suited.{Every, Suits, SuitsEach, tuple-suits}
 
 -- None of the tags of two parts fails exactly if none of either does.

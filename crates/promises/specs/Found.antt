@@ -11,13 +11,13 @@ use Rattle.rules.specs.Reading.{Verdict, ok, fault, _then_, Got, Reader, give, 
 use Rattle.rules.specs.Reading.{targetTags, targetParts, width, atMost64, target}
 use Rattle.rules.specs.Causes.{Cause, unknownTag, badCount, cutShort, badWidth}
 use Rattle.rules.specs.Causes.{Look, wrong, _thence_, inTurn, see, kinds, anyWord, innermost, opened, value}
-use Rattle.promises.specs.Written.{deepest, largest, Widths, IsWidth}
-use Rattle.promises.specs.Readers.{got, known-is}
-use Rattle.promises.specs.Counted.{width-only, width-is, at-most-only, at-most-is}
-use Rattle.promises.specs.ReadTarget.{target-complete}
-use Rattle.promises.specs.Wrong.{Outside, Heads, ofCollection, ofTuple, Within, Awaits, outermost, inside, Spot}
-use Rattle.promises.specs.Wrong.{notTag, notCount, deepCollection, deepTuple, noTag, noInteger, noCount, noWidth, notWidth}
-use Rattle.promises.specs.Together.{value-well}
+use Rattle.forms.specs.Written.{deepest, largest, Widths, IsWidth}
+use Rattle.forms.specs.Readers.{got, known-is}
+use Rattle.forms.specs.Counted.{width-only, width-is, at-most-only, at-most-is}
+use Rattle.forms.specs.ReadTarget.{target-complete}
+use Rattle.forms.specs.Wrong.{Outside, Heads, ofCollection, ofTuple, Within, Awaits, outermost, inside, Spot}
+use Rattle.forms.specs.Wrong.{notTag, notCount, deepCollection, deepTuple, noTag, noInteger, noCount, noWidth, notWidth}
+use Rattle.forms.specs.Together.{value-well}
 
 -- The reader ends with a fault at i, and the look with the cause c.
 abbrev pub Found : (d at : ℕ) (ws : List ℤ) (i : ℕ) → Cause → Type 0

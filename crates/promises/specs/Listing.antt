@@ -7,9 +7,9 @@ use mathlib.Core.List.{List, [], _∷_, _++_, List·Memᴰ·head, List·Memᴰ·
 use Rattle.rules.specs.Forms.{Matcher, Pattern, Value}
 use Rattle.rules.specs.Equality.{Bindings}
 use Rattle.rules.specs.Ways.{Way, _≺_, Good}
-use Rattle.rules.specs.Lists.{Mem, Pairwise}
+use Rattle.forms.specs.Lists.{Mem, Pairwise}
 use Rattle.rules.specs.Following.{Solution, solve}
-use Rattle.rules.specs.Twin.{sound, complete}
+use Rattle.promises.specs.Twin.{sound, complete}
 use Rattle.promises.specs.Order.{_≪_, Earlier, solve-in-order, solve-increasing}
 
 -- Two ways do not each come before the other.

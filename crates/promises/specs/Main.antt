@@ -14,7 +14,7 @@ use lib.IntN.{ℤ, pos, _+ℤ_}
 use Rattle.rules.specs.Numbers.{same, inRange}
 use Rattle.rules.specs.Forms.{Matcher, integer, Pattern, never, Value, Values, int, collection, tupled, empty, _▸_, multiset, words}
 use Rattle.rules.specs.Reading.{ok, fault, entry, readMatcher, readPattern, readTarget}
-use Rattle.rules.specs.Causes.{Cause, numbered, causeOf}
+use Rattle.rules.specs.Causes.{Cause, causeNumber, causeOf}
 use Rattle.rules.specs.Variables.{variables}
 use Rattle.rules.specs.Fit.{fitsValue}
 use Rattle.rules.specs.Equality.{Bindings, equal, isValue}
@@ -22,7 +22,7 @@ use Rattle.rules.specs.Search.{Atom, atom, State, state, run, start}
 use Rattle.rules.specs.Ways.{Way, Follows, Good}
 use Rattle.rules.specs.Review.{factor}
 use Rattle.rules.specs.Services.{accepted, Rule, ruleOf, targetOf, Matched, causeIn, turnedAway, carriedOut, match, Reviewed, review}
-use Rattle.promises.specs.Written.{matcherWords, patternWords, levels, largest, deepest, variableTags, Widthsᵐ, Widthsᵖ, Widths, pair-largest}
+use Rattle.forms.specs.Written.{matcherWords, patternWords, levels, largest, deepest, variableTags, Widthsᵐ, Widthsᵖ, Widths, pair-largest}
 use Rattle.promises.specs.Trace.{passed, trace, order, seen, trace-order}
 use Rattle.rules.specs.Following.{Solution}
 use Rattle.promises.specs.Solve.{founds, founds-start}
@@ -30,12 +30,12 @@ use Rattle.promises.specs.Nots.{inner, inner-writes-nothing, not-holds, 
 use Rattle.promises.specs.Listing.{Listing, solve-listing, listing-unique, way-ends}
 use Rattle.promises.specs.Budget.{report, Full, Outcome}
 use Rattle.promises.specs.Sums.{sum-inside, sum-outside}
-use Rattle.promises.specs.Pairing.{greedy, equal-equiv, multisets-greedy}
-use Rattle.promises.specs.ReadMatcher.{matcher-read, matcher-once}
-use Rattle.promises.specs.ReadPattern.{pattern-read, pattern-once}
-use Rattle.promises.specs.ReadTarget.{target-read, target-once}
-use Rattle.promises.specs.Faults.{Fault, Judgement, Sane, sane-exactly, rule-accepted, match-turned, match-judged, refused-exactly, fault-once, not-both}
-use Rattle.promises.specs.Wrong.{Wrong, Says, wrong-says}
+use Rattle.forms.specs.Pairing.{greedy, equal-equiv, multisets-greedy}
+use Rattle.forms.specs.ReadMatcher.{matcher-read, matcher-once}
+use Rattle.forms.specs.ReadPattern.{pattern-read, pattern-once}
+use Rattle.forms.specs.ReadTarget.{target-read, target-once}
+use Rattle.forms.specs.Faults.{Fault, Judgement, Sane, sane-exactly, rule-accepted, match-turned, match-judged, refused-exactly, fault-once, not-both}
+use Rattle.forms.specs.Wrong.{Wrong, Says, wrong-says}
 use Rattle.promises.specs.Causes.{cause-none, cause-at, cause-length, cause-5, cause-other, answer-5}
 use Rattle.promises.specs.Reviewing.{Review, TooBig, AlwaysTrue, countOf, review-judged, count-is, answer-10, answer-11, everybody}
 use Rattle.promises.specs.Matching.{states, ways, rowsOfWays, outcome, result, answer-0, answer-7, answer-8, full-stands, first-ways, all-ways, no-row, some-row, way-binds}
@@ -47,8 +47,8 @@ pub match-determined : (ms ps ts : List ℤ) (budget : ℕ) (room : List ℤ) (x
     → x ≡ match ms ps ts budget room → y ≡ match ms ps ts budget room → x ≡ y
 match-determined ms ps ts budget room x y p q = p ∙ sym q
 
-pub review-determined : (ms ps : List ℤ) (most : ℤ) (x y : Reviewed) → x ≡ review ms ps most → y ≡ review ms ps most → x ≡ y
-review-determined ms ps most x y p q = p ∙ sym q
+pub review-determined : (ms ps : List ℤ) (cap : ℤ) (x y : Reviewed) → x ≡ review ms ps cap → y ≡ review ms ps cap → x ≡ y
+review-determined ms ps cap x y p q = p ∙ sym q
 
 -- ---- Exactly the good ways.
 
@@ -148,30 +148,30 @@ module _ (ms ps ts : List ℤ) (budget : ℕ) (room : List ℤ) (r : Rule) (v : 
 
 -- ---- Review: one of a refusal, always true, a cap outside 0 to 64, too big, or the formula.
 
-pub review-gives : (ms ps : List ℤ) (most : ℤ) → Review ms ps most (review ms ps most)
+pub review-gives : (ms ps : List ℤ) (cap : ℤ) → Review ms ps cap (review ms ps cap)
 review-gives = review-judged
 
-pub too-big-exactly : (ms ps : List ℤ) (most : ℤ) → (review ms ps most) .answer ≡ 10 ↔ TooBig ms ps most
+pub too-big-exactly : (ms ps : List ℤ) (cap : ℤ) → (review ms ps cap) .answer ≡ 10 ↔ TooBig ms ps cap
 too-big-exactly = answer-10
 
-pub always-true-exactly : (ms ps : List ℤ) (most : ℤ) → (review ms ps most) .answer ≡ 11 ↔ AlwaysTrue ms ps
+pub always-true-exactly : (ms ps : List ℤ) (cap : ℤ) → (review ms ps cap) .answer ≡ 11 ↔ AlwaysTrue ms ps
 always-true-exactly = answer-11
 
-pub count-is-formula : (ms ps : List ℤ) (most : ℕ) (r : Rule) → ruleOf ms ps ≡ accepted r → (review ms ps (pos most)) .answer ≡ 0
-    → (review ms ps (pos most)) .count ≡ countOf most r
-count-is-formula ms ps most r e a = count-is ms ps most r (rule-accepted ms ps r .0 e) a
+pub count-is-formula : (ms ps : List ℤ) (cap : ℕ) (r : Rule) → ruleOf ms ps ≡ accepted r → (review ms ps (pos cap)) .answer ≡ 0
+    → (review ms ps (pos cap)) .count ≡ countOf cap r
+count-is-formula ms ps cap r e a = count-is ms ps cap r (rule-accepted ms ps r .0 e) a
 
 -- ---- Rules that everybody passes: a pattern that review turns away with 11 has a good way on every value that fits its matcher, whatever its words.
 
-pub everybody-passes : (ms ps : List ℤ) (most : ℤ) (r : Rule) → ruleOf ms ps ≡ accepted r → (review ms ps most) .answer ≡ 11
+pub everybody-passes : (ms ps : List ℤ) (cap : ℤ) (r : Rule) → ruleOf ms ps ≡ accepted r → (review ms ps cap) .answer ≡ 11
     → (v : Value) → fitsValue (r .matcher) v 0 ≡ ok tt → (w : Way) × (e : Bindings) × Good (r .matcher) (r .pattern) v w e
-everybody-passes ms ps most r e = everybody ms ps most r (rule-accepted ms ps r .0 e)
+everybody-passes ms ps cap r e = everybody ms ps cap r (rule-accepted ms ps r .0 e)
 
 -- So match finds a row on every target that is not refused.
-pub everybody-has-a-row : (ms ps ts : List ℤ) (most : ℤ) (budget : ℕ) (room : List ℤ) (r : Rule) (v : Value)
-    → ruleOf ms ps ≡ accepted r → targetOf (r .matcher) ts ≡ accepted v → (review ms ps most) .answer ≡ 11
+pub everybody-has-a-row : (ms ps ts : List ℤ) (cap : ℤ) (budget : ℕ) (room : List ℤ) (r : Rule) (v : Value)
+    → ruleOf ms ps ≡ accepted r → targetOf (r .matcher) ts ≡ accepted v → (review ms ps cap) .answer ≡ 11
     → (match ms ps ts budget room) .answer ≡ 0 → 1 ≤ (match ms ps ts budget room) .rows
-everybody-has-a-row ms ps ts most budget room r v rule target = some-row ms ps ts budget room r v (sane ms ps ts budget room r v rule target) most
+everybody-has-a-row ms ps ts cap budget room r v rule target = some-row ms ps ts budget room r v (sane ms ps ts budget room r v rule target) cap
 
 -- The variables are those that the test of section 2 counts, at most 16.
 pub variables-counted : (ms ps : List ℤ) (r : Rule) → ruleOf ms ps ≡ accepted r
@@ -182,21 +182,21 @@ variables-counted ms ps r e = tags-counted ms ps r (rule-accepted ms ps r .0 e)
 pub pair-keeps-cap : (x y : ℤ) → largest (tupled (int x ▸ int y ▸ empty)) ≡ 0
 pair-keeps-cap = pair-largest
 
--- The count bounds every run on a target whose collections, nested ones and those inside a tuple too, have at most `most` elements.
+-- The count bounds every run on a target whose collections, nested ones and those inside a tuple too, have at most `cap` elements.
 module _ (ms ps ts : List ℤ) (budget : ℕ) (room : List ℤ) (r : Rule) (v : Value)
     (rule : ruleOf ms ps ≡ accepted r) (target : targetOf (r .matcher) ts ≡ accepted v)
-    (most : ℕ) (small : largest v ≤ most) where
-  pub steps-at-most : (match ms ps ts budget room) .steps ≤ countOf most r
-  steps-at-most = steps-bounded ms ps ts budget room r v (sane ms ps ts budget room r v rule target) most small
+    (cap : ℕ) (small : largest v ≤ cap) where
+  pub steps-at-most : (match ms ps ts budget room) .steps ≤ countOf cap r
+  steps-at-most = steps-bounded ms ps ts budget room r v (sane ms ps ts budget room r v rule target) cap small
 
-  pub rows-at-most : (match ms ps ts budget room) .rows ≤ factor most (r .pattern) (r .matcher)
-  rows-at-most = rows-bounded ms ps ts budget room r v (sane ms ps ts budget room r v rule target) most small
+  pub rows-at-most : (match ms ps ts budget room) .rows ≤ factor cap (r .pattern) (r .matcher)
+  rows-at-most = rows-bounded ms ps ts budget room r v (sane ms ps ts budget room r v rule target) cap small
 
   -- ---- Room enough: with the count as budget, and (product of factors) × (variables) × (target words) words of room, match answers 0.
 
-  pub enough : countOf most r ≤ budget → factor most (r .pattern) (r .matcher) * variableTags (r .pattern) * length ts ≤ length room
+  pub enough : countOf cap r ≤ budget → factor cap (r .pattern) (r .matcher) * variableTags (r .pattern) * length ts ≤ length room
       → (match ms ps ts budget room) .answer ≡ 0
-  enough = room-enough ms ps ts budget room r v (sane ms ps ts budget room r v rule target) most small
+  enough = room-enough ms ps ts budget room r v (sane ms ps ts budget room r v rule target) cap small
 
 -- ---- Refusals: for every input exactly one of a refusal, by the first fault in the fixed order, or a run.
 
@@ -224,13 +224,13 @@ module _ (ts : List ℤ) where
   pub no-cause-exactly : causeOf ts ≡ 0 ↔ (v : Value) × (readTarget ts ≡ ok v)
   no-cause-exactly = cause-none ts
 
-  pub cause-exactly : (i : ℕ) (c : Cause) → (readTarget ts ≡ fault i) × (causeOf ts ≡ numbered c) ↔ Wrong ts i c
+  pub cause-exactly : (i : ℕ) (c : Cause) → (readTarget ts ≡ fault i) × (causeOf ts ≡ causeNumber c) ↔ Wrong ts i c
   cause-exactly = cause-at ts
 
   pub over-length-exactly : causeOf ts ≡ 1 ↔ 1024 < length ts
   over-length-exactly = cause-length ts
 
-  pub cause-says : (i : ℕ) (c : Cause) → readTarget ts ≡ fault i → causeOf ts ≡ numbered c → Says ts i c
+  pub cause-says : (i : ℕ) (c : Cause) → readTarget ts ≡ fault i → causeOf ts ≡ causeNumber c → Says ts i c
   cause-says i c p q = wrong-says (cause-at ts i c .0 (p, q))
 
 -- Match's sixth number is a cause exactly in answer 5, with its place, and else 0.
@@ -243,7 +243,7 @@ module _ (ms ps ts : List ℤ) (budget : ℕ) (room : List ℤ) where
   no-cause-else = cause-other ms ps ts budget room
 
   pub target-fault-exactly : (i : ℕ) (c : Cause) → ((r : Rule) × (ruleOf ms ps ≡ accepted r)) × Wrong ts i c
-      ↔ ((match ms ps ts budget room) .answer ≡ 5) × ((match ms ps ts budget room) .place ≡ i) × ((match ms ps ts budget room) .cause ≡ numbered c)
+      ↔ ((match ms ps ts budget room) .answer ≡ 5) × ((match ms ps ts budget room) .place ≡ i) × ((match ms ps ts budget room) .cause ≡ causeNumber c)
   target-fault-exactly = answer-5 ms ps ts budget room
 
 -- ---- Multiset equality: pairing off is marking off greedily; and equality is symmetric and transitive under every matcher, the one at tag 3.

@@ -16,8 +16,8 @@ use Rattle.rules.specs.Search.{row, Run, run, start}
 use Rattle.rules.specs.Ways.{Way, Good}
 use Rattle.rules.specs.Review.{factor}
 use Rattle.rules.specs.Services.{Rule, Matched, carriedOut, match, review}
-use Rattle.promises.specs.Written.{variableTags, largest, length-words}
-use Rattle.rules.specs.Lists.{Mem, flatMap-map}
+use Rattle.forms.specs.Written.{variableTags, largest, length-words}
+use Rattle.forms.specs.Lists.{Mem, flatMap-map}
 use Rattle.promises.specs.Trace.{Taken, trace, walk, run-walks}
 use Rattle.rules.specs.Following.{Solution, solve}
 use Rattle.promises.specs.Solve.{founds, founds-start}
@@ -26,11 +26,11 @@ use Rattle.promises.specs.Budget.{report, Full, Outcome, done, spent, fu
 use Rattle.promises.specs.Budget.{walk-outcome, walk-full, full-rows, answers-0, answers-7, answers-8, steps-most, first-rows}
 use Rattle.promises.specs.Suited.{Suits, fits-suits}
 use Rattle.promises.specs.Bound.{steps-bound, rows-bound}
-use Rattle.promises.specs.Numbering.{variables-found}
+use Rattle.forms.specs.Numbering.{variables-found}
 use Rattle.promises.specs.Room.{follows-binds, rows-words}
-use Rattle.promises.specs.ReadTarget.{target-read}
+use Rattle.forms.specs.ReadTarget.{target-read}
 use Rattle.promises.specs.Reviewing.{countOf, everybody}
-use Rattle.promises.specs.Faults.{Sane, WellFormed, match-ran}
+use Rattle.forms.specs.Faults.{Sane, WellFormed, match-ran}
 
 -- The states of the search in the order in which they are taken up; and the good ways, in dictionary order.
 unfoldable pub states : Rule → Value → List Taken
@@ -143,11 +143,11 @@ module _ (ms ps ts : List ℤ) (budget : ℕ) (room : List ℤ) (r : Rule) (v : 
   )
 
   -- A row for everybody.
-  pub some-row : (most : ℤ) → (review ms ps most) .answer ≡ 11 → it .answer ≡ 0 → 1 ≤ it .rows
-  some-row most a d = go (it .rows) refl
+  pub some-row : (cap : ℤ) → (review ms ps cap) .answer ≡ 11 → it .answer ≡ 0 → 1 ≤ it .rows
+  some-row cap a d = go (it .rows) refl
     where
       go : (n : ℕ) → it .rows ≡ n → 1 ≤ n
-      go zero q = let g = everybody ms ps most r (sane .rule) a v (sane .target .fit) in absurd (no-row .0 (d, q) .1 (g .0) (g .1) (g .2))
+      go zero q = let g = everybody ms ps cap r (sane .rule) a v (sane .target .fit) in absurd (no-row .0 (d, q) .1 (g .0) (g .1) (g .2))
       go (suc n) q = omega arith
 
   -- ---- What fits.
@@ -163,27 +163,27 @@ module _ (ms ps ts : List ℤ) (budget : ℕ) (room : List ℤ) (r : Rule) (v : 
 
   -- ---- Review's numbers.
 
-  module _ (most : ℕ) (small : largest v ≤ most) where
-    pub steps-bounded : it .steps ≤ countOf most r
+  module _ (cap : ℕ) (small : largest v ≤ cap) where
+    pub steps-bounded : it .steps ≤ countOf cap r
     unfolding carriedOut states countOf
     steps-bounded =
         let q = ap (λ (x : Matched). x .steps) result in
-        omega (arith, steps-most budget (length room) (states r v) ran outcome, steps-bound most (r .matcher) (r .pattern) v (suits, small))
+        omega (arith, steps-most budget (length room) (states r v) ran outcome, steps-bound cap (r .matcher) (r .pattern) v (suits, small))
 
-    pub rows-bounded : it .rows ≤ factor most (r .pattern) (r .matcher)
+    pub rows-bounded : it .rows ≤ factor cap (r .pattern) (r .matcher)
     unfolding ways
-    rows-bounded = le-trans (first-ways .0) (rows-bound most (r .pattern) (r .matcher) v [] (suits, small))
+    rows-bounded = le-trans (first-ways .0) (rows-bound cap (r .pattern) (r .matcher) v [] (suits, small))
 
-    pub room-enough : countOf most r ≤ budget
-        → factor most (r .pattern) (r .matcher) * variableTags (r .pattern) * length ts ≤ length room → it .answer ≡ 0
+    pub room-enough : countOf cap r ≤ budget
+        → factor cap (r .pattern) (r .matcher) * variableTags (r .pattern) * length ts ≤ length room → it .answer ≡ 0
     unfolding states countOf
     room-enough b h = answer-0 .1 (
-      le-trans (steps-bound most (r .matcher) (r .pattern) v (suits, small)) b,
+      le-trans (steps-bound cap (r .matcher) (r .pattern) v (suits, small)) b,
       λ f. let k = full-rows budget (length room) (states r v) f .1 in
-          let w = rows-words most (r .matcher) (r .pattern) v (suits, small) in
+          let w = rows-words cap (r .matcher) (r .pattern) v (suits, small) in
           let l : length ts ≡ size v = ap length (target-read ts v .0 (sane .target .target) .0) ∙ length-words v in
-          let e = ap (λ n. factor most (r .pattern) (r .matcher) * variableTags (r .pattern) * n) l
-          ∙ mul-assoc (factor most (r .pattern) (r .matcher)) (variableTags (r .pattern)) (size v) in
+          let e = ap (λ n. factor cap (r .pattern) (r .matcher) * variableTags (r .pattern) * n) l
+          ∙ mul-assoc (factor cap (r .pattern) (r .matcher)) (variableTags (r .pattern)) (size v) in
           omega arith,
     )
 

@@ -6,11 +6,11 @@ use mathlib.Core.Bool.{Bool, false}
 use mathlib.Core.List.{List, [], _∷_, _++_, flatMap, List·Memᴰ·head, List·Memᴰ·not-nil}
 use Rattle.rules.specs.Forms.{Matcher, Pattern, never, Value}
 use Rattle.rules.specs.Equality.{Bindings}
-use Rattle.rules.specs.Search.{Atom, atom, cut, State, state}
+use Rattle.rules.specs.Search.{Atom, atom, endOfNot, State, state}
 use Rattle.rules.specs.Ways.{Way, Follows}
 use Rattle.rules.specs.Following.{Solution, solve}
-use Rattle.rules.specs.Lists.{Mem}
-use Rattle.rules.specs.Twin.{sound, complete}
+use Rattle.forms.specs.Lists.{Mem}
+use Rattle.promises.specs.Twin.{sound, complete}
 use Rattle.promises.specs.Trace.{Taken, passed, found, Met, taken, ended, pass, inside, visit, visitAll, met, close, trace, met-cons, met-first}
 use Rattle.promises.specs.Solve.{founds, stops, stops-visit, no-cons, not-ended}
 
@@ -41,7 +41,7 @@ no-row (ended ∷ ms) ss h = refl
 module _ (p : Pattern) (m : Matcher) (v : Value) (e : Bindings) where
   -- The state with which the search inside begins, alone: it ends at its first row.
   abbrev pub inner : State
-  inner = state false (atom p m v ∷ cut ∷ []) e
+  inner = state false (atom p m v ∷ endOfNot ∷ []) e
 
   abbrev meets : List Met
   meets = visit p m v e (λ d. ended ∷ [])

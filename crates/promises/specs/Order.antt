@@ -11,9 +11,9 @@ use Rattle.rules.specs.Fit.{element, members}
 use Rattle.rules.specs.Equality.{Bindings, isConstant, isValue, isEmpty}
 use Rattle.rules.specs.Search.{Halves, consHalves, joinHalves}
 use Rattle.rules.specs.Ways.{Way, _≺_}
-use Rattle.rules.specs.Lists.{Mem, Pairwise, pairwise-append, pairwise-weaken, pairwise-map, pairwise-flatMap}
-use Rattle.rules.specs.Following.{Solution, Numbered, up, numbered, isMultiset, mark, extend, chain, onSide, combine, just, whenSo, none, solve, solveEach}
-use Rattle.rules.specs.Twin.{of-chain}
+use Rattle.forms.specs.Lists.{Mem, Pairwise, pairwise-append, pairwise-weaken, pairwise-map, pairwise-flatMap}
+use Rattle.rules.specs.Following.{Solution, Numbered, up, numbered, isMultiset, mark, extend, chain, onSide, combine, just, whenSo, noSolution, solve, solveEach}
+use Rattle.promises.specs.Twin.{of-chain}
 
 -- Two ways of one pattern differ at some choice, so neither is the other's beginning.
 
@@ -143,7 +143,7 @@ mutual
   solve-in-order (both p q) m v e =
       chain-in-order [] (solve p m v e) (λ d. solve q m v d) (solve-in-order p m v e) (λ d. solve-in-order q m v d)
   solve-in-order (either p q) m v e = sides-in-order (solve p m v e) (solve q m v e) (solve-in-order p m v e) (solve-in-order q m v e)
-  solve-in-order (never p) m v e = single-or-none (none (solve p m v e)) e
+  solve-in-order (never p) m v e = single-or-none (noSolution (solve p m v e)) e
 
   each-in-order : (ps : Patterns) (ms : Matchers) (vs : Values) (e : Bindings) → Pairwise Earlier (solveEach ps ms vs e)
   each-in-order noPatterns ms vs e = single e

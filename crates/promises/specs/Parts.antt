@@ -7,8 +7,8 @@ use mathlib.Core.List.{List·Memᴰ·not-nil, List·Memᴰ·cases-cons, List·Me
 use Rattle.rules.specs.Forms.{Matcher, something, integer, list, multiset, tupleOf, Value, int, collection, tupled, Values, empty, _▸_, count, size, sizeAll}
 use Rattle.rules.specs.Equality.{Pick, picks, behind}
 use Rattle.rules.specs.Search.{Cut, cuts, longer, Halves, consHalves, joinHalves}
-use Rattle.promises.specs.Written.{largest, largestOf}
-use Rattle.rules.specs.Lists.{Mem}
+use Rattle.forms.specs.Written.{largest, largestOf}
+use Rattle.forms.specs.Lists.{Mem}
 
 -- Some of the elements, in their order.
 pub data Among : Values → Values → Type 0 where

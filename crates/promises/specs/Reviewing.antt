@@ -15,45 +15,45 @@ use Rattle.rules.specs.Equality.{Bindings}
 use Rattle.rules.specs.Ways.{Way, Good}
 use Rattle.rules.specs.Review.{formula}
 use Rattle.rules.specs.Always.{alwaysTrue}
-use Rattle.rules.specs.Services.{Judged, accepted, refused, Rule, ruleOf, Reviewed, declined, counted, capped, passable, reviewRule, review}
-use Rattle.promises.specs.Tests.{leb-true, leb-false, ltb-true, ltb-false}
+use Rattle.rules.specs.Services.{Judged, accepted, refused, Rule, ruleOf, Reviewed, declined, counted, capped, unlessAlwaysTrue, reviewRule, review}
+use Rattle.forms.specs.Tests.{leb-true, leb-false, ltb-true, ltb-false}
 use Rattle.promises.specs.Suited.{fits-suits}
 use Rattle.promises.specs.Everybody.{always-passes}
-use Rattle.promises.specs.Faults.{RuleFault, rule-range, WellFormed, rule-accepted, rule-refused}
+use Rattle.forms.specs.Faults.{RuleFault, rule-range, WellFormed, rule-accepted, rule-refused}
 
 -- Review's formula for a rule.
 unfoldable pub countOf : ℕ → Rule → ℕ
 unfolding formula
-countOf most r = formula most (r .pattern) (r .matcher)
+countOf cap r = formula cap (r .pattern) (r .matcher)
 
 -- A rule with none of the faults 1 to 4 that can fail: not always true.
 pub record Telling (ms ps : List ℤ) (r : Rule) : Type 0 where
   pub wellFormed : WellFormed ms ps r
   pub canFail : alwaysTrue (r .pattern) ≡ false
 
-pub data Review (ms ps : List ℤ) (most : ℤ) (x : Reviewed) : Type 0 where
-  turned : (a i : ℕ) → RuleFault ms ps a i → x ≡ declined a i → Review ms ps most x
-  always : (r : Rule) → WellFormed ms ps r → alwaysTrue (r .pattern) ≡ true → x ≡ declined 11 0 → Review ms ps most x
-  outside : (r : Rule) → Telling ms ps r → ((c : ℕ) → most ≡ pos c → c ≤ 64 → ⊥) → x ≡ declined 9 0 → Review ms ps most x
-  tooBig : (r : Rule) (c : ℕ) → Telling ms ps r → most ≡ pos c → c ≤ 64 → 4294967295 < countOf c r → x ≡ declined 10 0 → Review ms ps most x
-  counts : (r : Rule) (c : ℕ) → Telling ms ps r → most ≡ pos c → c ≤ 64 → countOf c r ≤ 4294967295
-      → x ≡ record { answer = 0; place = 0; count = countOf c r } → Review ms ps most x
+pub data Review (ms ps : List ℤ) (cap : ℤ) (x : Reviewed) : Type 0 where
+  turned : (a i : ℕ) → RuleFault ms ps a i → x ≡ declined a i → Review ms ps cap x
+  always : (r : Rule) → WellFormed ms ps r → alwaysTrue (r .pattern) ≡ true → x ≡ declined 11 0 → Review ms ps cap x
+  outside : (r : Rule) → Telling ms ps r → ((c : ℕ) → cap ≡ pos c → c ≤ 64 → ⊥) → x ≡ declined 9 0 → Review ms ps cap x
+  tooBig : (r : Rule) (c : ℕ) → Telling ms ps r → cap ≡ pos c → c ≤ 64 → 4294967295 < countOf c r → x ≡ declined 10 0 → Review ms ps cap x
+  counts : (r : Rule) (c : ℕ) → Telling ms ps r → cap ≡ pos c → c ≤ 64 → countOf c r ≤ 4294967295
+      → x ≡ record { answer = 0; place = 0; count = countOf c r } → Review ms ps cap x
 
 module _ (ms ps : List ℤ) where
-  of-words : (most : ℤ) (r : Rule) → WellFormed ms ps r → review ms ps most ≡ passable most r
+  of-words : (cap : ℤ) (r : Rule) → WellFormed ms ps r → review ms ps cap ≡ unlessAlwaysTrue cap r
   unfolding review reviewRule
-  of-words most r w = ap (reviewRule most) (rule-accepted ms ps r .1 w)
+  of-words cap r w = ap (reviewRule cap) (rule-accepted ms ps r .1 w)
 
   -- 11, whatever the cap is.
-  pub review-always : (most : ℤ) (r : Rule) → WellFormed ms ps r → alwaysTrue (r .pattern) ≡ true → review ms ps most ≡ declined 11 0
-  unfolding passable
-  review-always most r w a = of-words most r w
-      ∙ ap (λ t. elim t as (λ _. Reviewed) [ true ↦ declined 11 0 | false ↦ capped most r ]) a
+  pub review-always : (cap : ℤ) (r : Rule) → WellFormed ms ps r → alwaysTrue (r .pattern) ≡ true → review ms ps cap ≡ declined 11 0
+  unfolding unlessAlwaysTrue
+  review-always cap r w a = of-words cap r w
+      ∙ ap (λ t. elim t as (λ _. Reviewed) [ true ↦ declined 11 0 | false ↦ capped cap r ]) a
 
-  of-rule : (most : ℤ) (r : Rule) → Telling ms ps r → review ms ps most ≡ capped most r
-  unfolding passable
-  of-rule most r w = of-words most r (w .wellFormed)
-      ∙ ap (λ t. elim t as (λ _. Reviewed) [ true ↦ declined 11 0 | false ↦ capped most r ]) (w .canFail)
+  of-rule : (cap : ℤ) (r : Rule) → Telling ms ps r → review ms ps cap ≡ capped cap r
+  unfolding unlessAlwaysTrue
+  of-rule cap r w = of-words cap r (w .wellFormed)
+      ∙ ap (λ t. elim t as (λ _. Reviewed) [ true ↦ declined 11 0 | false ↦ capped cap r ]) (w .canFail)
 
   in-range : (c : ℕ) (r : Rule) → Telling ms ps r → c ≤ 64 → review ms ps (pos c) ≡ counted (countOf c r)
   unfolding capped countOf
@@ -78,7 +78,7 @@ module _ (ms ps : List ℤ) where
   by-count c r w h (yes k) = counts r c w refl h k (review-counts c r w h k)
   by-count c r w h (no k) = tooBig r c w refl h (omega arith) (review-too-big c r w h (omega arith))
 
-  by-cap : (most : ℤ) (r : Rule) → Telling ms ps r → Review ms ps most (review ms ps most)
+  by-cap : (cap : ℤ) (r : Rule) → Telling ms ps r → Review ms ps cap (review ms ps cap)
   unfolding capped countOf
   by-cap (negsuc n) r w = outside r w (λ c e h. pos-ne-negsuc c n (sym e)) (of-rule (negsuc n) r w)
   by-cap (pos c) r w = go (decLe c 64)
@@ -88,42 +88,42 @@ module _ (ms ps : List ℤ) where
       go (no h) = outside r w (λ d e k. let q : c ≡ d = cc in omega arith)
           (of-rule (pos c) r w ∙ ap (λ t. elim t as (λ _. Reviewed) [ true ↦ counted (countOf c r) | false ↦ declined 9 0 ]) (leb-false c 64 (omega arith)))
 
-  by-pattern : (most : ℤ) (r : Rule) → WellFormed ms ps r → (b : Bool) → alwaysTrue (r .pattern) ≡ b → Review ms ps most (review ms ps most)
-  by-pattern most r w true a = always r w a (review-always most r w a)
-  by-pattern most r w false a = by-cap most r (record { wellFormed = w; canFail = a })
+  by-pattern : (cap : ℤ) (r : Rule) → WellFormed ms ps r → (b : Bool) → alwaysTrue (r .pattern) ≡ b → Review ms ps cap (review ms ps cap)
+  by-pattern cap r w true a = always r w a (review-always cap r w a)
+  by-pattern cap r w false a = by-cap cap r (record { wellFormed = w; canFail = a })
 
   -- One of the five.
-  pub review-judged : (most : ℤ) → Review ms ps most (review ms ps most)
+  pub review-judged : (cap : ℤ) → Review ms ps cap (review ms ps cap)
   unfolding review
-  review-judged most = go (ruleOf ms ps) refl
+  review-judged cap = go (ruleOf ms ps) refl
     where
-      go : (x : Judged Rule) → ruleOf ms ps ≡ x → Review ms ps most (review ms ps most)
-      go (accepted r) e = by-pattern most r (rule-accepted ms ps r .0 e) (alwaysTrue (r .pattern)) refl
-      go (refused a i) e = turned a i (rule-refused ms ps a i .0 e) (ap (reviewRule most) e)
+      go : (x : Judged Rule) → ruleOf ms ps ≡ x → Review ms ps cap (review ms ps cap)
+      go (accepted r) e = by-pattern cap r (rule-accepted ms ps r .0 e) (alwaysTrue (r .pattern)) refl
+      go (refused a i) e = turned a i (rule-refused ms ps a i .0 e) (ap (reviewRule cap) e)
 
 -- ---- And only that one: the answers differ.
 
-pub record TooBig (ms ps : List ℤ) (most : ℤ) : Type 0 where
+pub record TooBig (ms ps : List ℤ) (cap : ℤ) : Type 0 where
   pub rule : Rule
   pub telling : Telling ms ps rule
   pub limit : ℕ
-  pub is : most ≡ pos limit
+  pub is : cap ≡ pos limit
   pub inside : limit ≤ 64
   pub passes : 4294967295 < countOf limit rule
 
 -- 10 exactly when the formula passes 4,294,967,295.
-pub answer-10 : (ms ps : List ℤ) (most : ℤ) → (review ms ps most) .answer ≡ 10 ↔ TooBig ms ps most
+pub answer-10 : (ms ps : List ℤ) (cap : ℤ) → (review ms ps cap) .answer ≡ 10 ↔ TooBig ms ps cap
 unfolding declined
-answer-10 ms ps most = ((λ a. go a (review-judged ms ps most)), back)
+answer-10 ms ps cap = ((λ a. go a (review-judged ms ps cap)), back)
   where
-    go : (review ms ps most) .answer ≡ 10 → Review ms ps most (review ms ps most) → TooBig ms ps most
+    go : (review ms ps cap) .answer ≡ 10 → Review ms ps cap (review ms ps cap) → TooBig ms ps cap
     go a (turned b i f q) = let k = ap (λ (x : Reviewed). x .answer) q in let l = rule-range f .1 in absurd (omega arith)
     go a (always r w b q) = let k = ap (λ (x : Reviewed). x .answer) q in absurd (omega arith)
     go a (outside r w o q) = let k = ap (λ (x : Reviewed). x .answer) q in absurd (omega arith)
     go a (tooBig r c w e h k q) = record { rule = r; telling = w; limit = c; is = e; inside = h; passes = k }
     go a (counts r c w e h k q) = let l = ap (λ (x : Reviewed). x .answer) q in absurd (omega arith)
 
-    back : TooBig ms ps most → (review ms ps most) .answer ≡ 10
+    back : TooBig ms ps cap → (review ms ps cap) .answer ≡ 10
     back t = ap (λ m. (review ms ps m) .answer) (t .is)
         ∙ ap (λ (x : Reviewed). x .answer) (review-too-big ms ps (t .limit) (t .rule) (t .telling) (t .inside) (t .passes))
 
@@ -133,26 +133,26 @@ pub record AlwaysTrue (ms ps : List ℤ) : Type 0 where
   pub wellFormed : WellFormed ms ps rule
   pub always : alwaysTrue (rule .pattern) ≡ true
 
-pub answer-11 : (ms ps : List ℤ) (most : ℤ) → (review ms ps most) .answer ≡ 11 ↔ AlwaysTrue ms ps
+pub answer-11 : (ms ps : List ℤ) (cap : ℤ) → (review ms ps cap) .answer ≡ 11 ↔ AlwaysTrue ms ps
 unfolding declined
-answer-11 ms ps most = ((λ a. go a (review-judged ms ps most)), back)
+answer-11 ms ps cap = ((λ a. go a (review-judged ms ps cap)), back)
   where
-    go : (review ms ps most) .answer ≡ 11 → Review ms ps most (review ms ps most) → AlwaysTrue ms ps
+    go : (review ms ps cap) .answer ≡ 11 → Review ms ps cap (review ms ps cap) → AlwaysTrue ms ps
     go a (turned b i f q) = let k = ap (λ (x : Reviewed). x .answer) q in let l = rule-range f .1 in absurd (omega arith)
     go a (always r w b q) = record { rule = r; wellFormed = w; always = b }
     go a (outside r w o q) = let k = ap (λ (x : Reviewed). x .answer) q in absurd (omega arith)
     go a (tooBig r c w e h k q) = let l = ap (λ (x : Reviewed). x .answer) q in absurd (omega arith)
     go a (counts r c w e h k q) = let l = ap (λ (x : Reviewed). x .answer) q in absurd (omega arith)
 
-    back : AlwaysTrue ms ps → (review ms ps most) .answer ≡ 11
-    back t = ap (λ (x : Reviewed). x .answer) (review-always ms ps most (t .rule) (t .wellFormed) (t .always))
+    back : AlwaysTrue ms ps → (review ms ps cap) .answer ≡ 11
+    back t = ap (λ (x : Reviewed). x .answer) (review-always ms ps cap (t .rule) (t .wellFormed) (t .always))
 
 -- Then there is a good way on every value that fits.
-pub everybody : (ms ps : List ℤ) (most : ℤ) (r : Rule) → WellFormed ms ps r → (review ms ps most) .answer ≡ 11
+pub everybody : (ms ps : List ℤ) (cap : ℤ) (r : Rule) → WellFormed ms ps r → (review ms ps cap) .answer ≡ 11
     → (v : Value) → fitsValue (r .matcher) v 0 ≡ ok tt → (w : Way) × (e : Bindings) × Good (r .matcher) (r .pattern) v w e
 unfolding alwaysTrue Good
-everybody ms ps most r w a v f =
-    let t = answer-11 ms ps most .0 a in
+everybody ms ps cap r w a v f =
+    let t = answer-11 ms ps cap .0 a in
     let q : t .rule ≡ r = cc (rule-accepted ms ps (t .rule) .1 (t .wellFormed), rule-accepted ms ps r .1 w) in
     let b = ap (λ (s : Rule). alwaysTrue (s .pattern)) (sym q) ∙ t .always in
     always-passes (r .pattern) (r .matcher) 0 [] (w .fitting .0) (subst T (sym b) tt) (w .fitting .1) v [] (fits-suits (r .matcher) v 0 f)

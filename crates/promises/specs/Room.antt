@@ -19,16 +19,16 @@ use Rattle.rules.specs.Equality.{Bindings}
 use Rattle.rules.specs.Search.{Halves, row, consHalves, joinHalves, start}
 use Rattle.rules.specs.Ways.{Way, ConsBy, JoinBy, Follows, FollowsAll}
 use Rattle.rules.specs.Review.{factor}
-use Rattle.promises.specs.Tests.{and-split}
-use Rattle.promises.specs.Written.{variableTags, variableTagsAll, length-words}
-use Rattle.promises.specs.Readers.{then-ok}
-use Rattle.promises.specs.Numbering.{demand-ok, none-inside}
-use Rattle.rules.specs.Lists.{Mem, length-flatMap-le}
+use Rattle.forms.specs.Tests.{and-split}
+use Rattle.forms.specs.Written.{variableTags, variableTagsAll, length-words}
+use Rattle.forms.specs.Readers.{then-ok}
+use Rattle.forms.specs.Numbering.{demand-ok, none-inside}
+use Rattle.forms.specs.Lists.{Mem, length-flatMap-le}
 use Rattle.promises.specs.Trace.{trace}
 use Rattle.rules.specs.Following.{Solution, isMultiset, solve}
 use Rattle.promises.specs.Solve.{founds-start}
-use Rattle.rules.specs.Choices.{in-numbered, Made, cons-complete, join-complete}
-use Rattle.rules.specs.Twin.{sound}
+use Rattle.promises.specs.Choices.{in-numbered, Made, cons-complete, join-complete}
+use Rattle.promises.specs.Twin.{sound}
 use Rattle.promises.specs.Parts.{cons-parts, join-parts, part-size}
 use Rattle.promises.specs.Suited.{Suits, SuitsEach, cons-suits, join-suits, tuple-suits}
 use Rattle.promises.specs.Budget.{rowsOf}
@@ -64,69 +64,69 @@ both-fit b at ks f g ls e =
 mutual
   unfolding Follows variableTags fits variables Suits countᵖ countᵐ
 
-  pub follows-binds : (p : Pattern) (m : Matcher) (v : Value) (e : Bindings) (w : Way) (d : Bindings) (at : ℕ) (ks ls : List Matcher) (may : Bool) (n i : ℕ)
-      → fits p m at ks ≡ ok ls → variables p may at n ≡ ok i → Suits m v → Follows p m v e w d → length d ≡ length e + variableTags p
-  follows-binds wildcard m v e w d at ks ls may n i f g s h = ap length (h .1) ∙ omega arith
-  follows-binds nil m v e w d at ks ls may n i f g s h = ap length (h .2) ∙ omega arith
-  follows-binds (variable x) m v e w d at ks ls may n i f g s h = ap length (h .1) ∙ length-append e (v ∷ [])
-  follows-binds (constant c) m v e w d at ks ls may n i f g s h = ap length (h .2) ∙ omega arith
-  follows-binds (value x c) m v e w d at ks ls may n i f g s h = ap length (h .2) ∙ omega arith
-  follows-binds (cons p q) m v e w d at ks ls may n i f g s h =
+  pub follows-binds : (p : Pattern) (m : Matcher) (v : Value) (e : Bindings) (w : Way) (d : Bindings) (at : ℕ) (ks ls : List Matcher) (mayBind : Bool) (n i : ℕ)
+      → fits p m at ks ≡ ok ls → variables p mayBind at n ≡ ok i → Suits m v → Follows p m v e w d → length d ≡ length e + variableTags p
+  follows-binds wildcard m v e w d at ks ls mayBind n i f g s h = ap length (h .1) ∙ omega arith
+  follows-binds nil m v e w d at ks ls mayBind n i f g s h = ap length (h .2) ∙ omega arith
+  follows-binds (variable x) m v e w d at ks ls mayBind n i f g s h = ap length (h .1) ∙ length-append e (v ∷ [])
+  follows-binds (constant c) m v e w d at ks ls mayBind n i f g s h = ap length (h .2) ∙ omega arith
+  follows-binds (value x c) m v e w d at ks ls mayBind n i f g s h = ap length (h .2) ∙ omega arith
+  follows-binds (cons p q) m v e w d at ks ls mayBind n i f g s h =
       let t = both-fit (takes m 5) at ks (fits p (element m) (at + 1)) (fits q m (at + 1 + span p)) ls f in
-      let x = then-ok (variables p may (at + 1) n) (λ k. variables q may (at + 1 + span p) k) i g in
+      let x = then-ok (variables p mayBind (at + 1) n) (λ k. variables q mayBind (at + 1 + span p) k) i g in
       let u = cons-suits m v (record { first = h .a; second = h .b }) (cons-member m v (h .here) (h .a) (h .b) (h .divided)) s in
       omega (
         arith,
-        follows-binds p (element m) (h .a) e (h .one) (h .between) (at + 1) (t .0) (t .1) may n (x .0) (t .2) (x .1) (u .0) (h .first),
-        follows-binds q m (h .b) (h .between) (h .two) d (at + 1 + span p) (t .1) ls may (x .0) i (t .3) (x .2) (u .1) (h .second),
+        follows-binds p (element m) (h .a) e (h .one) (h .between) (at + 1) (t .0) (t .1) mayBind n (x .0) (t .2) (x .1) (u .0) (h .first),
+        follows-binds q m (h .b) (h .between) (h .two) d (at + 1 + span p) (t .1) ls mayBind (x .0) i (t .3) (x .2) (u .1) (h .second),
       )
-  follows-binds (join p q) m v e w d at ks ls may n i f g s h =
+  follows-binds (join p q) m v e w d at ks ls mayBind n i f g s h =
       let t = both-fit (takes m 6) at ks (fits p m (at + 1)) (fits q m (at + 1 + span p)) ls f in
-      let x = then-ok (variables p may (at + 1) n) (λ k. variables q may (at + 1 + span p) k) i g in
+      let x = then-ok (variables p mayBind (at + 1) n) (λ k. variables q mayBind (at + 1 + span p) k) i g in
       let u = join-suits m v (record { first = h .a; second = h .b }) (join-member v (h .here) (h .a) (h .b) (h .divided)) s in
       omega (
         arith,
-        follows-binds p m (h .a) e (h .one) (h .between) (at + 1) (t .0) (t .1) may n (x .0) (t .2) (x .1) (u .0) (h .first),
-        follows-binds q m (h .b) (h .between) (h .two) d (at + 1 + span p) (t .1) ls may (x .0) i (t .3) (x .2) (u .1) (h .second),
+        follows-binds p m (h .a) e (h .one) (h .between) (at + 1) (t .0) (t .1) mayBind n (x .0) (t .2) (x .1) (u .0) (h .first),
+        follows-binds q m (h .b) (h .between) (h .two) d (at + 1 + span p) (t .1) ls mayBind (x .0) i (t .3) (x .2) (u .1) (h .second),
       )
-  follows-binds (tuple ps) m (int x) e w d at ks ls may n i f g s h = absurd h
-  follows-binds (tuple ps) m (collection vs) e w d at ks ls may n i f g s h = absurd h
-  follows-binds (tuple ps) m (tupled vs) e w d at ks ls may n i f g s h =
+  follows-binds (tuple ps) m (int x) e w d at ks ls mayBind n i f g s h = absurd h
+  follows-binds (tuple ps) m (collection vs) e w d at ks ls mayBind n i f g s h = absurd h
+  follows-binds (tuple ps) m (tupled vs) e w d at ks ls mayBind n i f g s h =
       let t = then-ok (demand (takes m 7 && eqb (countᵖ ps) (countᵐ (members m))) at ks) (λ x. fitsParts ps (members m) (at + 2) x) ls f in
       let b = and-split (takes m 7) (eqb (countᵖ ps) (countᵐ (members m)))
       (demand-ok (takes m 7 && eqb (countᵖ ps) (countᵐ (members m))) at ks (t .0) (t .1) .0) in
-      follows-binds-each ps (members m) vs e w d (at + 2) (t .0) ls may n i (t .2) g (eqb→eq (countᵖ ps) (countᵐ (members m)) (b .1)) (tuple-suits m vs s) h
-  follows-binds (both p q) m v e w d at ks ls may n i f g s h =
+      follows-binds-each ps (members m) vs e w d (at + 2) (t .0) ls mayBind n i (t .2) g (eqb→eq (countᵖ ps) (countᵐ (members m)) (b .1)) (tuple-suits m vs s) h
+  follows-binds (both p q) m v e w d at ks ls mayBind n i f g s h =
       let t = both-fit (takes m 8) at ks (fits p m (at + 1)) (fits q m (at + 1 + span p)) ls f in
-      let x = then-ok (variables p may (at + 1) n) (λ k. variables q may (at + 1 + span p) k) i g in
+      let x = then-ok (variables p mayBind (at + 1) n) (λ k. variables q mayBind (at + 1 + span p) k) i g in
       omega (
         arith,
-        follows-binds p m v e (h .one) (h .between) (at + 1) (t .0) (t .1) may n (x .0) (t .2) (x .1) s (h .first),
-        follows-binds q m v (h .between) (h .two) d (at + 1 + span p) (t .1) ls may (x .0) i (t .3) (x .2) s (h .others),
+        follows-binds p m v e (h .one) (h .between) (at + 1) (t .0) (t .1) mayBind n (x .0) (t .2) (x .1) s (h .first),
+        follows-binds q m v (h .between) (h .two) d (at + 1 + span p) (t .1) ls mayBind (x .0) i (t .3) (x .2) s (h .others),
       )
-  follows-binds (either p q) m v e w d at ks ls may n i f g s (inl h) =
+  follows-binds (either p q) m v e w d at ks ls mayBind n i f g s (inl h) =
       let t = both-fit (takes m 9) at ks (fits p m (at + 1)) (fits q m (at + 1 + span p)) ls f in
       let x = then-ok (variables p false (at + 1) n) (λ k. variables q false (at + 1 + span p) k) i g in
       omega (arith, none-inside p (at + 1) n (x .0) (x .1), none-inside q (at + 1 + span p) (x .0) i (x .2), follows-binds p m v e (h .rest) d (at + 1) (t .0) (t .1) false n (x .0) (t .2) (x .1) s (h .inside))
-  follows-binds (either p q) m v e w d at ks ls may n i f g s (inr h) =
+  follows-binds (either p q) m v e w d at ks ls mayBind n i f g s (inr h) =
       let t = both-fit (takes m 9) at ks (fits p m (at + 1)) (fits q m (at + 1 + span p)) ls f in
       let x = then-ok (variables p false (at + 1) n) (λ k. variables q false (at + 1 + span p) k) i g in
       omega (arith, none-inside p (at + 1) n (x .0) (x .1), none-inside q (at + 1 + span p) (x .0) i (x .2), follows-binds q m v e (h .rest) d (at + 1 + span p) (t .1) ls false (x .0) i (t .3) (x .2) s (h .inside))
-  follows-binds (never p) m v e w d at ks ls may n i f g s h = omega (arith, ap length (h .2), none-inside p (at + 1) n i g)
+  follows-binds (never p) m v e w d at ks ls mayBind n i f g s h = omega (arith, ap length (h .2), none-inside p (at + 1) n i g)
 
-  follows-binds-each : (ps : Patterns) (ms : Matchers) (vs : Values) (e : Bindings) (w : Way) (d : Bindings) (at : ℕ) (ks ls : List Matcher) (may : Bool) (n i : ℕ)
-      → fitsParts ps ms at ks ≡ ok ls → variablesAll ps may at n ≡ ok i → countᵖ ps ≡ countᵐ ms → SuitsEach ms vs → FollowsAll ps ms vs e w d
+  follows-binds-each : (ps : Patterns) (ms : Matchers) (vs : Values) (e : Bindings) (w : Way) (d : Bindings) (at : ℕ) (ks ls : List Matcher) (mayBind : Bool) (n i : ℕ)
+      → fitsParts ps ms at ks ≡ ok ls → variablesAll ps mayBind at n ≡ ok i → countᵖ ps ≡ countᵐ ms → SuitsEach ms vs → FollowsAll ps ms vs e w d
       → length d ≡ length e + variableTagsAll ps
-  follows-binds-each noPatterns ms vs e w d at ks ls may n i f g c s h = ap length (h .1) ∙ omega arith
-  follows-binds-each (p ▸ᵖ ps) noMatchers vs e w d at ks ls may n i f g c s h = omega arith
-  follows-binds-each (p ▸ᵖ ps) (m ▸ᵐ ms) empty e w d at ks ls may n i f g c s h = absurd s
-  follows-binds-each (p ▸ᵖ ps) (m ▸ᵐ ms) (v ▸ vs) e w d at ks ls may n i f g c s h =
+  follows-binds-each noPatterns ms vs e w d at ks ls mayBind n i f g c s h = ap length (h .1) ∙ omega arith
+  follows-binds-each (p ▸ᵖ ps) noMatchers vs e w d at ks ls mayBind n i f g c s h = omega arith
+  follows-binds-each (p ▸ᵖ ps) (m ▸ᵐ ms) empty e w d at ks ls mayBind n i f g c s h = absurd s
+  follows-binds-each (p ▸ᵖ ps) (m ▸ᵐ ms) (v ▸ vs) e w d at ks ls mayBind n i f g c s h =
       let t = then-ok (fits p m at ks) (λ x. fitsParts ps ms (at + span p) x) ls f in
-      let x = then-ok (variables p may at n) (λ k. variablesAll ps may (at + span p) k) i g in
+      let x = then-ok (variables p mayBind at n) (λ k. variablesAll ps mayBind (at + span p) k) i g in
       omega (
         arith,
-        follows-binds p m v e (h .one) (h .between) at ks (t .0) may n (x .0) (t .1) (x .1) (s .0) (h .first),
-        follows-binds-each ps ms vs (h .between) (h .two) d (at + span p) (t .0) ls may (x .0) i (t .2) (x .2) (omega arith) (s .1) (h .others),
+        follows-binds p m v e (h .one) (h .between) at ks (t .0) mayBind n (x .0) (t .1) (x .1) (s .0) (h .first),
+        follows-binds-each ps ms vs (h .between) (h .two) d (at + span p) (t .0) ls mayBind (x .0) i (t .2) (x .2) (omega arith) (s .1) (h .others),
       )
 
 -- ---- At most n more words for each variable, where the value has at most n.
@@ -182,9 +182,9 @@ row-words m p v e i =
     (rw zero-add at (follows-row p m v [] (r .0 .way) (r .0 .bound) (size v) (sound p m v [] (r .0) (r .1)) (le-refl (size v))))
 
 -- All rows of the search.
-pub rows-words : (most : ℕ) (m : Matcher) (p : Pattern) (v : Value) → Fine most m v
-    → length (rowsOf (trace (start m p v ∷ []))) ≤ factor most p m * (variableTags p * size v)
+pub rows-words : (cap : ℕ) (m : Matcher) (p : Pattern) (v : Value) → Fine cap m v
+    → length (rowsOf (trace (start m p v ∷ []))) ≤ factor cap p m * (variableTags p * size v)
 unfolding rowsOf
-rows-words most m p v s = rw (founds-start m p v)
+rows-words cap m p v s = rw (founds-start m p v)
     (le-trans (length-flatMap-le row (variableTags p * size v) (map (λ (t : Solution). t .bound) (solve p m v [])) (row-words m p v))
-    (simp length-map (mul-le-mul-right (variableTags p * size v) (rows-bound most p m v [] s))))
+    (simp length-map (mul-le-mul-right (variableTags p * size v) (rows-bound cap p m v [] s))))

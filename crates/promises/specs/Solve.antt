@@ -11,8 +11,8 @@ use Rattle.rules.specs.Fit.{element, members, isSomething}
 use Rattle.rules.specs.Equality.{Bindings, isConstant, isValue, isEmpty}
 use Rattle.rules.specs.Search.{Halves, consHalves, joinHalves, start}
 use Rattle.rules.specs.Ways.{Way}
-use Rattle.rules.specs.Following.{Solution, Numbered, up, numbered, isMultiset, mark, extend, chain, onSide, combine, just, whenSo, none, ofParts, solve, solveEach}
-use Rattle.rules.specs.Lists.{flatMap-append, flatMap-map, flatMap-flatMap, flatMap-cong}
+use Rattle.rules.specs.Following.{Solution, Numbered, up, numbered, isMultiset, mark, extend, chain, onSide, combine, just, whenSo, noSolution, ofParts, solve, solveEach}
+use Rattle.forms.specs.Lists.{flatMap-append, flatMap-map, flatMap-flatMap, flatMap-cong}
 use Rattle.promises.specs.Trace.{Taken, passed, found, Met, taken, ended, pass, onlyIf, inside, visit, visitEach, met, close, trace}
 
 -- The bindings of the states with no atom left.
@@ -109,8 +109,8 @@ sides ss ts k = flatMap-append (λ s. k (s .bound)) (map (onSide 0) ss) (map (on
 
 -- A not, by the solutions inside it.
 nothing : (ms : List Met) (ss : List Solution) (e : Bindings) (k : Bindings → List Met) → stops ms ≡ flatMap (λ s. ended ∷ []) ss
-    → stops (inside ms (k e)) ≡ flatMap (λ s. stops (k (s .bound))) (whenSo (none ss) e)
-unfolding none whenSo just flatMap
+    → stops (inside ms (k e)) ≡ flatMap (λ s. stops (k (s .bound))) (whenSo (noSolution ss) e)
+unfolding noSolution whenSo just flatMap
 nothing ms [] e k h = inside-none ms (k e) h ∙ sym (append-nil (stops (k e)))
 nothing ms (s ∷ ss) e k h = inside-ended ms (k e) _ h
 

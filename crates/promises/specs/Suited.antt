@@ -12,9 +12,9 @@ use Rattle.rules.specs.Variables.{demand}
 use Rattle.rules.specs.Fit.{element, members, fitsAll, fitsValue, fitsEach}
 use Rattle.rules.specs.Equality.{picks}
 use Rattle.rules.specs.Search.{cuts, Halves, consHalves, joinHalves}
-use Rattle.rules.specs.Lists.{Mem}
-use Rattle.promises.specs.Readers.{then-ok}
-use Rattle.promises.specs.Numbering.{demand-ok}
+use Rattle.forms.specs.Lists.{Mem}
+use Rattle.forms.specs.Readers.{then-ok}
+use Rattle.forms.specs.Numbering.{demand-ok}
 use Rattle.promises.specs.Parts.{Among, none, kept, left, pick-among, cut-among}
 
 -- P holds of every element.

@@ -11,7 +11,7 @@ use Rattle.rules.specs.Forms.{Pattern, wildcard, nil, variable, constant, value
 use Rattle.rules.specs.Forms.{Value, int, collection, tupled, Values, empty, _▸_}
 use Rattle.rules.specs.Fit.{element, members, isSomething}
 use Rattle.rules.specs.Equality.{Bindings, isConstant, isValue, isEmpty}
-use Rattle.rules.specs.Search.{Halves, consHalves, joinHalves, Atom, atom, cut, State, state, dropIf, atoms, apart, after, cutBack}
+use Rattle.rules.specs.Search.{Halves, consHalves, joinHalves, Atom, atom, endOfNot, State, state, dropIf, atoms, apart, after, leaveNot}
 use Rattle.rules.specs.Search.{row, Run, stopped, step, rowStep, run}
 use Rattle.rules.specs.Following.{ofParts}
 
@@ -65,7 +65,7 @@ unfoldable mutual
 unfoldable pub visitAll : List Atom → Bindings → List Met
 unfolding visit
 visitAll [] e = taken (found e) ∷ []
-visitAll (cut ∷ older) e = ended ∷ []
+visitAll (endOfNot ∷ older) e = ended ∷ []
 visitAll (atom p m v ∷ older) e = visit p m v e (λ d. visitAll older d)
 
 -- What comes from one more waiting state. A marked one waits behind the search inside a not.
@@ -121,8 +121,8 @@ met-first false as′ e ss = refl
 met-first true as′ e ss = refl
 
 -- The end of a search inside a not: what waits up to the marked state is not met.
-met-ended : (ms : List Met) (ss : List State) → close (met (ended ∷ ms) ss) ≡ passed ∷ close (met [] (cutBack ss))
-unfolding met close cutBack
+met-ended : (ms : List Met) (ss : List State) → close (met (ended ∷ ms) ss) ≡ passed ∷ close (met [] (leaveNot ss))
+unfolding met close leaveNot
 met-ended ms [] = refl
 met-ended ms (state false as′ e ∷ ss) = met-ended (ms ++ visitAll as′ e) ss
 met-ended ms (state true as′ e ∷ ss) = ap close (met-cons passed [] ss)
@@ -194,9 +194,9 @@ module _ (g : Bool) (e : Bindings) (ss : List State) where
   unfolding trace visitAll
   trace-found = ap close (met-first g [] e ss ∙ met-cons (found e) [] ss)
 
-  trace-cut : (older : List Atom) → trace (state g (cut ∷ older) e ∷ ss) ≡ passed ∷ trace (cutBack ss)
+  trace-cut : (older : List Atom) → trace (state g (endOfNot ∷ older) e ∷ ss) ≡ passed ∷ trace (leaveNot ss)
   unfolding trace visitAll
-  trace-cut older = ap close (met-first g (cut ∷ older) e ss) ∙ met-ended [] ss
+  trace-cut older = ap close (met-first g (endOfNot ∷ older) e ss) ∙ met-ended [] ss
 
   trace-atom : (p : Pattern) (m : Matcher) (v : Value) (older : List Atom)
       → trace (state g (atom p m v ∷ older) e ∷ ss) ≡ passed ∷ trace (after p m v older e ++ ss)
@@ -210,21 +210,21 @@ pub run-walks : (n : ℕ) (ss : List State) (free : ℕ) → run n ss free ≡ w
 unfolding run walk
 run-walks zero [] free = rw trace-none
 run-walks zero (state g [] e ∷ ss) free = rw (trace-found g e ss)
-run-walks zero (state g (cut ∷ older) e ∷ ss) free = rw (trace-cut g e ss older)
+run-walks zero (state g (endOfNot ∷ older) e ∷ ss) free = rw (trace-cut g e ss older)
 run-walks zero (state g (atom p m v ∷ older) e ∷ ss) free = rw (trace-atom g e ss p m v older)
 run-walks (suc n) [] free = rw trace-none
 run-walks (suc n) (state g [] e ∷ ss) free = rw (trace-found g e ss)
     (ap (λ z. elim (leb (length (row e)) free) as (λ _. Run) [ true ↦ rowStep (row e) z | false ↦ stopped 8 1 ]) (run-walks n ss (free - length (row e))))
-run-walks (suc n) (state g (cut ∷ older) e ∷ ss) free = rw (trace-cut g e ss older) (ap step (run-walks n (cutBack ss) free))
+run-walks (suc n) (state g (endOfNot ∷ older) e ∷ ss) free = rw (trace-cut g e ss older) (ap step (run-walks n (leaveNot ss) free))
 run-walks (suc n) (state g (atom p m v ∷ older) e ∷ ss) free = rw (trace-atom g e ss p m v older) (ap step (run-walks n (after p m v older e ++ ss) free))
 
 -- ---- The same list by section 4's own words: the first of the waiting states is taken up, and what follows it comes before any older one.
 
 -- What waits after a state is taken up: those that follow it, and then the older ones. At the end of a search inside a not what is left of it is dropped.
 unfoldable pub following : State → (waiting : List State) → List State
-unfolding after cutBack
+unfolding after leaveNot
 following (state g [] e) ss = ss
-following (state g (cut ∷ older) e) ss = cutBack ss
+following (state g (endOfNot ∷ older) e) ss = leaveNot ss
 following (state g (atom p m v ∷ older) e) ss = after p m v older e ++ ss
 
 -- The first n states that are taken up.
@@ -243,6 +243,6 @@ unfolding order seen
 trace-order zero ss = refl
 trace-order (suc n) [] = rw trace-none
 trace-order (suc n) (state g [] e ∷ ss) = rw (trace-found g e ss) (ap {B = List Taken} (λ r. found e ∷ r) (trace-order n ss))
-trace-order (suc n) (state g (cut ∷ older) e ∷ ss) = rw (trace-cut g e ss older) (ap {B = List Taken} (λ r. passed ∷ r) (trace-order n (cutBack ss)))
+trace-order (suc n) (state g (endOfNot ∷ older) e ∷ ss) = rw (trace-cut g e ss older) (ap {B = List Taken} (λ r. passed ∷ r) (trace-order n (leaveNot ss)))
 trace-order (suc n) (state g (atom p m v ∷ older) e ∷ ss) =
     rw (trace-atom g e ss p m v older) (ap {B = List Taken} (λ r. passed ∷ r) (trace-order n (after p m v older e ++ ss)))

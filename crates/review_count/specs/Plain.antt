@@ -14,7 +14,7 @@ use Rattle.rules.specs.Forms.{Matcher, tupleOf, Matchers, _▸ᵐ_, tuple, Patt
 use Rattle.rules.specs.Fit.{isSomething, element, members}
 use Rattle.rules.specs.Always.{tags, tagsAll, noneFails, alwaysTrue}
 use Rattle.rules.specs.Services.{accepted, Rule, ruleOf}
-use Rattle.promises.specs.Faults.{WellFormed, rule-accepted}
+use Rattle.forms.specs.Faults.{WellFormed, rule-accepted}
 use Rattle.words.specs.Words.{entries}
 use Rattle.program_rules.specs.Points.{Test, asConstant, asValue, asNil, tested, testBy, Kind, listCons, multisetCons, joins, whole, over, firstBy, loose-wildcard, loose-variable}
 use Rattle.program_rules.specs.Points.{Instr, strip, keep, other, close, drop, bind, test, split, apart, choice, deny, cutAt, end, Item, item, orElse, endOr, stop}

@@ -6,20 +6,21 @@ use mathlib.Core.List.{List, [], _∷_}
 use lib.ListN.{length}
 use lib.Dec.{leb}
 use lib.IntN.{ℤ}
+use Rattle.rules.specs.Limits.{targetWordsLimit, targetLevels}
 use Rattle.rules.specs.Reading.{entry, width, atMost64}
 
 -- "1 over length, 2 unknown tag, 3 count out of range, 4 too deep, 5 cut short, 6 left over; with No. 1, 7 for a tuple's width."
 pub data Cause : Type 0 where
   overLength unknownTag badCount tooDeep cutShort leftOver badWidth : Cause
 
-unfoldable pub numbered : Cause → ℕ
-numbered overLength = 1
-numbered unknownTag = 2
-numbered badCount = 3
-numbered tooDeep = 4
-numbered cutShort = 5
-numbered leftOver = 6
-numbered badWidth = 7
+unfoldable pub causeNumber : Cause → ℕ
+causeNumber overLength = 1
+causeNumber unknownTag = 2
+causeNumber badCount = 3
+causeNumber tooDeep = 4
+causeNumber cutShort = 5
+causeNumber leftOver = 6
+causeNumber badWidth = 7
 
 -- What a look from the left finds: nothing wrong so far, and the words after it; or the cause of the first fault.
 pub data Look : Type 0 where
@@ -77,13 +78,13 @@ value (suc depth) ws = see unknownTag (entry kinds) (opened λ us. value depth u
 
 -- One value and no more: a word after it is left over, whatever it is.
 unfoldable pub told : Look → ℕ
-unfolding numbered
+unfolding causeNumber
 told (well []) = 0
-told (well (w ∷ ws)) = numbered leftOver
-told (wrong c) = numbered c
+told (well (w ∷ ws)) = causeNumber leftOver
+told (wrong c) = causeNumber c
 
 -- 0 where the words are one whole target. "When two causes stand at one word the lower number is given": so it is where the words are over length,
 -- "before any other look"; at every other word at most one cause stands.
 unfoldable pub causeOf : List ℤ → ℕ
-unfolding numbered value told
-causeOf ts = elim (leb (length ts) 1024) [ true ↦ told (value 8 ts) | false ↦ numbered overLength ]
+unfolding causeNumber value told
+causeOf ts = elim (leb (length ts) targetWordsLimit) [ true ↦ told (value targetLevels ts) | false ↦ causeNumber overLength ]

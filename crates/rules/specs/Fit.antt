@@ -53,16 +53,16 @@ members (tupleOf ms) = ms
 
 -- Something does not occur in it.
 unfoldable mutual
-  pub solid : Matcher → Bool
-  solid something = false
-  solid integer = true
-  solid (list m) = solid m
-  solid (multiset m) = solid m
-  solid (tupleOf ms) = solidAll ms
+  pub withoutSomething : Matcher → Bool
+  withoutSomething something = false
+  withoutSomething integer = true
+  withoutSomething (list m) = withoutSomething m
+  withoutSomething (multiset m) = withoutSomething m
+  withoutSomething (tupleOf ms) = allWithoutSomething ms
 
-  pub solidAll : Matchers → Bool
-  solidAll noMatchers = true
-  solidAll (m ▸ᵐ ms) = solid m && solidAll ms
+  pub allWithoutSomething : Matchers → Bool
+  allWithoutSomething noMatchers = true
+  allWithoutSomething (m ▸ᵐ ms) = withoutSomething m && allWithoutSomething ms
 
 unfoldable pub isInteger : Matcher → Bool
 isInteger something = false
@@ -119,8 +119,8 @@ alike m (some k) = sameShape m k
 -- "A tag 3 needs a matcher in which something does not occur", it "may name a variable bound under another matcher of the same shape", "and c must
 -- be 0 unless the matcher is integer." `ms` are the matchers of the variables to the left, in number order.
 unfoldable pub comparable : ℤ → ℤ → Matcher → List Matcher → Bool
-unfolding solid alike entry isInteger same
-comparable v c m ms = solid m && alike m (entry ms v) && (isInteger m || same c (pos 0))
+unfolding withoutSomething alike entry isInteger same
+comparable v c m ms = withoutSomething m && alike m (entry ms v) && (isInteger m || same c (pos 0))
 
 -- What is found are the matchers of the variables that stand to the left of what follows. "Unequal widths are 4", at the tag.
 unfoldable mutual

@@ -66,9 +66,9 @@ whenSo true e = just e
 whenSo false e = []
 
 -- No solution.
-unfoldable pub none : List Solution → Bool
-none [] = true
-none (s ∷ ss) = false
+unfoldable pub noSolution : List Solution → Bool
+noSolution [] = true
+noSolution (s ∷ ss) = false
 
 -- What the parts of a tuple give; of another value there are none.
 unfoldable pub ofParts : {A : Type 0} → (Values → List A) → Value → List A
@@ -77,7 +77,7 @@ ofParts f (collection vs) = []
 ofParts f (tupled vs) = f vs
 
 unfoldable mutual
-  unfolding just whenSo none combine chain onSide isConstant isValue isEmpty consHalves joinHalves element members isMultiset ofParts
+  unfolding just whenSo noSolution combine chain onSide isConstant isValue isEmpty consHalves joinHalves element members isMultiset ofParts
 
   pub solve : Pattern → Matcher → Value → Bindings → List Solution
   solve wildcard m v e = just e
@@ -90,7 +90,7 @@ unfoldable mutual
   solve (tuple ps) m v e = ofParts (λ vs. solveEach ps (members m) vs e) v
   solve (both p q) m v e = chain [] (solve p m v e) (λ d. solve q m v d)
   solve (either p q) m v e = map (onSide 0) (solve p m v e) ++ map (onSide 1) (solve q m v e)
-  solve (never p) m v e = whenSo (none (solve p m v e)) e
+  solve (never p) m v e = whenSo (noSolution (solve p m v e)) e
 
   -- A tuple's parts: each part, and then the others.
   pub solveEach : Patterns → Matchers → Values → Bindings → List Solution

@@ -1,4 +1,5 @@
 -- The rules of document 01, with the requests of document 02 that have landed, as definitions, to be read in this order.
+pub mod Limits
 pub mod Numbers
 pub mod Forms
 pub mod Reading
@@ -9,9 +10,6 @@ pub mod Equality
 pub mod Search
 pub mod Ways
 pub mod Following
-pub mod Lists
-pub mod Choices
-pub mod Twin
 pub mod Review
 pub mod Always
 pub mod Services
@@ -22,4 +20,5 @@ pub mod WorkedSums
 pub mod WorkedChoices
 pub mod WorkedAlways
 pub mod WorkedCauses
+pub mod WorkedClauses
 pub mod Refusals

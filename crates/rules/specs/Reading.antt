@@ -7,6 +7,7 @@ use lib.ListN.{length, getElem?}
 use mathlib.Core.Bool.{_&&_}
 use lib.Dec.{leb}
 use lib.IntN.{ℤ, pos, negsuc}
+use Rattle.rules.specs.Limits.{matcherWordsLimit, patternWordsLimit, targetWordsLimit, matcherLevels, targetLevels, elementsLimit, leastWidth, largestWidth}
 use Rattle.rules.specs.Forms.{Matcher, something, integer, list, multiset, tupleOf, Matchers, noMatchers, _▸ᵐ_}
 use Rattle.rules.specs.Forms.{Pattern, wildcard, variable, constant, value, nil, cons, join, tuple, both, either, never, Patterns, noPatterns, _▸ᵖ_}
 use Rattle.rules.specs.Forms.{Value, int, collection, tupled, Values, empty, _▸_}
@@ -67,7 +68,7 @@ whole r ws = r 0 ws then ended
 
 -- A slice over its limit is at fault there, "before any other look".
 unfoldable pub limited : {A : Type 0} → ℕ → (List ℤ → Verdict A) → List ℤ → Verdict A
-limited most r ws = elim (leb (length ws) most) [ true ↦ r ws | false ↦ fault most ]
+limited limit r ws = elim (leb (length ws) limit) [ true ↦ r ws | false ↦ fault limit ]
 
 -- n forms, one after the other, gathered from the right.
 unfoldable pub times : {A As : Type 0} → As → (A → As → As) → Reader A → ℕ → Reader As
@@ -77,7 +78,7 @@ times none′ more part (suc n) at ws = (part >>= λ a. (λ i us. times none′ 
 
 -- A tuple's width: "k from 2 to 4".
 unfoldable pub width : ℤ → Option ℕ
-width (pos n) = elim (leb 2 n && leb n 4) [ true ↦ some n | false ↦ none ]
+width (pos n) = elim (leb leastWidth n && leb n largestWidth) [ true ↦ some n | false ↦ none ]
 width (negsuc n) = none
 
 -- ---- Matcher, at most 64 words: 0 something; 1 integer; 2 M list of M; 3 M multiset of M; 4 k and k matchers, a tuple.
@@ -113,7 +114,7 @@ matcher (suc left) at ws = (known (entry (matcherTags (suc left))) >>= matcherPa
 -- Four levels along each path.
 unfoldable pub readMatcher : List ℤ → Verdict Matcher
 unfolding matcher whole limited
-readMatcher = limited 64 (whole (matcher 4))
+readMatcher = limited matcherWordsLimit (whole (matcher matcherLevels))
 
 -- ---- Pattern, at most 256 words. A tag has no operand, one or two; or one part or two; or a width and so many parts.
 
@@ -157,7 +158,7 @@ pattern (suc depth) at ws = (known (entry patternTags) >>= patternParts (λ i us
 
 unfoldable pub readPattern : List ℤ → Verdict Pattern
 unfolding pattern whole limited
-readPattern = limited 256 (whole (pattern 256))
+readPattern = limited patternWordsLimit (whole (pattern patternWordsLimit))
 
 -- ---- Target, at most 1,024 words: 0 x is the integer x; 1 n and then n values is a collection; 2 k and then k values is a tuple.
 
@@ -167,7 +168,7 @@ pub data TargetTag : Type 0 where
 
 -- "A collection has at most 64 elements."
 unfoldable pub atMost64 : ℤ → Option ℕ
-atMost64 (pos n) = elim (leb n 64) [ true ↦ some n | false ↦ none ]
+atMost64 (pos n) = elim (leb n elementsLimit) [ true ↦ some n | false ↦ none ]
 atMost64 (negsuc n) = none
 
 -- `depth` collections or tuples may still stand one inside the other; with none left the table ends before them, so that one is a fault at its own
@@ -194,4 +195,4 @@ target (suc depth) at ws = (known (entry (targetTags (suc depth))) >>= targetPar
 -- Eight levels along each path.
 unfoldable pub readTarget : List ℤ → Verdict Value
 unfolding target whole limited
-readTarget = limited 1024 (whole (target 8))
+readTarget = limited targetWordsLimit (whole (target targetLevels))

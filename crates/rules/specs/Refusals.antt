@@ -18,8 +18,8 @@ spoilt t i c = matching (nums (0 ∷ [])) (nums (0 ∷ [])) t 100000 3 ⇒ (5 �
 abbrev passes : (matcher pattern target : List ℤ) (rows steps : ℕ) → Case
 passes m p t n k = matching m p t 100000 3 ⇒ (0 ∷ 0 ∷ n ∷ k ∷ 0 ∷ 0 ∷ []) writing []
 
-abbrev declines : (matcher pattern : List ℤ) (most : ℤ) (answer place : ℕ) → Case
-declines m p most a i = reviewing m p most ⇒ (a ∷ i ∷ 0 ∷ []) writing []
+abbrev declines : (matcher pattern : List ℤ) (cap : ℤ) (answer place : ℕ) → Case
+declines m p cap a i = reviewing m p cap ⇒ (a ∷ i ∷ 0 ∷ []) writing []
 
 -- n times cons over a wildcard, with a wildcard rest: 2 n + 1 words.
 abbrev chain : ℕ → List ℤ
@@ -132,18 +132,26 @@ table =
     -- 4 misfit
     ∷ refuses something (nums (2 ∷ 7 ∷ [])) none 4 0
     ∷ refuses something (nums (4 ∷ [])) none 4 0
+    ∷ refuses something (nums (5 ∷ 0 ∷ 0 ∷ [])) none 4 0
     ∷ refuses integer (nums (4 ∷ [])) none 4 0
     ∷ refuses integer (nums (5 ∷ 0 ∷ 0 ∷ [])) none 4 0
     ∷ refuses listInteger (nums (2 ∷ 7 ∷ [])) none 4 0
+    ∷ refuses multisetInteger (nums (2 ∷ 7 ∷ [])) none 4 0
     ∷ refuses multisetInteger (nums (6 ∷ 0 ∷ 0 ∷ [])) none 4 0  -- join under a multiset
     ∷ refuses listInteger (nums (6 ∷ 0 ∷ 5 ∷ 4 ∷ 0 ∷ [])) none 4 3  -- nil under integer
     ∷ refuses listInteger (nums (6 ∷ 1 ∷ 0 ∷ 3 ∷ 0 ∷ 1 ∷ [])) none 4 3  -- c is not 0 at a list
+    ∷ refuses (nums (4 ∷ 2 ∷ 3 ∷ 1 ∷ 3 ∷ 1 ∷ [])) (nums (7 ∷ 2 ∷ 1 ∷ 0 ∷ 3 ∷ 0 ∷ 1 ∷ [])) none 4 4  -- at a multiset
+    ∷ refuses (nums (4 ∷ 2 ∷ 4 ∷ 2 ∷ 1 ∷ 1 ∷ 4 ∷ 2 ∷ 1 ∷ 1 ∷ [])) (nums (7 ∷ 2 ∷ 1 ∷ 0 ∷ 3 ∷ 0 ∷ 1 ∷ [])) none 4 4  -- at a tuple
     ∷ refuses (nums (2 ∷ 0 ∷ [])) (nums (6 ∷ 1 ∷ 0 ∷ 3 ∷ 0 ∷ 0 ∷ [])) none 4 3  -- something occurs
+    ∷ refuses (nums (2 ∷ 4 ∷ 2 ∷ 1 ∷ 0 ∷ [])) (nums (6 ∷ 1 ∷ 0 ∷ 3 ∷ 0 ∷ 0 ∷ [])) none 4 3  -- inside a tuple
     ∷ refuses listInteger (nums (5 ∷ 1 ∷ 0 ∷ 3 ∷ 0 ∷ 0 ∷ [])) none 4 3  -- the variable stands under a matcher of another shape
     ∷ refuses (nums (4 ∷ 2 ∷ 2 ∷ 0 ∷ 2 ∷ 1 ∷ [])) (nums (7 ∷ 2 ∷ 1 ∷ 0 ∷ 3 ∷ 0 ∷ 0 ∷ [])) none 4 4  -- something is a shape of its own
+    ∷ refuses (nums (4 ∷ 2 ∷ 4 ∷ 2 ∷ 1 ∷ 1 ∷ 4 ∷ 2 ∷ 1 ∷ 2 ∷ 1 ∷ [])) (nums (7 ∷ 2 ∷ 1 ∷ 0 ∷ 3 ∷ 0 ∷ 0 ∷ [])) none 4 4  -- so is each part of a tuple
     ∷ refuses pair (nums (7 ∷ 3 ∷ 0 ∷ 0 ∷ 0 ∷ [])) none 4 0  -- unequal widths
     ∷ refuses integer (nums (7 ∷ 2 ∷ 0 ∷ 0 ∷ [])) none 4 0
     ∷ refuses pair (nums (5 ∷ 0 ∷ 0 ∷ [])) none 4 0
+    ∷ refuses pair (nums (2 ∷ 7 ∷ [])) none 4 0
+    ∷ refuses pair (nums (4 ∷ [])) none 4 0
     ∷ refuses pair (nums (7 ∷ 2 ∷ 0 ∷ 4 ∷ [])) none 4 3
     ∷ refuses integer (nums (8 ∷ 0 ∷ 4 ∷ [])) none 4 2  -- inside and, or, not
     ∷ refuses integer (nums (9 ∷ 4 ∷ 0 ∷ [])) none 4 1
@@ -173,10 +181,13 @@ table =
     ∷ spoilt (replicate 1025 (pos 9)) 1024 1  -- 1,025 words, before any other look
     -- 6 unfit
     ∷ refuses integer wildcard (braces []) 6 0
+    ∷ refuses integer wildcard (nums (2 ∷ 2 ∷ 0 ∷ 1 ∷ 0 ∷ 1 ∷ [])) 6 0
     ∷ refuses multisetInteger wildcard (nums (0 ∷ 7 ∷ [])) 6 0
     ∷ refuses listInteger wildcard (nums (1 ∷ 2 ∷ 0 ∷ 7 ∷ 1 ∷ 0 ∷ [])) 6 4
     ∷ refuses pair wildcard (nums (2 ∷ 3 ∷ 0 ∷ 1 ∷ 0 ∷ 2 ∷ 0 ∷ 3 ∷ [])) 6 0  -- unequal widths
     ∷ refuses pair wildcard (braces []) 6 0
+    ∷ refuses pair wildcard (braces (nums (1 ∷ 1 ∷ []))) 6 0
+    ∷ refuses (nums (4 ∷ 3 ∷ 1 ∷ 1 ∷ 1 ∷ [])) wildcard (nums (2 ∷ 3 ∷ 0 ∷ 1 ∷ 0 ∷ 1 ∷ 1 ∷ 0 ∷ [])) 6 6
     ∷ refuses pair wildcard (nums (2 ∷ 2 ∷ 0 ∷ 1 ∷ 1 ∷ 0 ∷ [])) 6 4
     ∷ refuses listInteger wildcard (nums (2 ∷ 2 ∷ 0 ∷ 1 ∷ 0 ∷ 2 ∷ [])) 6 0
     ∷ refuses (nums (3 ∷ 2 ∷ 1 ∷ [])) wildcard (nums (1 ∷ 2 ∷ 1 ∷ 1 ∷ 0 ∷ 5 ∷ 0 ∷ 7 ∷ [])) 6 6

@@ -53,10 +53,10 @@ joinHalves (tupled vs) = []
 
 -- ---- States.
 
--- `cut` stands at the end of the atoms of a search inside a not: where it is reached, that search has found its row.
+-- `endOfNot` stands at the end of the atoms of a search inside a not: where it is reached, that search has found its row.
 pub data Atom : Type 0 where
   atom : Pattern → Matcher → Value → Atom
-  cut : Atom
+  endOfNot : Atom
 
 -- "A state is a list of atoms (pattern, matcher, value) and the bindings so far." The mark `true` is on the state that follows a not: it waits behind
 -- the states of the search inside that not.
@@ -103,13 +103,13 @@ after (join p q) m v older e = map (λ h. state false (atom p m (h .first) ∷ a
 after (tuple ps) m v older e = apart ps (members m) v older e
 after (both p q) m v older e = state false (atom p m v ∷ atom q m v ∷ older) e ∷ []
 after (either p q) m v older e = state false (atom p m v ∷ older) e ∷ state false (atom q m v ∷ older) e ∷ []
-after (never p) m v older e = state false (atom p m v ∷ cut ∷ []) e ∷ state true older e ∷ []
+after (never p) m v older e = state false (atom p m v ∷ endOfNot ∷ []) e ∷ state true older e ∷ []
 
 -- The search inside a not "ends at its first row": what waits of it is dropped, and with it the state that would have followed the not.
-unfoldable pub cutBack : List State → List State
-cutBack [] = []
-cutBack (state true as′ e ∷ ss) = ss
-cutBack (state false as′ e ∷ ss) = cutBack ss
+unfoldable pub leaveNot : List State → List State
+leaveNot [] = []
+leaveNot (state true as′ e ∷ ss) = ss
+leaveNot (state false as′ e ∷ ss) = leaveNot ss
 
 -- "The first state has one atom."
 unfoldable pub start : Matcher → Pattern → Value → State
@@ -145,7 +145,7 @@ rowStep ws r = record { answer = r .answer; rows = suc (r .rows); steps = suc (r
 -- of the state just taken up does not fit; it "is not begun; its state counts as a step". The states of a search inside a not "count as steps of the
 -- run, with the budget falling through it"; the row that it finds is not written.
 unfoldable pub run : (budget : ℕ) → List State → (free : ℕ) → Run
-unfolding stopped step rowStep row after cutBack
+unfolding stopped step rowStep row after leaveNot
 run zero [] free = stopped 0 0
 run zero (s ∷ ss) free = stopped 7 0
 run (suc n) [] free = stopped 0 0
@@ -153,5 +153,5 @@ run (suc n) (state g [] e ∷ ss) free = elim (leb (length (row e)) free) [
   | true ↦ rowStep (row e) (run n ss (free - length (row e)))
   | false ↦ stopped 8 1
 ]
-run (suc n) (state g (cut ∷ older) e ∷ ss) free = step (run n (cutBack ss) free)
+run (suc n) (state g (endOfNot ∷ older) e ∷ ss) free = step (run n (leaveNot ss) free)
 run (suc n) (state g (atom p m v ∷ older) e ∷ ss) free = step (run n (after p m v older e ++ ss) free)

@@ -1,10 +1,11 @@
 -- Document 01, sections 1 and 3: the two services as functions of their whole input, the answers and their order.
-use Prim.Native.Nat.{ℕ, _^_}
+use Prim.Native.Nat.{ℕ}
 use mathlib.Core.Bool.{true, false, cond}
 use mathlib.Core.List.{List, [], _∷_, _++_}
 use lib.ListN.{length, drop}
 use lib.Dec.{leb, ltb, eqb}
 use lib.IntN.{ℤ, pos, negsuc}
+use Rattle.rules.specs.Limits.{capLimit, tooBig}
 use Rattle.rules.specs.Forms.{Matcher, Pattern, Value}
 use Rattle.rules.specs.Reading.{Verdict, ok, fault, readMatcher, readPattern, readTarget}
 use Rattle.rules.specs.Causes.{causeOf}
@@ -105,24 +106,24 @@ declined a i = record { answer = a; place = i; count = 0 }
 -- 10 too big: the formula passes 4,294,967,295.
 unfoldable pub counted : ℕ → Reviewed
 unfolding declined
-counted n = elim (ltb n (2 ^ 32)) [ true ↦ record { answer = 0; place = 0; count = n } | false ↦ declined 10 0 ]
+counted n = elim (ltb n tooBig) [ true ↦ record { answer = 0; place = 0; count = n } | false ↦ declined 10 0 ]
 
 -- 9 cap: outside 0 to 64.
 unfoldable pub capped : ℤ → Rule → Reviewed
 unfolding declined counted formula
-capped (pos most) r = elim (leb most 64) [ true ↦ counted (formula most (r .pattern) (r .matcher)) | false ↦ declined 9 0 ]
+capped (pos cap) r = elim (leb cap capLimit) [ true ↦ counted (formula cap (r .pattern) (r .matcher)) | false ↦ declined 9 0 ]
 capped (negsuc n) r = declined 9 0
 
 -- 11 always true: "in review only, after 4 and before 9, place 0".
-unfoldable pub passable : ℤ → Rule → Reviewed
+unfoldable pub unlessAlwaysTrue : ℤ → Rule → Reviewed
 unfolding declined capped alwaysTrue
-passable most r = elim (alwaysTrue (r .pattern)) [ true ↦ declined 11 0 | false ↦ capped most r ]
+unlessAlwaysTrue cap r = elim (alwaysTrue (r .pattern)) [ true ↦ declined 11 0 | false ↦ capped cap r ]
 
 unfoldable pub reviewRule : ℤ → Judged Rule → Reviewed
-unfolding declined passable
-reviewRule most (refused a i) = declined a i
-reviewRule most (accepted r) = passable most r
+unfolding declined unlessAlwaysTrue
+reviewRule cap (refused a i) = declined a i
+reviewRule cap (accepted r) = unlessAlwaysTrue cap r
 
-unfoldable pub review : (ms ps : List ℤ) (most : ℤ) → Reviewed
+unfoldable pub review : (ms ps : List ℤ) (cap : ℤ) → Reviewed
 unfolding reviewRule ruleOf
-review ms ps most = reviewRule most (ruleOf ms ps)
+review ms ps cap = reviewRule cap (ruleOf ms ps)

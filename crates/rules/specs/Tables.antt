@@ -8,7 +8,7 @@ use Rattle.rules.specs.Services.{Matched, match, Reviewed, review}
 -- Match: matcher, pattern, target, budget and the room's size; review: matcher, pattern and cap.
 pub data Question : Type 0 where
   matching : (matcher pattern target : List ℤ) (budget room : ℕ) → Question
-  reviewing : (matcher pattern : List ℤ) (most : ℤ) → Question
+  reviewing : (matcher pattern : List ℤ) (cap : ℤ) → Question
 
 -- A line of a table.
 infix 80 _⇒_writing_
@@ -32,13 +32,13 @@ ofReview r = record { numbers = r .answer ∷ r .place ∷ r .count ∷ []; room
 unfoldable pub answered : Question → Outcome
 unfolding match review ofMatch ofReview held
 answered (matching m p t b n) = ofMatch (match m p t b (held n))
-answered (reviewing m p most) = ofReview (review m p most)
+answered (reviewing m p cap) = ofReview (review m p cap)
 
 -- The words written from the start of the room, and after them what it held.
 unfoldable pub after : List ℤ → Question → List ℤ
 unfolding held
 after ws (matching m p t b n) = ws ++ held (n - length ws)
-after ws (reviewing m p most) = []
+after ws (reviewing m p cap) = []
 
 unfoldable pub computed : Case → Outcome
 unfolding answered

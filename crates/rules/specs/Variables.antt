@@ -3,6 +3,7 @@ use Prim.Native.Nat.{ℕ, suc, _+_}
 use mathlib.Core.Bool.{Bool, true, false, _&&_}
 use lib.Dec.{ltb}
 use lib.IntN.{ℤ, pos, negsuc}
+use Rattle.rules.specs.Limits.{variablesLimit}
 use Rattle.rules.specs.Numbers.{same}
 use Rattle.rules.specs.Forms.{Pattern, wildcard, variable, constant, value, nil, cons, join, tuple, both, either, never, Patterns, noPatterns, _▸ᵖ_, span}
 use Rattle.rules.specs.Reading.{Verdict, ok, fault, _then_}
@@ -15,7 +16,7 @@ demand false at a = fault at
 -- "At most 16 variables, numbered 0 to 15. The first variable tag .. has number 0, the next 1, and so on": n stand to the left of this one.
 unfoldable pub isNext : ℤ → ℕ → Bool
 unfolding same
-isNext v n = same v (pos n) && ltb n 16
+isNext v n = same v (pos n) && ltb n variablesLimit
 
 -- "A tag 3 names a variable that stands to its left."
 unfoldable pub isLeft : ℤ → ℕ → Bool
@@ -23,23 +24,23 @@ isLeft (pos v) n = ltb v n
 isLeft (negsuc v) n = false
 
 -- n variables stand to the left of the pattern, whose tag is at the index; found is how many stand to the left of what follows it. "A variable tag
--- inside an or or a not is 3, at that tag": `may` tells whether one may stand here.
+-- inside an or or a not is 3, at that tag": `mayBind` tells whether one may stand here.
 unfoldable mutual
   unfolding _then_ demand isNext isLeft span
 
-  pub variables : Pattern → (may : Bool) → (at n : ℕ) → Verdict ℕ
-  variables wildcard may at n = ok n
-  variables (variable v) may at n = demand (may && isNext v n) at (suc n)
-  variables (constant c) may at n = ok n
-  variables (value v c) may at n = demand (isLeft v n) at n
-  variables nil may at n = ok n
-  variables (cons p q) may at n = variables p may (at + 1) n then λ k. variables q may (at + 1 + span p) k
-  variables (join p q) may at n = variables p may (at + 1) n then λ k. variables q may (at + 1 + span p) k
-  variables (tuple ps) may at n = variablesAll ps may (at + 2) n
-  variables (both p q) may at n = variables p may (at + 1) n then λ k. variables q may (at + 1 + span p) k
-  variables (either p q) may at n = variables p false (at + 1) n then λ k. variables q false (at + 1 + span p) k
-  variables (never p) may at n = variables p false (at + 1) n
+  pub variables : Pattern → (mayBind : Bool) → (at n : ℕ) → Verdict ℕ
+  variables wildcard mayBind at n = ok n
+  variables (variable v) mayBind at n = demand (mayBind && isNext v n) at (suc n)
+  variables (constant c) mayBind at n = ok n
+  variables (value v c) mayBind at n = demand (isLeft v n) at n
+  variables nil mayBind at n = ok n
+  variables (cons p q) mayBind at n = variables p mayBind (at + 1) n then λ k. variables q mayBind (at + 1 + span p) k
+  variables (join p q) mayBind at n = variables p mayBind (at + 1) n then λ k. variables q mayBind (at + 1 + span p) k
+  variables (tuple ps) mayBind at n = variablesAll ps mayBind (at + 2) n
+  variables (both p q) mayBind at n = variables p mayBind (at + 1) n then λ k. variables q mayBind (at + 1 + span p) k
+  variables (either p q) mayBind at n = variables p false (at + 1) n then λ k. variables q false (at + 1 + span p) k
+  variables (never p) mayBind at n = variables p false (at + 1) n
 
-  pub variablesAll : Patterns → (may : Bool) → (at n : ℕ) → Verdict ℕ
-  variablesAll noPatterns may at n = ok n
-  variablesAll (p ▸ᵖ ps) may at n = variables p may at n then λ k. variablesAll ps may (at + span p) k
+  pub variablesAll : Patterns → (mayBind : Bool) → (at n : ℕ) → Verdict ℕ
+  variablesAll noPatterns mayBind at n = ok n
+  variablesAll (p ▸ᵖ ps) mayBind at n = variables p mayBind at n then λ k. variablesAll ps mayBind (at + span p) k

@@ -68,7 +68,7 @@ JoinBy (collection vs) here a b = (k : ℕ) × (here ≡ k ∷ []) × (k ≤ cou
 JoinBy (tupled vs) here a b = ⊥
 
 -- A cons or a join is followed from the bindings e to the bindings d by the way w: its own choice, then the first part's, then the second part's.
-pub record Both (By : Way → Value → Value → Type 0) (First Second : Value → Bindings → Way → Bindings → Type 0) (e : Bindings) (w : Way) (d : Bindings) : Type 0 where
+pub record Halved (By : Way → Value → Value → Type 0) (First Second : Value → Bindings → Way → Bindings → Type 0) (e : Bindings) (w : Way) (d : Bindings) : Type 0 where
   pub here : Way
   pub one : Way
   pub two : Way
@@ -112,8 +112,8 @@ unfoldable mutual
   Follows (constant c) m v e w d = T (isConstant c v) × (w ≡ []) × (d ≡ e)
   Follows (value x c) m v e w d = T (isValue m e x c v) × (w ≡ []) × (d ≡ e)
   Follows nil m v e w d = T (isEmpty v) × (w ≡ []) × (d ≡ e)
-  Follows (cons p q) m v e w d = Both (ConsBy m v) (λ a x y z. Follows p (element m) a x y z) (λ b x y z. Follows q m b x y z) e w d
-  Follows (join p q) m v e w d = Both (JoinBy v) (λ a x y z. Follows p m a x y z) (λ b x y z. Follows q m b x y z) e w d
+  Follows (cons p q) m v e w d = Halved (ConsBy m v) (λ a x y z. Follows p (element m) a x y z) (λ b x y z. Follows q m b x y z) e w d
+  Follows (join p q) m v e w d = Halved (JoinBy v) (λ a x y z. Follows p m a x y z) (λ b x y z. Follows q m b x y z) e w d
   Follows (tuple ps) m v e w d = Parts (λ vs. FollowsAll ps (members m) vs e w d) v
   Follows (both p q) m v e w d = Next (λ x y z. Follows p m v x y z) (λ x y z. Follows q m v x y z) e w d
   Follows (either p q) m v e w d = Side 0 (λ u. Follows p m v e u d) w ⊎ Side 1 (λ u. Follows q m v e u d) w

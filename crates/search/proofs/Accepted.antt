@@ -10,8 +10,8 @@ use lib.ListN.{length, getD}
 use lib.IntN.{ℤ}
 use Rattle.rules.specs.Forms.{Value}
 use Rattle.rules.specs.Services.{Rule, Matched, match}
-use Rattle.promises.specs.ReadPattern.{pattern-read}
-use Rattle.promises.specs.Faults.{Sane, match-ran}
+use Rattle.forms.specs.ReadPattern.{pattern-read}
+use Rattle.forms.specs.Faults.{Sane, match-ran}
 use Rattle.words.specs.Words.{entries}
 use Rattle.program_rules.specs.Closed.{closed-is}
 use Rattle.program_rules.specs.Length.{instrs}

@@ -18,7 +18,7 @@ use Rattle.rules.specs.Fit.{fits}
 use Rattle.rules.specs.Search as search
 use Rattle.rules.specs.Search.{start}
 use Rattle.rules.specs.Services.{carriedOut}
-use Rattle.promises.specs.Written.{Widthsᵖ}
+use Rattle.forms.specs.Written.{Widthsᵖ}
 use Rattle.program_rules.specs.Points.{Instr}
 use Rattle.program_rules.specs.Program.{program, pointAt}
 use Rattle.program_rules.specs.Fitted.{program-follows}

@@ -10,7 +10,7 @@ use Rattle.rules.specs.Fit.{fits, fitsValue}
 use Rattle.rules.specs.Search as search
 use Rattle.rules.specs.Search.{start}
 use Rattle.rules.specs.Services.{Rule, Matched, carriedOut}
-use Rattle.promises.specs.Written.{Widthsᵖ}
+use Rattle.forms.specs.Written.{Widthsᵖ}
 use Rattle.words.specs.Words.{entries}
 use Rattle.program_rules.specs.Closed.{Closed}
 use Rattle.program_rules.specs.Lines.{columns}

@@ -12,7 +12,7 @@ use Rattle.rules.specs.Variables.{demand}
 use Rattle.rules.specs.Fit.{fitsAll, fitsValue, fitsEach}
 use Rattle.rules.specs.Equality.{Pick, picks, behind}
 use Rattle.rules.specs.Search.{consHalves, joinHalves, Cut, cuts, longer}
-use Rattle.promises.specs.Readers.{then-ok}
+use Rattle.forms.specs.Readers.{then-ok}
 use Rattle.program_rules.specs.Points.{Kind, listCons, multisetCons, joins, over, firstBy, halves}
 use Rattle.search_machine.specs.Fitting.{Each, Fitting, FittingEach, Fine}
 

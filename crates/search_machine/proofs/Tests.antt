@@ -11,7 +11,7 @@ use lib.ListN.{getD}
 use lib.IntN.{ℤ, pos, negsuc}
 use Rattle.rules.specs.Numbers.{same, plus}
 use Rattle.rules.specs.Forms.{Matcher, something, integer, list, multiset, tupleOf, Matchers, Value, int, collection, tupled, words}
-use Rattle.rules.specs.Fit.{takes, tagsOf, among, solid, isInteger, ofCollection, ofTuple, sameShape}
+use Rattle.rules.specs.Fit.{takes, tagsOf, among, withoutSomething, isInteger, ofCollection, ofTuple, sameShape}
 use Rattle.rules.specs.Equality.{equal, raised, equalTo, isConstant, isEmpty}
 use Rattle.words.specs.Words.{tagAt, sameTo}
 use Rattle.words.proofs.marks.Marked.{empty-marked}
@@ -145,9 +145,9 @@ module _ (s : List ℤ) (g : Target s) where
   unfolding equalTo
   whole-ok m k c a h w v t e l n i j = rw (i .is, j .is, raised-same c w (λ z. omega (arith, value-tag k a w t e n i)))
 
-  pub same-ok : (m k : Matcher) (c : ℤ) (a h : Binding) (w v : Value) → solid m ≡ true → sameShape m k ≡ true → Is s k a w → Is s m h v
+  pub same-ok : (m k : Matcher) (c : ℤ) (a h : Binding) (w v : Value) → withoutSomething m ≡ true → sameShape m k ≡ true → Is s k a w → Is s m h v
       → isSame s m c a h ≡ equalTo m (raised c w) v
-  unfolding isSame isSum solid sameShape
+  unfolding isSame isSum withoutSomething sameShape
   same-ok something k c a h w v t x i j = clash cc
   same-ok integer k c a h w v t x i j = rw (is-int k a w (integer-wants k x) i, is-int integer h v refl j) (raised-sum _ c _)
   same-ok (list m) k c a h w v t x i j = whole-ok (list m) k c a h w v 1 (collection-wants _ k x) (omega arith) (omega arith) i j

@@ -6,7 +6,7 @@ use mathlib.Core.Option.{Option, none, some}
 use mathlib.Core.List.{List, [], _∷_}
 use lib.IntN.{ℤ}
 use Rattle.rules.specs.Forms.{Matcher, integer, tupleOf, Matchers, noMatchers, _▸ᵐ_, countᵐ, Value, tupled, Values, empty, _▸_, words}
-use Rattle.rules.specs.Fit.{takes, solid, sameShape}
+use Rattle.rules.specs.Fit.{takes, withoutSomething, sameShape}
 use Rattle.rules.specs.Equality.{raised, equalTo, isConstant, isEmpty}
 use Rattle.rules.specs.Search.{Halves}
 use Rattle.program_rules.specs.Points.{Kind, over, firstBy, halves}
@@ -42,7 +42,7 @@ pub record Data : Type 1 where
   pub isNumber : ℤ → Held → Bool
   pub isNumber-ok : (c : ℤ) (h : Held) (v : Value) → Is integer h v → isNumber c h ≡ isConstant c v
   pub isSame : Matcher → ℤ → Held → Held → Bool
-  pub isSame-ok : (m k : Matcher) (c : ℤ) (g h : Held) (w v : Value) → solid m ≡ true → sameShape m k ≡ true → Is k g w → Is m h v
+  pub isSame-ok : (m k : Matcher) (c : ℤ) (g h : Held) (w v : Value) → withoutSomething m ≡ true → sameShape m k ≡ true → Is k g w → Is m h v
       → isSame m c g h ≡ equalTo m (raised c w) v
   pub opens : Kind → Held → Option Rem
   pub opens-ok : (k : Kind) (h : Held) (v : Value) → Is (over k) h v → Opened (Left k h) (opens k h) (halves k v)

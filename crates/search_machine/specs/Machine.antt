@@ -9,7 +9,7 @@ use mathlib.Core.List.{List, [], _∷_, _++_, append-nil, append-assoc}
 use lib.ListN.{length}
 use lib.Dec.{leb}
 use lib.IntN.{ℤ}
-use Rattle.rules.specs.Search.{atom, cut, State, state, after, cutBack, row, Run, stopped, step, rowStep, run}
+use Rattle.rules.specs.Search.{atom, endOfNot, State, state, after, leaveNot, row, Run, stopped, step, rowStep, run}
 
 -- The waiting states, the free words, the rows, steps and words so far; `full` is set by a row that does not fit.
 pub record Machine : Type 0 where
@@ -32,10 +32,10 @@ filling k ss = record { waiting = ss; left = k .left; rows = k .rows; steps = su
 
 -- One step. A machine that has ended stays as it is.
 unfoldable pub stepOn : Machine → List State → Machine
-unfolding passing writing filling after cutBack row
+unfolding passing writing filling after leaveNot row
 stepOn k [] = k
 stepOn k (state g [] e ∷ ss) = elim (leb (length (row e)) (k .left)) [ true ↦ writing k (row e) ss | false ↦ filling k ss ]
-stepOn k (state g (cut ∷ older) e ∷ ss) = passing k (cutBack ss)
+stepOn k (state g (endOfNot ∷ older) e ∷ ss) = passing k (leaveNot ss)
 stepOn k (state g (atom p m v ∷ older) e ∷ ss) = passing k (after p m v older e ++ ss)
 
 unfoldable pub once : Machine → Machine
@@ -110,8 +110,8 @@ goes-on (suc n) (state g [] e ∷ ss) left rows steps written =
         ≡ on rows steps written (elim b as (λ _. Run) [ true ↦ rowStep (row e) (run n ss (left - length (row e))) | false ↦ stopped 8 1 ])
     go true h = h ∙ on-row rows steps written (row e) (run n ss (left - length (row e)))
     go false h = ap told (still n (filling k ss) refl) ∙ same-run 8 (sym (add-zero rows)) (omega arith) (sym (append-nil written))
-goes-on (suc n) (state g (cut ∷ older) e ∷ ss) left rows steps written =
-    goes-on n (cutBack ss) left rows (suc steps) written ∙ on-step rows steps written (run n (cutBack ss) left)
+goes-on (suc n) (state g (endOfNot ∷ older) e ∷ ss) left rows steps written =
+    goes-on n (leaveNot ss) left rows (suc steps) written ∙ on-step rows steps written (run n (leaveNot ss) left)
 goes-on (suc n) (state g (atom p m v ∷ older) e ∷ ss) left rows steps written =
     goes-on n (after p m v older e ++ ss) left rows (suc steps) written ∙ on-step rows steps written (run n (after p m v older e ++ ss) left)
 

@@ -9,7 +9,7 @@ use lib.ListN.{length}
 use lib.Dec.{eqb, T, eqb→eq, eqb-refl}
 use Rattle.rules.specs.Forms.{Matcher, Pattern, Value}
 use Rattle.rules.specs.Equality.{Bindings}
-use Rattle.rules.specs.Search.{Halves, Atom, atom, cut, State, state}
+use Rattle.rules.specs.Search.{Halves, Atom, atom, endOfNot, State, state}
 use Rattle.program_rules.specs.Points.{Kind, over, firstBy, branch, Instr, split, choice, deny, Item, item, orElse, endOr, stop, Point, point, cutting, finish, enter, from, known, within, inside}
 use Rattle.search_machine.specs.Held.{Data}
 use Rattle.search_machine.specs.Engine.{put, Slot, Conf}
@@ -22,7 +22,7 @@ module _ (D : Data) where
         → c < n → D .Is m ((slots c) .second) v → Waits slots n ts older → Waits slots n (item p m c ∷ ts) (atom p m v ∷ older)
     waits-else : {q : Pattern} {m : Matcher} {ts : List Item} {older : List Atom} → Waits slots n ts older → Waits slots n (orElse q m ∷ ts) older
     waits-end : {ts : List Item} {older : List Atom} → Waits slots n ts older → Waits slots n (endOr ∷ ts) older
-    waits-cut : {m : Matcher} {j : ℕ} {v : Value} {ts : List Item} → j < n → D .Is m ((slots j) .second) v → Waits slots n (stop j ∷ ts) (cut ∷ [])
+    waits-cut : {m : Matcher} {j : ℕ} {v : Value} {ts : List Item} → j < n → D .Is m ((slots j) .second) v → Waits slots n (stop j ∷ ts) (endOfNot ∷ [])
 
   -- The bindings, from entry i on; entries after them are left over.
   pub data Bound (binds : ℕ → D .Held) : ℕ → List Matcher → Bindings → Type 0 where
@@ -35,7 +35,7 @@ module _ (D : Data) where
     at : {g : Bool} {ms : List Matcher} {p : Pattern} {m k : Matcher} {ts : List Item} {v : Value} {older : List Atom} {e : Bindings}
         → D .Is k h v → Waits slots pc ts older → Bound binds 0 ms e → At slots binds pc h (point ms p m k ts) (state g (atom p m v ∷ older) e)
     at-cut : {g : Bool} {ms : List Matcher} {m : Matcher} {j : ℕ} {ts : List Item} {v : Value} {e : Bindings}
-        → D .Is m h v → Bound binds 0 ms e → At slots binds pc h (cutting ms j ts) (state g (cut ∷ []) e)
+        → D .Is m h v → Bound binds 0 ms e → At slots binds pc h (cutting ms j ts) (state g (endOfNot ∷ []) e)
     done : {g : Bool} {ms : List Matcher} {e : Bindings} → Bound binds 0 ms e → At slots binds pc h (finish ms) (state g [] e)
 
   module _ (code : ℕ → Instr) (points : ℕ → Point) where

@@ -13,7 +13,7 @@ use Rattle.rules.specs.Forms.{Pattern, Patterns, noPatterns, _▸ᵖ_, countᵖ
 use Rattle.rules.specs.Fit.{members, isSomething}
 use Rattle.rules.specs.Reading.{entry}
 use Rattle.rules.specs.Equality.{Bindings, raised, equalTo, isValue}
-use Rattle.rules.specs.Search.{Halves, Atom, State, state, dropIf, atoms, apart as takeApart, after, cutBack}
+use Rattle.rules.specs.Search.{Halves, Atom, State, state, dropIf, atoms, apart as takeApart, after, leaveNot}
 use Rattle.program_rules.specs.Points.{Kind, over, firstBy, halves, branch, after-whole, Test, asConstant, asValue, asNil, testBy, passes, Sound, after-test}
 use Rattle.program_rules.specs.Points.{Instr, split, apart, Item, item, orElse, endOr, stop, Point, point, cutting, finish, enter, from, known, within, inside, firstOf, othersOf, items}
 use Rattle.program_rules.specs.Points.{resume, Follows, after-loose, strips, drops, binds, tests, splits, aparts, keeps, chooses, denies, cuts, ends}
@@ -131,14 +131,14 @@ module _ (D : Data) where
 
     -- The search inside the not at j has found its row: what waits of it is dropped, and the state that would have followed the not.
     branches-cut : (k : Kind) (p q : Pattern) (older : List Atom) (e : Bindings) (hs : List Halves) (ss : List State)
-        → cutBack (map (branch k p q older e) hs ++ ss) ≡ cutBack ss
-    unfolding cutBack branch
+        → leaveNot (map (branch k p q older e) hs ++ ss) ≡ leaveNot ss
+    unfolding leaveNot branch
     branches-cut k p q older e [] ss = refl
     branches-cut k p q older e (h ∷ hs) ss = branches-cut k p q older e hs ss
 
     cut-rep : (c : Conf D) (j : ℕ) {top n w : ℕ} {ss : List State} → Chain D code points (c .slots) (c .binds) top n w ss → w ≡ suc j
-        → Rep D code points (nextChoice D code ((c .slots j) .prev) c) (cutBack ss)
-    unfolding cutBack
+        → Rep D code points (nextChoice D code ((c .slots j) .prev) c) (leaveNot ss)
+    unfolding leaveNot
     cut-rep c j shut h = absurd (omega arith)
     cut-rep c j (open-at {older = older} {e = e} {hs = hs} {ss = ss} k p q cd pt i l w left ws bs ch) h = rw (branches-cut k p q older e hs ss) (cut-rep c j ch h)
     cut-rep c j (choice-at q cd r pt i l w is ws bs ch) h = cut-rep c j ch h

@@ -14,7 +14,7 @@ use Rattle.rules.specs.Forms.{Matcher, Pattern, Value}
 use Rattle.rules.specs.Reading.{ok}
 use Rattle.rules.specs.Fit.{fits}
 use Rattle.rules.specs.Search.{State, run, start}
-use Rattle.promises.specs.Written.{Widthsᵖ}
+use Rattle.forms.specs.Written.{Widthsᵖ}
 use Rattle.program_rules.specs.Closed.{Closed}
 use Rattle.search_machine.specs.Machine.{opened}
 use Rattle.program_rules.specs.Points.{Instr, Point, known, within, inside}

@@ -9,7 +9,7 @@ use Rattle.rules.specs.Forms.{Matcher, Value}
 use Rattle.rules.specs.Reading.{Verdict, ok, fault, readMatcher}
 use Rattle.rules.specs.Services.{Judged, accepted, refused, test, Rule, ruleOf, targetOf, causeIn, turnedAway, matchTarget, matchRule, match}
 use Rattle.rules.specs.Services as paper
-use Rattle.promises.specs.Faults.{rule-accepted, Sane, sane-exactly}
+use Rattle.forms.specs.Faults.{rule-accepted, Sane, sane-exactly}
 use Rattle.words.specs.Words.{entries}
 use Rattle.program_rules.specs.Accepted.{matcher-short, pattern-short}
 use Rattle.program_rules.specs.Lines.{columns, linesOf, laid}

@@ -12,9 +12,9 @@ use borrow.Author.Needs.{needs}
 use borrow.Author.Tests.{lt-ltb, le-ltb}
 use Rattle.rules.specs.Review.{formula}
 use Rattle.rules.specs.Always.{alwaysTrue}
-use Rattle.rules.specs.Services.{Judged, accepted, refused, Rule, ruleOf, declined, counted, capped, passable, reviewRule, review}
+use Rattle.rules.specs.Services.{Judged, accepted, refused, Rule, ruleOf, declined, counted, capped, unlessAlwaysTrue, reviewRule, review}
 use Rattle.rules.specs.Services as paper
-use Rattle.promises.specs.Tests.{leb-true, leb-false}
+use Rattle.forms.specs.Tests.{leb-true, leb-false}
 use Rattle.words.specs.Words.{tagZ}
 use Rattle.words.specs.Words.{entries}
 use Rattle.program_rules.specs.Accepted.{matcher-short, pattern-short}
@@ -127,7 +127,7 @@ module _ (ms ps : List ℤ) (op from arg mat : List ℕ) (con : List ℤ) (s : S
   held = compiled-zeros ms ps (sound-is s .0) (sound-is s .1) vars (columns op from arg mat con) tos refl e refl
 
   rule-of : (cap : ℤ) → by-pattern cap (sound-is s .0) (alwaysTrue (sound-is s .0 .pattern)) ≡ reviewRule cap (ruleOf ms ps)
-  unfolding reviewRule passable by-pattern
+  unfolding reviewRule unlessAlwaysTrue by-pattern
   rule-of cap = ap (reviewRule cap) (sym (sound-is s .1))
 
   told : (cap : ℤ) (b : Bool) → b ≡ noneFrom op 0 entries → by-pattern cap (sound-is s .0) b ≡ reviewRule cap (ruleOf ms ps)

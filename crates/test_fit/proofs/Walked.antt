@@ -15,9 +15,9 @@ use Rattle.rules.specs.Forms.{Matcher, something, integer, list, multiset, tupl
 use Rattle.rules.specs.Forms.{Pattern, wildcard, variable, constant, value, nil, cons, join, tuple, both, either, never, Patterns, noPatterns, _▸ᵖ_, countᵖ, span, spanAll}
 use Rattle.rules.specs.Reading.{Verdict, ok, fault, _then_, entry, matcherTags, patternTags, readMatcher, readPattern}
 use Rattle.rules.specs.Variables.{demand}
-use Rattle.rules.specs.Fit.{takes, tagsOf, element, members, solid, isInteger, alike, comparable, fits, fitsParts}
-use Rattle.promises.specs.Written.{matcherWords, patternWords, patternWordsAll, Widthsᵐ}
-use Rattle.promises.specs.ReadPattern.{pattern-read}
+use Rattle.rules.specs.Fit.{takes, tagsOf, element, members, withoutSomething, isInteger, alike, comparable, fits, fitsParts}
+use Rattle.forms.specs.Written.{matcherWords, patternWords, patternWordsAll, Widthsᵐ}
+use Rattle.forms.specs.ReadPattern.{pattern-read}
 use Rattle.words.specs.Words.{tagAt}
 use Rattle.test_forms.specs.Tests.{tested}
 use Rattle.test_fit.specs.Shapes.{widthFits}
@@ -98,23 +98,23 @@ module _ (m : List ℤ) where
 
     -- ---- Tag 3.
 
-    alike-at : (js : List ℕ) (ks : List Matcher) → Standing js ks → (v : ℕ) → shapesWith m i (getElem? js v) ≡ (solid k && alike k (getElem? ks v))
+    alike-at : (js : List ℕ) (ks : List Matcher) → Standing js ks → (v : ℕ) → shapesWith m i (getElem? js v) ≡ (withoutSomething k && alike k (getElem? ks v))
     unfolding shapesWith alike Standing
-    alike-at [] [] s v = sym (and-false (solid k))
+    alike-at [] [] s v = sym (and-false (withoutSomething k))
     alike-at [] (l ∷ ks) s v = absurd s
     alike-at (j ∷ js) [] s v = absurd s
     alike-at (j ∷ js) (l ∷ ks) s zero = shaped m k l i j a (s .0)
     alike-at (j ∷ js) (l ∷ ks) s (suc v) = alike-at js ks (s .1) v
 
-    alike-by : (js : List ℕ) (ks : List Matcher) → Standing js ks → (v : ℤ) → shapesWith m i (entry js v) ≡ (solid k && alike k (entry ks v))
+    alike-by : (js : List ℕ) (ks : List Matcher) → Standing js ks → (v : ℤ) → shapesWith m i (entry js v) ≡ (withoutSomething k && alike k (entry ks v))
     unfolding entry shapesWith alike
     alike-by js ks s (pos v) = alike-at js ks s v
-    alike-by js ks s (negsuc v) = sym (and-false (solid k))
+    alike-by js ks s (negsuc v) = sym (and-false (withoutSomething k))
 
     comparable-by : (js : List ℕ) (ks : List Matcher) → Standing js ks → (v c : ℤ) → valueFits m i js v c ≡ comparable v c k ks
     unfolding valueFits comparable
     comparable-by js ks s v c =
-        rw (alike-by js ks s v, at-tag m i k a, integer-by k) (and-both (solid k) (alike k (entry ks v)) (isInteger k || same c (pos 0)))
+        rw (alike-by js ks s v, at-tag m i k a, integer-by k) (and-both (withoutSomething k) (alike k (entry ks v)) (isInteger k || same c (pos 0)))
 
     -- ---- Tag 7.
 

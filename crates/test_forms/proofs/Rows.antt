@@ -10,7 +10,7 @@ use lib.ListN.{length, drop}
 use lib.Seq.{drop-nil, drop-drop, drop-append-seam}
 use lib.IntN.{ℤ, pos, negsuc}
 use Rattle.rules.specs.Reading.{Verdict, ok, fault, _then_, Got, Reader, give, _>>=_, known, times, width}
-use Rattle.promises.specs.Readers.{got, Sound, Complete}
+use Rattle.forms.specs.Readers.{got, Sound, Complete}
 use Rattle.words.specs.Words.{tagZ, tagAt}
 use Rattle.test_forms.specs.Ends.{endOf, onward, inRow, within}
 use Rattle.test_forms.specs.declared.Ended.the-variants.{Bad}

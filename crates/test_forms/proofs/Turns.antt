@@ -10,7 +10,7 @@ use mir.Val.{Fits}
 use lib.Dec.{ltb, leb}
 use lib.ListN.{length}
 use lib.IntN.{ℤ}
-use Rattle.promises.specs.Written.{IsWidth}
+use Rattle.forms.specs.Written.{IsWidth}
 use Rattle.words.specs.Words.{tagAt}
 use Rattle.words.proofs.Signed as signed
 use Rattle.test_forms.specs.Ends.{onward, inRow, within}

@@ -14,9 +14,9 @@ use lib.Seq.{drop-cons}
 use lib.IntN.{ℤ, negsuc}
 use Rattle.rules.specs.Forms.{Value}
 use Rattle.rules.specs.Reading.{Verdict, ok, fault, Got, entry, atMost64, width, target}
-use Rattle.rules.specs.Causes.{Cause, unknownTag, badCount, tooDeep, cutShort, badWidth, numbered, told}
+use Rattle.rules.specs.Causes.{Cause, unknownTag, badCount, tooDeep, cutShort, badWidth, causeNumber, told}
 use Rattle.rules.specs.Causes.{Look, wrong, _thence_, inTurn, see, Kind, integer, kinds, anyWord, innermost, opened, value}
-use Rattle.promises.specs.Together.{Agree, target-agrees, value-well}
+use Rattle.forms.specs.Together.{Agree, target-agrees, value-well}
 use Rattle.words.specs.Words.{tagAt}
 use Rattle.words.proofs.Signed as signed
 use Rattle.test_forms.specs.Ends.{endOf, onward, inRow, within}
@@ -69,10 +69,10 @@ module _ (s : List ℤ) (at t : ℕ) (e : t ≡ tagAt s at) (d : ℕ) where
       ∙ ap (seen unknownTag (after d) (drop (suc at) s)) (entry-tag kinds (getD s at (negsuc 0)) (omega arith) ∙ ap (getElem? kinds) (sym e))
 
   pub other-cause : 2 < t → told (value d (drop at s)) ≡ causeAt s at 2
-  unfolding causeAt told numbered seen kinds
+  unfolding causeAt told causeNumber seen kinds
   other-cause h = go (ltb at (length s)) refl
     where
-      go : (b : Bool) → ltb at (length s) ≡ b → told (value d (drop at s)) ≡ cond b 2 (numbered cutShort)
+      go : (b : Bool) → ltb at (length s) ≡ b → told (value d (drop at s)) ≡ cond b 2 (causeNumber cutShort)
       go true q = ap told (by-kind (ltb-true at (length s) q) ∙ ap (seen unknownTag (after d) (drop (suc at) s)) (past kinds t h))
       go false q = ap told (value-is d (drop at s) ∙ see-past unknownTag (entry kinds) (after d) s at (ltb-false at (length s) q))
 
@@ -104,11 +104,11 @@ module _ (c : Cause) (number : ℤ → Option ℕ) (fits : ℕ → Bool) (takes 
   unfolding tagAt
   by-number h = see-at c number k s at h ∙ ap (seen c k (drop (suc at) s)) (takes .by-tag (getD s at (negsuc 0)) ∙ ap (λ m. cond (fits m) (some m) none) (sym e))
 
-  number-cause : fits n ≡ false → told (see c number k (drop at s)) ≡ causeAt s at (numbered c)
+  number-cause : fits n ≡ false → told (see c number k (drop at s)) ≡ causeAt s at (causeNumber c)
   unfolding causeAt told seen
   number-cause f = go (ltb at (length s)) refl
     where
-      go : (b : Bool) → ltb at (length s) ≡ b → told (see c number k (drop at s)) ≡ cond b (numbered c) (numbered cutShort)
+      go : (b : Bool) → ltb at (length s) ≡ b → told (see c number k (drop at s)) ≡ cond b (causeNumber c) (causeNumber cutShort)
       go true q = ap told (by-number (ltb-true at (length s) q) ∙ ap (λ x. seen c k (drop (suc at) s) (cond x (some n) none)) f)
       go false q = ap told (see-past c number k s at (ltb-false at (length s) q))
 

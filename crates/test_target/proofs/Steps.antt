@@ -13,8 +13,8 @@ use lib.ListN.{length, drop, length-drop}
 use lib.IntN.{ℤ}
 use Rattle.rules.specs.Forms.{Value}
 use Rattle.rules.specs.Reading.{Verdict, ok, fault, _then_, Got, ended, whole, limited, target, readTarget}
-use Rattle.rules.specs.Causes.{numbered, overLength, leftOver, well, told, value, causeOf}
-use Rattle.promises.specs.Together.{value-well}
+use Rattle.rules.specs.Causes.{causeNumber, overLength, leftOver, well, told, value, causeOf}
+use Rattle.forms.specs.Together.{value-well}
 use Rattle.words.specs.Words.{tagAt}
 use Rattle.words.proofs.Signed as signed
 use Rattle.test_forms.specs.Ends.{within}
@@ -52,11 +52,11 @@ pub ruleset count-rules = (ret-elements, ret-parts, needs)
 -- ---- A cause.
 
 pub ret-count : (t : ℕ) → t ≡ 1 → 3 ≡ countCause t
-unfolding countCause numbered
+unfolding countCause causeNumber
 ret-count t h = rw h
 
 pub ret-width : (t : ℕ) → (t ≡ 1 → ⊥) → 7 ≡ countCause t
-unfolding countCause numbered
+unfolding countCause causeNumber
 ret-width t h = rw (ne-eqb t 1 h)
 
 pub ret-there : (s : List ℤ) (at w : ℕ) → at < length s → w ≡ causeAt s at w
@@ -64,7 +64,7 @@ unfolding causeAt
 ret-there s at w h = rw (lt-ltb at (length s) h)
 
 pub ret-past : (s : List ℤ) (at w : ℕ) → length s ≤ at → 5 ≡ causeAt s at w
-unfolding causeAt numbered
+unfolding causeAt causeNumber
 ret-past s at w h = rw (le-ltb at (length s) h)
 
 pub ruleset cause-rules = (ret-count, ret-width, ret-there, ret-past, needs)
@@ -79,12 +79,12 @@ module _ (s : List ℤ) (at t d : ℕ) (e : t ≡ tagAt s at) where
   ret-integer h l = sym (valued-end s d at (at + 2) (integer s at t e d h ∙ rw (lt-ltb (at + 1) (length s) l)))
 
   pub ret-cut : t ≡ 0 → length s ≤ at + 1 → Bad (at + 1) 5 ≡ valuedFrom s d at
-  unfolding told numbered
+  unfolding told causeNumber
   ret-cut h l = sym (valued-bad s d at (at + 1) 5 (integer s at t e d h ∙ rw (le-ltb (at + 1) (length s) l)) (ap told (integer-cut s at t e d h l)))
 
   module _ (a : t ≤ 2) (b : t ≡ 0 → ⊥) where
     pub ret-deep : d ≡ 0 → Bad at 4 ≡ valuedFrom s d at
-    unfolding told numbered
+    unfolding told causeNumber
     ret-deep z = sym (valued-bad s d at at 4 (deep s at t e d z (omega arith)) (ap told (deep-cause s at t e d z (omega arith) a)))
 
     module _ (z : d ≡ 0 → ⊥) (n : ℕ) (q : n ≡ tagAt s (at + 1)) (c : Bool) (w : c ≡ countFits t n) where
@@ -133,7 +133,7 @@ pub ruleset rules = (ret-other, ret-integer, ret-cut, ret-deep, ret-many, loop-i
 
 module _ (s : List ℤ) (e : Valued) where
   pub ret-left-over : (at : ℕ) → e ≡ End at → at < length s → Fault at 6 ≡ wholeValue s e
-  unfolding wholeValue numbered
+  unfolding wholeValue causeNumber
   ret-left-over at q h = rw (q, lt-ltb at (length s) h)
 
   pub ret-all : (at : ℕ) → e ≡ End at → length s ≤ at → Passed ≡ wholeValue s e
@@ -150,10 +150,10 @@ pub ruleset end-rules = (ret-left-over, ret-all, ret-bad, place-end, place-bad, 
 
 read : (s : List ℤ) → Bool → Found
 read s b = found (elim b as (λ _. Verdict Value) [ true ↦ whole (target 8) s | false ↦ fault 1024 ])
-    (elim b as (λ _. ℕ) [ true ↦ told (value 8 s) | false ↦ numbered overLength ])
+    (elim b as (λ _. ℕ) [ true ↦ told (value 8 s) | false ↦ causeNumber overLength ])
 
 pub ret-long : (s : List ℤ) → 1024 < length s → Fault 1024 1 ≡ found (readTarget s) (causeOf s)
-unfolding readTarget limited causeOf read found numbered
+unfolding readTarget limited causeOf read found causeNumber
 ret-long s h = ap (read s) (sym (lt-leb (length s) 1024 h))
 
 -- Where the value that was read, x, ends, and what stands after it.
@@ -162,7 +162,7 @@ unfolding wholeValue valued found _then_ ended told Along
 whole-found s (fault i) e = refl
 whole-found s (ok g) e = go (g .rest) (sym (target-along s 8 0 g e)) (value-well 8 0 s g e)
   where
-    go : (us : List ℤ) → drop (g .next) s ≡ us → value 8 s ≡ well us → cond (ltb (g .next) (length s)) (Fault (g .next) (numbered leftOver)) Passed
+    go : (us : List ℤ) → drop (g .next) s ≡ us → value 8 s ≡ well us → cond (ltb (g .next) (length s)) (Fault (g .next) (causeNumber leftOver)) Passed
         ≡ found (elim us as (λ _. Verdict Value) [ [] ↦ ok (g .it) | w ∷ ws ↦ fault (g .next) ]) (told (value 8 s))
     go [] p v = let l : length s ≤ g .next = omega (arith, simp length-drop at (ap length p)) in rw (le-ltb (g .next) (length s) l)
     go (w ∷ ws) p v = let l : g .next < length s = omega (arith, simp length-drop at (ap length p)) in rw (lt-ltb (g .next) (length s) l, v)

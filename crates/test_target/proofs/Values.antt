@@ -14,9 +14,9 @@ use lib.IntN.{ℤ, pos, negsuc}
 use Rattle.rules.specs.Forms.{Value, int, Values, empty, _▸_, collection, tupled, words}
 use Rattle.rules.specs.Reading.{fault, _then_, Reader, give, _>>=_, known, word}
 use Rattle.rules.specs.Reading.{TargetTag, one, many, targetTags, atMost64, width, targetParts, target}
-use Rattle.promises.specs.Written.{deepest, largest, Widths}
-use Rattle.promises.specs.Readers.{Complete}
-use Rattle.promises.specs.ReadTarget.{target-sound, target-complete}
+use Rattle.forms.specs.Written.{deepest, largest, Widths}
+use Rattle.forms.specs.Readers.{Complete}
+use Rattle.forms.specs.ReadTarget.{target-sound, target-complete}
 use Rattle.words.specs.Words.{tagZ, tagAt}
 use Rattle.test_forms.specs.Ends.{endOf, inRow, within}
 use Rattle.test_target.specs.Targets.{countFits, valueFrom}

@@ -7,7 +7,7 @@ use lib.Dec.{eqb, leb, ltb}
 use lib.IntN.{ℤ}
 use Rattle.rules.specs.Forms.{Value}
 use Rattle.rules.specs.Reading.{Verdict, ok, fault, Got, target}
-use Rattle.rules.specs.Causes.{badCount, cutShort, leftOver, badWidth, numbered, Look, told, value}
+use Rattle.rules.specs.Causes.{badCount, cutShort, leftOver, badWidth, causeNumber, Look, told, value}
 use Rattle.test_forms.specs.Ends.{endOf, within}
 use Rattle.test_forms.specs.declared.Ended.{Ended}
 use Rattle.test_target.specs.declared.Valued.{Valued}
@@ -26,13 +26,13 @@ unfolding within
 countFits t n = cond (eqb t 1) (leb n 64) (within 2 n 4)
 
 unfoldable pub countCause : ℕ → ℕ
-unfolding numbered
-countCause t = cond (eqb t 1) (numbered badCount) (numbered badWidth)
+unfolding causeNumber
+countCause t = cond (eqb t 1) (causeNumber badCount) (causeNumber badWidth)
 
 -- The cause at an index: where no word is, the words are cut short.
 unfoldable pub causeAt : List ℤ → (at wrong : ℕ) → ℕ
-unfolding numbered
-causeAt s at wrong = cond (ltb at (length s)) wrong (numbered cutShort)
+unfolding causeNumber
+causeAt s at wrong = cond (ltb at (length s)) wrong (causeNumber cutShort)
 
 -- The value at an index, in which `depth` collections or tuples may stand one inside the other.
 unfoldable pub valueFrom : List ℤ → (depth at : ℕ) → Ended
@@ -61,6 +61,6 @@ inLine f (suc n) at = further (f at) (inLine f n)
 
 -- The end of a value that is to be the whole slice.
 unfoldable pub wholeValue : List ℤ → Valued → Found
-unfolding numbered
-wholeValue s (End e) = cond (ltb e (length s)) (Fault e (numbered leftOver)) Passed
+unfolding causeNumber
+wholeValue s (End e) = cond (ltb e (length s)) (Fault e (causeNumber leftOver)) Passed
 wholeValue s (Bad i c) = Fault i c

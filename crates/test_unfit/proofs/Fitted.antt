@@ -13,8 +13,8 @@ use Rattle.rules.specs.Forms.{Value, int, collection, tupled, Values, empty, _�
 use Rattle.rules.specs.Reading.{Verdict, ok, fault, _then_, target, readMatcher, readTarget}
 use Rattle.rules.specs.Variables.{demand}
 use Rattle.rules.specs.Fit.{fitsAll, fitsValue, fitsEach}
-use Rattle.promises.specs.Written.{matcherWords, deepest, deepestOf, largest, largestOf, IsWidth, Widths, WidthsAll, Widthsᵐ, length-words}
-use Rattle.promises.specs.ReadTarget.{target-complete, target-read}
+use Rattle.forms.specs.Written.{matcherWords, deepest, deepestOf, largest, largestOf, IsWidth, Widths, WidthsAll, Widthsᵐ, length-words}
+use Rattle.forms.specs.ReadTarget.{target-complete, target-read}
 use Rattle.words.specs.Words.{tagAt}
 use Rattle.test_forms.specs.Ends.{endOf, onward, within}
 use Rattle.test_fit.specs.Shapes.{widthFits}

@@ -13,8 +13,8 @@ use lib.IntN.{ℤ}
 use Rattle.rules.specs.Forms.{Pattern, wildcard, variable, constant, value, nil, cons, join, tuple, both, either, never, Patterns, noPatterns, _▸ᵖ_, countᵖ, span, spanAll}
 use Rattle.rules.specs.Reading.{Verdict, ok, fault, _then_, patternTags, readPattern}
 use Rattle.rules.specs.Variables.{variables, variablesAll, isNext, isLeft}
-use Rattle.promises.specs.Written.{patternWords, patternWordsAll, Widthsᵖ, WidthsAllᵖ}
-use Rattle.promises.specs.ReadPattern.{pattern-read}
+use Rattle.forms.specs.Written.{patternWords, patternWordsAll, Widthsᵖ, WidthsAllᵖ}
+use Rattle.forms.specs.ReadPattern.{pattern-read}
 use Rattle.test_forms.specs.Tests.{tested}
 use Rattle.test_forms.specs.Ends.{within}
 use Rattle.test_forms.specs.Table.{rowOf, byRow}

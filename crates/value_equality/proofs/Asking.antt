@@ -10,7 +10,7 @@ use lib.Dec.{eqb, eqb·suc-zero}
 use lib.ListN.{length, getD, set, replicate, length-replicate}
 use lib.IntN.{ℤ}
 use lib.Count.{trailingZeros}
-use Rattle.promises.specs.Written.{deepest}
+use Rattle.forms.specs.Written.{deepest}
 use Rattle.words.specs.Marks.{clear}
 use Rattle.words.proofs.marks.Places.{low-lt}
 use Rattle.matchers.specs.Places.{matcherEnd}

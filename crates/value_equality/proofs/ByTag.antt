@@ -10,7 +10,7 @@ use lib.IntN.{ℤ, pos}
 use Rattle.rules.specs.Numbers.{same}
 use Rattle.rules.specs.Forms.{Matcher, something, integer, list, multiset, tupleOf, Value, int, collection, tupled}
 use Rattle.rules.specs.Equality.{equal}
-use Rattle.promises.specs.Pairing.{multisets-greedy}
+use Rattle.forms.specs.Pairing.{multisets-greedy}
 use Rattle.words.specs.Words.{tagAt}
 use Rattle.matchers.specs.Places.{matcherAt}
 use Rattle.matchers.proofs.Matchers.{matcher-0, matcher-1, matcher-2, matcher-3, matcher-4, matcher-high}

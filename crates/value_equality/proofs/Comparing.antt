@@ -15,7 +15,7 @@ use lib.Count.{trailingZeros}
 use Rattle.rules.specs.Numbers.{same, plus}
 use Rattle.rules.specs.Forms.{noMatchers, Value, Values, empty, _▸_, count}
 use Rattle.rules.specs.Equality.{inOrder, equal, equalParts}
-use Rattle.promises.specs.Pairing.{withoutFirst, greedy}
+use Rattle.forms.specs.Pairing.{withoutFirst, greedy}
 use Rattle.words.specs.Words.{sameTo}
 use Rattle.words.specs.Marks.{positions, clear}
 use Rattle.words.specs.Marked.{nth}

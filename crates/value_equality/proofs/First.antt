@@ -7,7 +7,7 @@ use mathlib.Core.List.{List, [], _∷_, map, List·Memᴰ, List·Memᴰ·head, L
 use Prim.Native.Nat.{ℕ, zero, suc, _+_, _-_, _*_, _/_, _%_, _^_, _<_, _≤_}
 use native.Mathlib.Omega.{arith}
 use Rattle.rules.specs.Forms.{Value, Values, empty, _▸_, count}
-use Rattle.promises.specs.Pairing.{withoutFirst, addFront}
+use Rattle.forms.specs.Pairing.{withoutFirst, addFront}
 use Rattle.words.specs.Marks.{positions, zeroIf, clear, digit}
 use Rattle.words.specs.Marked.{nth, keep, marked}
 use Rattle.words.proofs.marks.Places.{by-digit, half-lt, double-digit, double-half, digit-2, even-digit, even-half, positions-none}

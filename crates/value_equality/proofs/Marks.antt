@@ -7,7 +7,7 @@ use lib.IntN.{ℤ}
 use lib.Count.{trailingZeros}
 use lib.Pow.{pow-pos, pow-mono}
 use Rattle.rules.specs.Forms.{Value, int, collection, tupled, Values, empty, _▸_, count}
-use Rattle.promises.specs.Written.{deepest, deepestOf}
+use Rattle.forms.specs.Written.{deepest, deepestOf}
 use Rattle.words.specs.Marks.{clear, digit}
 use Rattle.words.specs.Marked.{nth, marked}
 use Rattle.words.proofs.marks.Places.{by-digit, low-digit, clear-lt, digit-below}

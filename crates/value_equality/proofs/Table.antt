@@ -10,7 +10,7 @@ use native.Mathlib.Decide.{ℕ-discrete}
 use lib.ListN.{length, getD, set, length-set}
 use lib.Seq.{getD-set-same, getD-set-other}
 use lib.IntN.{ℤ}
-use Rattle.promises.specs.Written.{deepest}
+use Rattle.forms.specs.Written.{deepest}
 use Rattle.value_places.specs.Places.{valueAt, Target, Tag}
 use Rattle.value_equality.specs.declared.Level.{Level}
 use Rattle.value_equality.specs.Levels.{endedOf, outcomeOf, takenOf, firstOf, questionOf, comesTo, Open, Opens}

@@ -7,7 +7,7 @@ use lib.IntN.{ℤ, pos}
 use Rattle.rules.specs.Numbers.{plus}
 use Rattle.rules.specs.Forms.{Value, Values}
 use Rattle.rules.specs.Equality.{inOrder, equal, equalParts}
-use Rattle.promises.specs.Pairing.{greedy}
+use Rattle.forms.specs.Pairing.{greedy}
 use Rattle.words.specs.Words.{sameTo}
 use Rattle.words.specs.Marked.{nth}
 use Rattle.words.specs.Marks.{positions}

@@ -9,8 +9,8 @@ use lib.Seq.{getD-drop}
 use lib.IntN.{ℤ, pos, negsuc}
 use Rattle.rules.specs.Forms.{Value, int, collection, tupled, Values, empty, _▸_, count, words, wordsAll}
 use Rattle.rules.specs.Reading.{ok, readTarget}
-use Rattle.promises.specs.Written.{deepest, deepestOf, largest, Widths, length-words}
-use Rattle.promises.specs.ReadTarget.{target-read}
+use Rattle.forms.specs.Written.{deepest, deepestOf, largest, Widths, length-words}
+use Rattle.forms.specs.ReadTarget.{target-read}
 use Rattle.words.specs.Words.{tagZ, tagAt}
 use Rattle.value_places.specs.Places.{forest, headOf, valueAt, countBy, countAt, Target, Tag}
 use Rattle.value_places.specs.Held.{Held, heldAt, wholeAt}

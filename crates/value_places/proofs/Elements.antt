@@ -13,7 +13,7 @@ use Rattle.words.specs.Words.{tagZ, tagAt}
 use Rattle.words.proofs.Signed.{getD-any}
 use Rattle.words.specs.Marked.{nth}
 use Rattle.value_places.specs.Places.{firsts, node, forest, headOf, valueAt, elements, countBy, countAt, Target, Tag, Standing, hops, elementAt}
-use Rattle.promises.specs.Written.{length-words}
+use Rattle.forms.specs.Written.{length-words}
 use Rattle.value_places.proofs.Forest.{Here, here, is-here, hop-none, hop-one, standing-tag, standing-next}
 
 count-firsts : (n : ℕ) (vs : Values) → count (firsts n vs) ≤ count vs

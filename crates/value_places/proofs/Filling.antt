@@ -15,7 +15,7 @@ use Rattle.words.specs.Words.{tagZ, tagAt}
 use Rattle.words.proofs.Signed.{inside}
 use Rattle.value_places.specs.Places.{lasts, node, forest, valueAt, countBy, countAt, Target, Tag, Standing, elementAt}
 use Rattle.value_places.specs.Tables.{Ends, Filled, PlacesTo, Places}
-use Rattle.promises.specs.Written.{length-words-all}
+use Rattle.forms.specs.Written.{length-words-all}
 use Rattle.value_places.proofs.Forest.{flat-at, two-words, hop-none, hop-more, standing-tag, standing-next}
 use Rattle.value_places.proofs.Elements.{second, forest-at, standing-at}
 use Rattle.value_places.proofs.Counting.{tag-half}

@@ -7,7 +7,7 @@ use lib.ListN.{length, drop, length-append, length-drop}
 use lib.Seq.{drop-drop, drop-append-seam}
 use lib.IntN.{ℤ}
 use Rattle.rules.specs.Forms.{Value, int, collection, tupled, Values, empty, _▸_, count, words, wordsAll, size, sizeAll}
-use Rattle.promises.specs.Written.{deepest, deepestOf, largest, largestOf, IsWidth, Widths, WidthsAll, length-words, length-words-all}
+use Rattle.forms.specs.Written.{deepest, deepestOf, largest, largestOf, IsWidth, Widths, WidthsAll, length-words, length-words-all}
 use Rattle.value_places.specs.Places.{firsts, lasts, forest, headOf, valueAt, Target, Tag, Standing, hops}
 
 -- Values one after the other.

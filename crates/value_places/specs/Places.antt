@@ -6,7 +6,7 @@ use mathlib.Core.List.{List, [], _∷_}
 use lib.ListN.{length, drop}
 use lib.IntN.{ℤ, pos}
 use Rattle.rules.specs.Forms.{Value, int, collection, tupled, Values, empty, _▸_, count, wordsAll, sizeAll}
-use Rattle.promises.specs.Written.{deepest}
+use Rattle.forms.specs.Written.{deepest}
 use Rattle.words.specs.Words.{tagZ, tagAt}
 
 -- The first n values, and those after them.

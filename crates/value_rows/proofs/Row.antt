@@ -24,7 +24,7 @@ use Rattle.value_places.specs.Tables.{Ends, Places}
 use Rattle.value_places.specs.Held.{Held, heldAt, left, sizeLeft, wordsLeft, put, part}
 use Rattle.value_rows.specs.Row.{holds, bound, boundFrom, nothing, Bound}
 use Rattle.value_rows.specs.declared.Binding.{Binding}
-use Rattle.promises.specs.Written.{length-words}
+use Rattle.forms.specs.Written.{length-words}
 use Rattle.value_places.proofs.Forest.{is-here, two-words}
 use Rattle.value_places.proofs.Elements.{second, by-tag, int-at, collection-at, tag-small, slice-words}
 use Rattle.value_places.proofs.Held.{held-int, held-collection, held-tuple, held-tag, held-clear, held-some, left-none, next-in, next-less, next-tag, next-left}

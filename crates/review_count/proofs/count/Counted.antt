@@ -9,7 +9,7 @@ use lib.IntN.{ℤ}
 use Rattle.rules.specs.Fit.{isInteger}
 use Rattle.rules.specs.Review.{factor, summed, formula}
 use Rattle.rules.specs.Services.{accepted, Rule, ruleOf}
-use Rattle.promises.specs.Faults.{rule-accepted}
+use Rattle.forms.specs.Faults.{rule-accepted}
 use Rattle.program_rules.specs.Points.{Instr, Point}
 use Rattle.program_rules.specs.Program.{instrOf, pointAt, program}
 use Rattle.program_rules.specs.Length.{instrs, toCome}

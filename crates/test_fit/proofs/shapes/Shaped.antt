@@ -10,8 +10,8 @@ use lib.Dec.{eqb}
 use lib.ListN.{length, length-append}
 use lib.IntN.{ℤ}
 use Rattle.rules.specs.Forms.{Matcher, something, integer, list, multiset, tupleOf, Matchers, noMatchers, _▸ᵐ_, countᵐ}
-use Rattle.rules.specs.Fit.{solid, solidAll, sameShape, sameShapes, isInteger, ofCollection, ofTuple}
-use Rattle.promises.specs.Written.{matcherWords, matcherWordsAll, Widthsᵐ}
+use Rattle.rules.specs.Fit.{withoutSomething, allWithoutSomething, sameShape, sameShapes, isInteger, ofCollection, ofTuple}
+use Rattle.forms.specs.Written.{matcherWords, matcherWordsAll, Widthsᵐ}
 use Rattle.words.specs.Words.{tagAt}
 use Rattle.test_forms.specs.Ends.{within}
 use Rattle.test_forms.proofs.Turns.{is-width}
@@ -55,7 +55,7 @@ module _ (s : List ℤ) where
   Compares : Matcher → Matcher → Type 0
   Compares k l = (a b n all : ℕ) → all ≡ length (matcherWords k) + n → At s a k → At s b l
       → shapesP s all false a b
-      ≡ ((solid k && sameShape k l) && shapesP s n false (a + length (matcherWords k)) (b + length (matcherWords l)))
+      ≡ ((withoutSomething k && sameShape k l) && shapesP s n false (a + length (matcherWords k)) (b + length (matcherWords l)))
 
   on : (n : ℕ) {a a' b b' : ℕ} → a ≡ a' → b ≡ b' → shapesP s n false a b ≡ shapesP s n false a' b'
   on n p q = rw (p, q)
@@ -74,7 +74,7 @@ module _ (s : List ℤ) where
   inside : (k l : Matcher) → Compares k l → (a b n all x y : ℕ) → all ≡ suc (length (matcherWords k)) + n → tagAt s a ≡ x → tagAt s b ≡ y
       → tagFits x y ≡ true → eqb x 4 ≡ false → At s (a + 1) k → At s (b + 1) l
       → shapesP s all false a b
-      ≡ ((solid k && sameShape k l) && shapesP s n false (a + suc (length (matcherWords k))) (b + suc (length (matcherWords l))))
+      ≡ ((withoutSomething k && sameShape k l) && shapesP s n false (a + suc (length (matcherWords k))) (b + suc (length (matcherWords l))))
   unfolding shapesP wordFits widthNext Compares
   inside k l c a b n zero x y z p q e f g h = absurd (omega arith)
   inside k l c a b n (suc all) x y z p q e f g h =
@@ -85,9 +85,9 @@ module _ (s : List ℤ) where
   -- A tuple, and another.
   module _ (ks ls : Matchers) (a b n : ℕ) (p : At s a (tupleOf ks)) (q : At s b (tupleOf ls))
       (parts : countᵐ ks ≡ countᵐ ls → shapesP s (length (matcherWordsAll ks) + n) false (a + 2) (b + 2)
-      ≡ ((solidAll ks && sameShapes ks ls) && shapesP s n false (a + 2 + length (matcherWordsAll ks)) (b + 2 + length (matcherWordsAll ls)))) where
+      ≡ ((allWithoutSomething ks && sameShapes ks ls) && shapesP s n false (a + 2 + length (matcherWordsAll ks)) (b + 2 + length (matcherWordsAll ls)))) where
     tuples : (all : ℕ) → all ≡ suc (suc (length (matcherWordsAll ks))) + n → shapesP s all false a b
-        ≡ ((solidAll ks && sameShapes ks ls) && shapesP s n false (a + suc (suc (length (matcherWordsAll ks)))) (b + suc (suc (length (matcherWordsAll ls)))))
+        ≡ ((allWithoutSomething ks && sameShapes ks ls) && shapesP s n false (a + suc (suc (length (matcherWordsAll ks)))) (b + suc (suc (length (matcherWordsAll ls)))))
     unfolding shapesP wordFits widthNext widthFits tagFits within tagOf Widthsᵐ
     tuples all z =
         let w : all ≡ suc (suc (length (matcherWordsAll ks) + n)) = omega arith in
@@ -108,19 +108,19 @@ module _ (s : List ℤ) where
       where
         go : (e : Bool) → eqb (countᵐ ks) (countᵐ ls) ≡ e
             → (cond e (within 2 (countᵐ ks) 4) false && shapesP s (length (matcherWordsAll ks) + n) false (suc (a + 1)) (suc (b + 1)))
-            ≡ ((solidAll ks && sameShapes ks ls) && shapesP s n false (a + 2 + length (matcherWordsAll ks)) (b + 2 + length (matcherWordsAll ls)))
+            ≡ ((allWithoutSomething ks && sameShapes ks ls) && shapesP s n false (a + 2 + length (matcherWordsAll ks)) (b + 2 + length (matcherWordsAll ls)))
         go true e =
             let x : suc (a + 1) ≡ a + 2 = omega arith in
             let y : suc (b + 1) ≡ b + 2 = omega arith in
             rw (is-width (countᵐ ks) (p .wide .0), x, y) (parts (eqb-true (countᵐ ks) (countᵐ ls) e))
-        go false e = rw (unequal ks ls (eqb-false (countᵐ ks) (countᵐ ls) e), and-false (solidAll ks))
+        go false e = rw (unequal ks ls (eqb-false (countᵐ ks) (countᵐ ls) e), and-false (allWithoutSomething ks))
 
   nothing : (a x : Bool) → false ≡ ((a && false) && x)
   nothing true x = refl
   nothing false x = refl
 
   mutual
-    unfolding Compares matcherWords solid sameShape isInteger ofCollection ofTuple tagOf tagFits within countᵐ
+    unfolding Compares matcherWords withoutSomething sameShape isInteger ofCollection ofTuple tagOf tagFits within countᵐ
 
     compared : (k l : Matcher) → Compares k l
     compared something l a b n all z p q = parted all a b 0 _ (omega arith) (at-tag s a something p) refl (no-something (tagAt s b))
@@ -129,25 +129,25 @@ module _ (s : List ℤ) where
     compared integer (list l) a b n all z p q = parted all a b 1 2 (omega arith) (at-tag s a _ p) (at-tag s b _ q) refl
     compared integer (multiset l) a b n all z p q = parted all a b 1 3 (omega arith) (at-tag s a _ p) (at-tag s b _ q) refl
     compared integer (tupleOf ls) a b n all z p q = parted all a b 1 4 (omega arith) (at-tag s a _ p) (at-tag s b _ q) refl
-    compared (list k) something a b n all z p q = parted all a b 2 0 (omega arith) (at-tag s a _ p) (at-tag s b _ q) refl ∙ nothing (solid k) _
-    compared (list k) integer a b n all z p q = parted all a b 2 1 (omega arith) (at-tag s a _ p) (at-tag s b _ q) refl ∙ nothing (solid k) _
+    compared (list k) something a b n all z p q = parted all a b 2 0 (omega arith) (at-tag s a _ p) (at-tag s b _ q) refl ∙ nothing (withoutSomething k) _
+    compared (list k) integer a b n all z p q = parted all a b 2 1 (omega arith) (at-tag s a _ p) (at-tag s b _ q) refl ∙ nothing (withoutSomething k) _
     compared (list k) (list l) a b n all z p q = inside k l (compared k l) a b n all 2 2 z (at-tag s a _ p) (at-tag s b _ q) refl refl (at-list s a k p) (at-list s b l q)
     compared (list k) (multiset l) a b n all z p q = inside k l (compared k l) a b n all 2 3 z (at-tag s a _ p) (at-tag s b _ q) refl refl (at-list s a k p) (at-multiset s b l q)
-    compared (list k) (tupleOf ls) a b n all z p q = parted all a b 2 4 (omega arith) (at-tag s a _ p) (at-tag s b _ q) refl ∙ nothing (solid k) _
-    compared (multiset k) something a b n all z p q = parted all a b 3 0 (omega arith) (at-tag s a _ p) (at-tag s b _ q) refl ∙ nothing (solid k) _
-    compared (multiset k) integer a b n all z p q = parted all a b 3 1 (omega arith) (at-tag s a _ p) (at-tag s b _ q) refl ∙ nothing (solid k) _
+    compared (list k) (tupleOf ls) a b n all z p q = parted all a b 2 4 (omega arith) (at-tag s a _ p) (at-tag s b _ q) refl ∙ nothing (withoutSomething k) _
+    compared (multiset k) something a b n all z p q = parted all a b 3 0 (omega arith) (at-tag s a _ p) (at-tag s b _ q) refl ∙ nothing (withoutSomething k) _
+    compared (multiset k) integer a b n all z p q = parted all a b 3 1 (omega arith) (at-tag s a _ p) (at-tag s b _ q) refl ∙ nothing (withoutSomething k) _
     compared (multiset k) (list l) a b n all z p q = inside k l (compared k l) a b n all 3 2 z (at-tag s a _ p) (at-tag s b _ q) refl refl (at-multiset s a k p) (at-list s b l q)
     compared (multiset k) (multiset l) a b n all z p q = inside k l (compared k l) a b n all 3 3 z (at-tag s a _ p) (at-tag s b _ q) refl refl (at-multiset s a k p) (at-multiset s b l q)
-    compared (multiset k) (tupleOf ls) a b n all z p q = parted all a b 3 4 (omega arith) (at-tag s a _ p) (at-tag s b _ q) refl ∙ nothing (solid k) _
-    compared (tupleOf ks) something a b n all z p q = parted all a b 4 0 (omega arith) (at-tag s a _ p) (at-tag s b _ q) refl ∙ nothing (solidAll ks) _
-    compared (tupleOf ks) integer a b n all z p q = parted all a b 4 1 (omega arith) (at-tag s a _ p) (at-tag s b _ q) refl ∙ nothing (solidAll ks) _
-    compared (tupleOf ks) (list l) a b n all z p q = parted all a b 4 2 (omega arith) (at-tag s a _ p) (at-tag s b _ q) refl ∙ nothing (solidAll ks) _
-    compared (tupleOf ks) (multiset l) a b n all z p q = parted all a b 4 3 (omega arith) (at-tag s a _ p) (at-tag s b _ q) refl ∙ nothing (solidAll ks) _
+    compared (multiset k) (tupleOf ls) a b n all z p q = parted all a b 3 4 (omega arith) (at-tag s a _ p) (at-tag s b _ q) refl ∙ nothing (withoutSomething k) _
+    compared (tupleOf ks) something a b n all z p q = parted all a b 4 0 (omega arith) (at-tag s a _ p) (at-tag s b _ q) refl ∙ nothing (allWithoutSomething ks) _
+    compared (tupleOf ks) integer a b n all z p q = parted all a b 4 1 (omega arith) (at-tag s a _ p) (at-tag s b _ q) refl ∙ nothing (allWithoutSomething ks) _
+    compared (tupleOf ks) (list l) a b n all z p q = parted all a b 4 2 (omega arith) (at-tag s a _ p) (at-tag s b _ q) refl ∙ nothing (allWithoutSomething ks) _
+    compared (tupleOf ks) (multiset l) a b n all z p q = parted all a b 4 3 (omega arith) (at-tag s a _ p) (at-tag s b _ q) refl ∙ nothing (allWithoutSomething ks) _
     compared (tupleOf ks) (tupleOf ls) a b n all z p q = tuples ks ls a b n p q (λ e. comparedAll ks ls (a + 2) (b + 2) n _ refl (at-parts s a ks p) (at-parts s b ls q) e) all z
 
     comparedAll : (ks ls : Matchers) (a b n all : ℕ) → all ≡ length (matcherWordsAll ks) + n → AtAll s a ks → AtAll s b ls → countᵐ ks ≡ countᵐ ls
         → shapesP s all false a b
-        ≡ ((solidAll ks && sameShapes ks ls) && shapesP s n false (a + length (matcherWordsAll ks)) (b + length (matcherWordsAll ls)))
+        ≡ ((allWithoutSomething ks && sameShapes ks ls) && shapesP s n false (a + length (matcherWordsAll ks)) (b + length (matcherWordsAll ls)))
     comparedAll noMatchers noMatchers a b n all z p q e = let w : all ≡ n = omega arith in rw w (on n (omega arith) (omega arith))
     comparedAll noMatchers (l ▸ᵐ ls) a b n all z p q e = absurd (omega arith)
     comparedAll (k ▸ᵐ ks) noMatchers a b n all z p q e = absurd (omega arith)
@@ -156,11 +156,11 @@ module _ (s : List ℤ) where
         let v : b + length (matcherWords l) + length (matcherWordsAll ls) ≡ b + length (matcherWords l ++ matcherWordsAll ls) = omega (arith, length-append (matcherWords l) (matcherWordsAll ls)) in
         rw (← u, ← v)
         (compared k l a b (length (matcherWordsAll ks) + n) all (omega (arith, length-append (matcherWords k) (matcherWordsAll ks))) (at-first s a k ks p) (at-first s b l ls q)
-        ∙ ap (λ (x : Bool). (solid k && sameShape k l) && x)
+        ∙ ap (λ (x : Bool). (withoutSomething k && sameShape k l) && x)
         (comparedAll ks ls (a + length (matcherWords k)) (b + length (matcherWords l)) n _ refl (at-others s a k ks p) (at-others s b l ls q) (omega arith))
-        ∙ four (solid k) (sameShape k l) (solidAll ks) (sameShapes ks ls) _)
+        ∙ four (withoutSomething k) (sameShape k l) (allWithoutSomething ks) (sameShapes ks ls) _)
 
-  pub shaped : (k l : Matcher) (i j : ℕ) → At s i k → At s j l → shapes s i j ≡ (solid k && sameShape k l)
+  pub shaped : (k l : Matcher) (i j : ℕ) → At s i k → At s j l → shapes s i j ≡ (withoutSomething k && sameShape k l)
   unfolding shapes shapesP Compares
   shaped k l i j p q =
-      rw (at-end s i k p) (compared k l i j 0 (i + length (matcherWords k) - i) (omega arith) p q ∙ and-true (solid k && sameShape k l))
+      rw (at-end s i k p) (compared k l i j 0 (i + length (matcherWords k) - i) (omega arith) p q ∙ and-true (withoutSomething k && sameShape k l))

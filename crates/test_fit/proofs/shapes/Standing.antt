@@ -10,8 +10,8 @@ use lib.IntN.{ℤ, pos, negsuc}
 use Rattle.rules.specs.Forms.{Matcher, something, integer, list, multiset, tupleOf, Matchers, _▸ᵐ_, countᵐ}
 use Rattle.rules.specs.Reading.{ok, readMatcher}
 use Rattle.rules.specs.Fit.{takes, tagsOf, among, element, members}
-use Rattle.promises.specs.Written.{matcherWords, matcherWordsAll, Widthsᵐ, WidthsAllᵐ}
-use Rattle.promises.specs.ReadMatcher.{matcher-read}
+use Rattle.forms.specs.Written.{matcherWords, matcherWordsAll, Widthsᵐ, WidthsAllᵐ}
+use Rattle.forms.specs.ReadMatcher.{matcher-read}
 use Rattle.words.specs.Words.{tagZ, tagAt}
 use Rattle.matchers.specs.Places.{matcherEnd}
 use Rattle.matchers.proofs.Matchers.{end-words}

@@ -11,9 +11,9 @@ use lib.ListN.{length, drop, getElem?}
 use Rattle.rules.specs.Forms.{Matcher, something, integer, list, multiset, tupleOf, Matchers, noMatchers, _▸ᵐ_}
 use Rattle.rules.specs.Reading.{Reader, fault, MatcherTag, bare, of, ofAll, _then_, _>>=_, give, known, width}
 use Rattle.rules.specs.Reading.{matcher, matcherTags, matcherParts}
-use Rattle.promises.specs.Written.{matcherWords, levels, Widthsᵐ}
-use Rattle.promises.specs.Readers.{Complete}
-use Rattle.promises.specs.ReadMatcher.{matcher-sound, matcher-complete}
+use Rattle.forms.specs.Written.{matcherWords, levels, Widthsᵐ}
+use Rattle.forms.specs.Readers.{Complete}
+use Rattle.forms.specs.ReadMatcher.{matcher-sound, matcher-complete}
 use Rattle.words.specs.Words.{tagAt}
 use Rattle.test_forms.specs.Ends.{endOf, inRow, within}
 use Rattle.test_forms.specs.Matchers.{matcherFrom}

@@ -14,9 +14,9 @@ use lib.IntN.{ℤ}
 use Rattle.rules.specs.Forms.{Pattern, Patterns, noPatterns, _▸ᵖ_}
 use Rattle.rules.specs.Reading.{Verdict, ok, fault, _then_, Got, Reader, give, _>>=_, known, word, entry, ended, whole, limited}
 use Rattle.rules.specs.Reading.{PatternTag, alone, operand, operands, inner, parts, wide, patternTags, patternParts, width, times, pattern, readPattern}
-use Rattle.promises.specs.Readers.{Sound}
-use Rattle.promises.specs.ReadPattern.{pattern-sound}
-use Rattle.promises.specs.Written.{patternWords}
+use Rattle.forms.specs.Readers.{Sound}
+use Rattle.forms.specs.ReadPattern.{pattern-sound}
+use Rattle.forms.specs.Written.{patternWords}
 use Rattle.words.specs.Words.{tagZ}
 use Rattle.test_forms.specs.Tests.{tested}
 use Rattle.test_forms.specs.Ends.{within}

@@ -10,9 +10,9 @@ use Rattle.rules.specs.Numbers.{same}
 use Rattle.rules.specs.Forms.{Pattern, wildcard, nil, variable, constant, value, cons, join, tuple, both, either, never, Patterns, noPatterns, _▸ᵖ_, span}
 use Rattle.rules.specs.Reading.{Verdict, ok, _then_}
 use Rattle.rules.specs.Variables.{demand, isNext, isLeft, variables, variablesAll}
-use Rattle.promises.specs.Tests.{and-split}
-use Rattle.promises.specs.Readers.{then-ok}
-use Rattle.promises.specs.Written.{variableTags, variableTagsAll}
+use Rattle.forms.specs.Tests.{and-split}
+use Rattle.forms.specs.Readers.{then-ok}
+use Rattle.forms.specs.Written.{variableTags, variableTagsAll}
 
 pub demand-ok : {A : Type 0} (b : Bool) (at : ℕ) (a x : A) → demand b at a ≡ ok x → T b × (a ≡ x)
 unfolding demand
@@ -32,30 +32,30 @@ found-then x f n s t k h g e =
 mutual
   unfolding variables variableTags isNext
 
-  pub variables-found : (p : Pattern) (may : Bool) (at n k : ℕ) → variables p may at n ≡ ok k → Found n (variableTags p) k
-  variables-found wildcard may at n k e = let q : n ≡ k = cc in omega arith
-  variables-found nil may at n k e = let q : n ≡ k = cc in omega arith
-  variables-found (variable v) may at n k e =
-      let d = demand-ok (may && isNext v n) at (suc n) k e in
-      let l = ltb→lt n 16 (and-split (same v (pos n)) _ (and-split may (isNext v n) (d .0) .1) .1) in
+  pub variables-found : (p : Pattern) (mayBind : Bool) (at n k : ℕ) → variables p mayBind at n ≡ ok k → Found n (variableTags p) k
+  variables-found wildcard mayBind at n k e = let q : n ≡ k = cc in omega arith
+  variables-found nil mayBind at n k e = let q : n ≡ k = cc in omega arith
+  variables-found (variable v) mayBind at n k e =
+      let d = demand-ok (mayBind && isNext v n) at (suc n) k e in
+      let l = ltb→lt n 16 (and-split (same v (pos n)) _ (and-split mayBind (isNext v n) (d .0) .1) .1) in
       omega arith
-  variables-found (constant c) may at n k e = let q : n ≡ k = cc in omega arith
-  variables-found (value v c) may at n k e = let q = demand-ok (isLeft v n) at n k e .1 in omega arith
-  variables-found (cons p q) may at n k e = found-then (variables p may (at + 1) n) (λ i. variables q may (at + 1 + span p) i) n (variableTags p) (variableTags q) k
-      (λ i x. variables-found p may (at + 1) n i x) (λ i x. variables-found q may (at + 1 + span p) i k x) e
-  variables-found (join p q) may at n k e = found-then (variables p may (at + 1) n) (λ i. variables q may (at + 1 + span p) i) n (variableTags p) (variableTags q) k
-      (λ i x. variables-found p may (at + 1) n i x) (λ i x. variables-found q may (at + 1 + span p) i k x) e
-  variables-found (both p q) may at n k e = found-then (variables p may (at + 1) n) (λ i. variables q may (at + 1 + span p) i) n (variableTags p) (variableTags q) k
-      (λ i x. variables-found p may (at + 1) n i x) (λ i x. variables-found q may (at + 1 + span p) i k x) e
-  variables-found (either p q) may at n k e = found-then (variables p false (at + 1) n) (λ i. variables q false (at + 1 + span p) i) n (variableTags p) (variableTags q) k
+  variables-found (constant c) mayBind at n k e = let q : n ≡ k = cc in omega arith
+  variables-found (value v c) mayBind at n k e = let q = demand-ok (isLeft v n) at n k e .1 in omega arith
+  variables-found (cons p q) mayBind at n k e = found-then (variables p mayBind (at + 1) n) (λ i. variables q mayBind (at + 1 + span p) i) n (variableTags p) (variableTags q) k
+      (λ i x. variables-found p mayBind (at + 1) n i x) (λ i x. variables-found q mayBind (at + 1 + span p) i k x) e
+  variables-found (join p q) mayBind at n k e = found-then (variables p mayBind (at + 1) n) (λ i. variables q mayBind (at + 1 + span p) i) n (variableTags p) (variableTags q) k
+      (λ i x. variables-found p mayBind (at + 1) n i x) (λ i x. variables-found q mayBind (at + 1 + span p) i k x) e
+  variables-found (both p q) mayBind at n k e = found-then (variables p mayBind (at + 1) n) (λ i. variables q mayBind (at + 1 + span p) i) n (variableTags p) (variableTags q) k
+      (λ i x. variables-found p mayBind (at + 1) n i x) (λ i x. variables-found q mayBind (at + 1 + span p) i k x) e
+  variables-found (either p q) mayBind at n k e = found-then (variables p false (at + 1) n) (λ i. variables q false (at + 1 + span p) i) n (variableTags p) (variableTags q) k
       (λ i x. variables-found p false (at + 1) n i x) (λ i x. variables-found q false (at + 1 + span p) i k x) e
-  variables-found (never p) may at n k e = variables-found p false (at + 1) n k e
-  variables-found (tuple ps) may at n k e = variables-found-all ps may (at + 2) n k e
+  variables-found (never p) mayBind at n k e = variables-found p false (at + 1) n k e
+  variables-found (tuple ps) mayBind at n k e = variables-found-all ps mayBind (at + 2) n k e
 
-  variables-found-all : (ps : Patterns) (may : Bool) (at n k : ℕ) → variablesAll ps may at n ≡ ok k → Found n (variableTagsAll ps) k
-  variables-found-all noPatterns may at n k e = let q : n ≡ k = cc in omega arith
-  variables-found-all (p ▸ᵖ ps) may at n k e = found-then (variables p may at n) (λ i. variablesAll ps may (at + span p) i) n (variableTags p) (variableTagsAll ps) k
-      (λ i x. variables-found p may at n i x) (λ i x. variables-found-all ps may (at + span p) i k x) e
+  variables-found-all : (ps : Patterns) (mayBind : Bool) (at n k : ℕ) → variablesAll ps mayBind at n ≡ ok k → Found n (variableTagsAll ps) k
+  variables-found-all noPatterns mayBind at n k e = let q : n ≡ k = cc in omega arith
+  variables-found-all (p ▸ᵖ ps) mayBind at n k e = found-then (variables p mayBind at n) (λ i. variablesAll ps mayBind (at + span p) i) n (variableTags p) (variableTagsAll ps) k
+      (λ i x. variables-found p mayBind at n i x) (λ i x. variables-found-all ps mayBind (at + span p) i k x) e
 
 -- ---- Inside an or or a not no variable stands.
 

@@ -5,15 +5,15 @@ use mathlib.Core.Bool.{Bool, true, false}
 use mathlib.Core.Logic.{_↔_, inl, inr, ⊎-elim}
 use mathlib.Core.List.{List, [], _∷_, _++_, map, List·Memᴰ·head, List·Memᴰ·tail, List·Memᴰ·not-nil, List·Memᴰ·append-cases, List·Memᴰ·eq-of-singleton, Memᴰ·cast, Memᴰ·map, Memᴰ·of-map, Memᴰ·append-left, Memᴰ·append-right}
 use lib.Dec.{T}
 use Rattle.rules.specs.Forms.{Matcher, Matchers, noMatchers, _▸ᵐ_, Value, int, collection, tupled, Values, empty, _▸_}
 use Rattle.rules.specs.Forms.{Pattern, wildcard, nil, variable, constant, value, cons, join, tuple, both, either, never, Patterns, noPatterns, _▸ᵖ_}
 use Rattle.rules.specs.Fit.{element, members}
 use Rattle.rules.specs.Equality.{Bindings, isConstant, isValue, isEmpty}
 use Rattle.rules.specs.Search.{Halves, consHalves, joinHalves}
-use Rattle.rules.specs.Ways.{Way, ConsBy, JoinBy, Both, Next, Side, Follows, FollowsAll, Good}
-use Rattle.rules.specs.Lists.{Mem, mem-flatMap, of-flatMap}
-use Rattle.rules.specs.Following.{Solution, Numbered, numbered, isMultiset, mark, extend, chain, onSide, combine, just, whenSo, none, solve, solveEach, goodWays}
-use Rattle.rules.specs.Choices.{Made, cons-sound, cons-complete, join-sound, join-complete}
+use Rattle.rules.specs.Ways.{Way, ConsBy, JoinBy, Halved, Next, Side, Follows, FollowsAll, Good}
+use Rattle.forms.specs.Lists.{Mem, mem-flatMap, of-flatMap}
+use Rattle.rules.specs.Following.{Solution, Numbered, numbered, isMultiset, mark, extend, chain, onSide, combine, just, whenSo, noSolution, solve, solveEach, goodWays}
+use Rattle.promises.specs.Choices.{Made, cons-sound, cons-complete, join-sound, join-complete}
 
 abbrev pub solution : Way → Bindings → Solution
 solution w d = record { way = w; bound = d }
@@ -57,12 +57,12 @@ when-complete false e w d t p q = absurd t
 module _ (b : Bool) (hs : List Halves) (By : Way → Value → Value → Type 0)
     (First Second : Value → Bindings → Way → Bindings → Type 0) (e : Bindings)
     (f : Value → List Solution) (g : Value → Bindings → List Solution) where
-  both-sound : ((c : Numbered) → Mem c (numbered hs) → By (mark b (c .no)) (c .halves .first) (c .halves .second))
+  halved-sound : ((c : Numbered) → Mem c (numbered hs) → By (mark b (c .no)) (c .halves .first) (c .halves .second))
       → ((a : Value) (s : Solution) → Mem s (f a) → First a e (s .way) (s .bound))
       → ((a : Value) (d : Bindings) (s : Solution) → Mem s (g a d) → Second a d (s .way) (s .bound))
-      → (s : Solution) → Mem s (combine b f g hs) → Both By First Second e (s .way) (s .bound)
+      → (s : Solution) → Mem s (combine b f g hs) → Halved By First Second e (s .way) (s .bound)
   unfolding combine extend
-  both-sound made hf hg s i =
+  halved-sound made hf hg s i =
       let x = of-flatMap _ (numbered hs) i in
       let y = of-chain (mark b (x .0 .no)) (f (x .0 .halves .first)) (g (x .0 .halves .second)) s (x .2) in
       record {
@@ -79,12 +79,12 @@ module _ (b : Bool) (hs : List Halves) (By : Way → Value → Value → Type 0)
         way = ap (λ (t : Solution). t .way) (y .4);
       }
 
-  both-complete : ((here : Way) (x y : Value) → By here x y → Made b hs here x y)
+  halved-complete : ((here : Way) (x y : Value) → By here x y → Made b hs here x y)
       → ((a : Value) (w : Way) (d : Bindings) → First a e w d → Mem (solution w d) (f a))
       → ((a : Value) (c : Bindings) (w : Way) (d : Bindings) → Second a c w d → Mem (solution w d) (g a c))
-      → (w : Way) (d : Bindings) → Both By First Second e w d → Mem (solution w d) (combine b f g hs)
+      → (w : Way) (d : Bindings) → Halved By First Second e w d → Mem (solution w d) (combine b f g hs)
   unfolding combine extend
-  both-complete made hf hg w d h =
+  halved-complete made hf hg w d h =
       let c = made (h .here) (h .a) (h .b) (h .divided) in
       Memᴰ·cast (ap (λ x. solution x d) (sym (h .way) ∙ ap (λ x. x ++ (h .one ++ h .two)) (sym (c .way))))
       (mem-flatMap _ (c .member)
@@ -138,15 +138,15 @@ side-complete k In ss h w d s = Memᴰ·cast (ap (λ x. solution x d) (sym (s .w
 
 -- ---- No way at all, inside a not.
 
-none-sound : (ss : List Solution) → T (none ss) → (s : Solution) → Mem s ss → ⊥
-unfolding none
-none-sound [] t s i = List·Memᴰ·not-nil i
-none-sound (r ∷ ss) t s i = t
+noSolution-sound : (ss : List Solution) → T (noSolution ss) → (s : Solution) → Mem s ss → ⊥
+unfolding noSolution
+noSolution-sound [] t s i = List·Memᴰ·not-nil i
+noSolution-sound (r ∷ ss) t s i = t
 
-none-complete : (ss : List Solution) → ((s : Solution) → Mem s ss → ⊥) → T (none ss)
-unfolding none
-none-complete [] h = tt
-none-complete (s ∷ ss) h = absurd (h s (List·Memᴰ·head refl))
+noSolution-complete : (ss : List Solution) → ((s : Solution) → Mem s ss → ⊥) → T (noSolution ss)
+unfolding noSolution
+noSolution-complete [] h = tt
+noSolution-complete (s ∷ ss) h = absurd (h s (List·Memᴰ·head refl))
 
 -- ---- Sound and complete.
 
@@ -160,10 +160,10 @@ mutual
   sound (constant c) m v e s i = when-sound (isConstant c v) e s i
   sound (value x c) m v e s i = when-sound (isValue m e x c v) e s i
   sound (cons p q) m v e s i =
-      both-sound (isMultiset m) (consHalves m v) (ConsBy m v) (Follows p (element m)) (Follows q m) e (λ a. solve p (element m) a e) (solve q m)
+      halved-sound (isMultiset m) (consHalves m v) (ConsBy m v) (Follows p (element m)) (Follows q m) e (λ a. solve p (element m) a e) (solve q m)
       (cons-sound m v) (λ a t j. sound p (element m) a e t j) (λ a d t j. sound q m a d t j) s i
   sound (join p q) m v e s i =
-      both-sound true (joinHalves v) (JoinBy v) (Follows p m) (Follows q m) e (λ a. solve p m a e) (solve q m)
+      halved-sound true (joinHalves v) (JoinBy v) (Follows p m) (Follows q m) e (λ a. solve p m a e) (solve q m)
       (join-sound v) (λ a t j. sound p m a e t j) (λ a d t j. sound q m a d t j) s i
   sound (tuple ps) m (int x) e s i = absurd (List·Memᴰ·not-nil i)
   sound (tuple ps) m (collection vs) e s i = absurd (List·Memᴰ·not-nil i)
@@ -175,8 +175,8 @@ mutual
       (λ j. inr (side-sound 1 (Follows q m v e) (solve q m v e) (λ t l. sound q m v e t l) s j))
       (List·Memᴰ·append-cases (map (onSide 0) (solve p m v e)) i)
   sound (never p) m v e s i =
-      let r = when-sound (none (solve p m v e)) e s i in
-      ((λ u c h. none-sound (solve p m v e) (r .0) (solution u c) (complete p m v e u c h)), r .1, r .2)
+      let r = when-sound (noSolution (solve p m v e)) e s i in
+      ((λ u c h. noSolution-sound (solve p m v e) (r .0) (solution u c) (complete p m v e u c h)), r .1, r .2)
 
   sound-each : (ps : Patterns) (ms : Matchers) (vs : Values) (e : Bindings) (s : Solution) → Mem s (solveEach ps ms vs e)
       → FollowsAll ps ms vs e (s .way) (s .bound)
@@ -194,10 +194,10 @@ mutual
   complete (constant c) m v e w d h = when-complete (isConstant c v) e w d (h .0) (h .1) (h .2)
   complete (value x c) m v e w d h = when-complete (isValue m e x c v) e w d (h .0) (h .1) (h .2)
   complete (cons p q) m v e w d h =
-      both-complete (isMultiset m) (consHalves m v) (ConsBy m v) (Follows p (element m)) (Follows q m) e (λ a. solve p (element m) a e) (solve q m)
+      halved-complete (isMultiset m) (consHalves m v) (ConsBy m v) (Follows p (element m)) (Follows q m) e (λ a. solve p (element m) a e) (solve q m)
       (cons-complete m v) (λ a u c j. complete p (element m) a e u c j) (λ a b u c j. complete q m a b u c j) w d h
   complete (join p q) m v e w d h =
-      both-complete true (joinHalves v) (JoinBy v) (Follows p m) (Follows q m) e (λ a. solve p m a e) (solve q m)
+      halved-complete true (joinHalves v) (JoinBy v) (Follows p m) (Follows q m) e (λ a. solve p m a e) (solve q m)
       (join-complete v) (λ a u c j. complete p m a e u c j) (λ a b u c j. complete q m a b u c j) w d h
   complete (tuple ps) m (int x) e w d h = absurd h
   complete (tuple ps) m (collection vs) e w d h = absurd h
@@ -208,8 +208,8 @@ mutual
       (side-complete 0 (Follows p m v e) (solve p m v e) (λ u c j. complete p m v e u c j) w d h)
   complete (either p q) m v e w d (inr h) = Memᴰ·append-right (map (onSide 0) (solve p m v e))
       (side-complete 1 (Follows q m v e) (solve q m v e) (λ u c j. complete q m v e u c j) w d h)
-  complete (never p) m v e w d h = when-complete (none (solve p m v e)) e w d
-      (none-complete (solve p m v e) (λ s i. h .0 (s .way) (s .bound) (sound p m v e s i))) (h .1) (h .2)
+  complete (never p) m v e w d h = when-complete (noSolution (solve p m v e)) e w d
+      (noSolution-complete (solve p m v e) (λ s i. h .0 (s .way) (s .bound) (sound p m v e s i))) (h .1) (h .2)
 
   complete-each : (ps : Patterns) (ms : Matchers) (vs : Values) (e : Bindings) (w : Way) (d : Bindings) → FollowsAll ps ms vs e w d
       → Mem (solution w d) (solveEach ps ms vs e)

@@ -10,9 +10,9 @@ use lib.Seq.{take-append-seam}
 use lib.IntN.{ℤ, pos}
 use Rattle.rules.specs.Forms.{Value, Values, count, words, wordsAll}
 use Rattle.rules.specs.Reading.{ok, readTarget}
-use Rattle.rules.specs.Causes.{Cause, overLength, unknownTag, badCount, tooDeep, cutShort, leftOver, badWidth, numbered}
-use Rattle.promises.specs.Written.{deepest, deepestOf, largest, largestOf, Widths, WidthsAll, IsWidth}
-use Rattle.promises.specs.ReadTarget.{target-read}
+use Rattle.rules.specs.Causes.{Cause, overLength, unknownTag, badCount, tooDeep, cutShort, leftOver, badWidth, causeNumber}
+use Rattle.forms.specs.Written.{deepest, deepestOf, largest, largestOf, Widths, WidthsAll, IsWidth}
+use Rattle.forms.specs.ReadTarget.{target-read}
 
 -- ---- What a cause says.
 
@@ -58,8 +58,8 @@ pub data Wrong (ts : List ℤ) : (place : ℕ) → Cause → Type 0 where
 
 -- ---- The numbers of the causes.
 
-pub number-range : (c : Cause) → (1 ≤ numbered c) × (numbered c ≤ 7)
-unfolding numbered
+pub number-range : (c : Cause) → (1 ≤ causeNumber c) × (causeNumber c ≤ 7)
+unfolding causeNumber
 number-range overLength = omega arith
 number-range unknownTag = omega arith
 number-range badCount = omega arith
@@ -71,8 +71,8 @@ number-range badWidth = omega arith
 named : ℕ → Cause
 named n = getD (overLength ∷ overLength ∷ unknownTag ∷ badCount ∷ tooDeep ∷ cutShort ∷ leftOver ∷ badWidth ∷ []) n overLength
 
-named-is : (c : Cause) → named (numbered c) ≡ c
-unfolding named numbered
+named-is : (c : Cause) → named (causeNumber c) ≡ c
+unfolding named causeNumber
 named-is overLength = refl
 named-is unknownTag = refl
 named-is badCount = refl
@@ -81,7 +81,7 @@ named-is cutShort = refl
 named-is leftOver = refl
 named-is badWidth = refl
 
-pub number-once : (c d : Cause) → numbered c ≡ numbered d → c ≡ d
+pub number-once : (c d : Cause) → causeNumber c ≡ causeNumber d → c ≡ d
 number-once c d e = sym (named-is c) ∙ ap named e ∙ named-is d
 
 -- ---- What a cause says of the words at its place.

@@ -11,12 +11,12 @@ use Rattle.rules.specs.Forms.{Value, collection, tupled, Values, empty, _▸_, 
 use Rattle.rules.specs.Reading.{Verdict, ok, fault, _then_, Got, give, _>>=_, known, word, entry, times}
 use Rattle.rules.specs.Reading.{targetTags, targetParts, width, atMost64, target}
 use Rattle.rules.specs.Causes.{Cause, badCount, cutShort, badWidth, Look, well, wrong, _thence_, inTurn, see, kinds, anyWord, innermost, opened, value}
-use Rattle.promises.specs.Written.{deepest, largest, Widths, IsWidth}
-use Rattle.promises.specs.Readers.{got, Sound, not-some}
-use Rattle.promises.specs.Counted.{width-only, width-is, at-most-only, at-most-is}
-use Rattle.promises.specs.ReadTarget.{target-sound, target-complete}
-use Rattle.promises.specs.Wrong.{Outside, Heads, ofCollection, ofTuple, Within, Awaits, outermost, inside, Spot}
-use Rattle.promises.specs.Wrong.{notTag, notCount, deepCollection, deepTuple, noTag, noInteger, noCount, noWidth, notWidth}
+use Rattle.forms.specs.Written.{deepest, largest, Widths, IsWidth}
+use Rattle.forms.specs.Readers.{got, Sound, not-some}
+use Rattle.forms.specs.Counted.{width-only, width-is, at-most-only, at-most-is}
+use Rattle.forms.specs.ReadTarget.{target-sound, target-complete}
+use Rattle.forms.specs.Wrong.{Outside, Heads, ofCollection, ofTuple, Within, Awaits, outermost, inside, Spot}
+use Rattle.forms.specs.Wrong.{notTag, notCount, deepCollection, deepTuple, noTag, noInteger, noCount, noWidth, notWidth}
 
 -- ---- Words that are no count and no width.
 

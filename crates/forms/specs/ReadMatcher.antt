@@ -12,10 +12,10 @@ use lib.IntN.{ℤ, pos, negsuc}
 use Rattle.rules.specs.Forms.{Matcher, something, integer, list, multiset, tupleOf, Matchers, noMatchers, _▸ᵐ_, countᵐ}
 use Rattle.rules.specs.Reading.{ok, fault, _then_, Got, Reader, give, entry, width, whole}
 use Rattle.rules.specs.Reading.{MatcherTag, bare, of, ofAll, matcherTags, matcherParts, matcher, readMatcher}
-use Rattle.promises.specs.Written.{matcherWords, matcherWordsAll, levels, levelsAll, IsWidth, Widthsᵐ, WidthsAllᵐ}
-use Rattle.promises.specs.Readers.{got, Took, Sound, Complete, of-some, not-some, bind-ok, gives, moved, none-read, tagged-sound}
-use Rattle.promises.specs.Readers.{whole-sound, whole-complete, limited-ok}
-use Rattle.promises.specs.Counted.{width-only, width-is, Row, Gathers, Opens, counted-sound, counted-complete}
+use Rattle.forms.specs.Written.{matcherWords, matcherWordsAll, levels, levelsAll, IsWidth, Widthsᵐ, WidthsAllᵐ}
+use Rattle.forms.specs.Readers.{got, Took, Sound, Complete, of-some, not-some, bind-ok, gives, moved, none-read, tagged-sound}
+use Rattle.forms.specs.Readers.{whole-sound, whole-complete, limited-ok}
+use Rattle.forms.specs.Counted.{width-only, width-is, Row, Gathers, Opens, counted-sound, counted-complete}
 
 -- Within the limits: the levels, and the widths of tuples.
 abbrev Within : ℕ → Matcher → Type 0

@@ -12,10 +12,10 @@ use lib.IntN.{ℤ, pos, negsuc}
 use Rattle.rules.specs.Forms.{Value, int, collection, tupled, Values, empty, _▸_, count, words, wordsAll}
 use Rattle.rules.specs.Reading.{ok, fault, Got, Reader, give, word, entry, whole}
 use Rattle.rules.specs.Reading.{TargetTag, one, many, targetTags, width, atMost64, targetParts, target, readTarget}
-use Rattle.promises.specs.Written.{deepest, deepestOf, largest, largestOf, Widths, WidthsAll}
-use Rattle.promises.specs.Readers.{got, Took, Sound, Complete, of-some, not-some, bind-ok, word-ok, gives, moved, none-read, tagged-sound}
-use Rattle.promises.specs.Readers.{whole-sound, whole-complete, limited-ok}
-use Rattle.promises.specs.Counted.{Only, width-only, width-is, at-most-only, at-most-is, Row, Gathers, Opens, counted-sound, counted-complete}
+use Rattle.forms.specs.Written.{deepest, deepestOf, largest, largestOf, Widths, WidthsAll}
+use Rattle.forms.specs.Readers.{got, Took, Sound, Complete, of-some, not-some, bind-ok, word-ok, gives, moved, none-read, tagged-sound}
+use Rattle.forms.specs.Readers.{whole-sound, whole-complete, limited-ok}
+use Rattle.forms.specs.Counted.{Only, width-only, width-is, at-most-only, at-most-is, Row, Gathers, Opens, counted-sound, counted-complete}
 
 -- Within the limits: the depth, the most elements, and the widths of tuples.
 abbrev Within : ℕ → Value → Type 0

@@ -1,21 +1,20 @@
 -- For every input exactly one of: a refusal, by the first fault in the fixed order, or a run. In a refusal the room is as it was, and in all but answer 5
 -- no cause is told.
-use Prim.Native.Nat.{ℕ, _≤_}
+use Prim.Native.Nat.{ℕ, zero, suc, _-_, _≤_}
 use native.Mathlib.Omega.{arith}
 use mathlib.Core.Path.{_≡_, refl, sym, ap, _∙_, subst, subst₂}
 use mathlib.Core.Logic.{_↔_}
-use mathlib.Core.Bool.{true}
-use mathlib.Core.List.{List, [], _∷_}
+use mathlib.Core.Bool.{Bool, true, false}
+use mathlib.Core.List.{List, [], _∷_, _++_}
 use lib.ListN.{length}
+use lib.Dec.{leb}
 use lib.IntN.{ℤ}
 use Rattle.rules.specs.Forms.{Matcher, Pattern, Value}
 use Rattle.rules.specs.Reading.{Verdict, ok, fault, readMatcher, readPattern, readTarget}
 use Rattle.rules.specs.Variables.{variables}
 use Rattle.rules.specs.Fit.{fits, fitsValue}
-use Rattle.rules.specs.Search.{State, Run, run, start}
+use Rattle.rules.specs.Search.{atom, endOfNot, State, state, after, leaveNot, start, row, Run, stopped, rowStep, run}
 use Rattle.rules.specs.Services.{Judged, accepted, refused, test, Rule, ruleOf, targetOf, Matched, causeIn, turnedAway, carriedOut, matchTarget, matchRule, match}
-use Rattle.promises.specs.Budget.{Outcome, done, spent, full, report, walk-outcome}
-use Rattle.promises.specs.Trace.{Taken, trace, run-walks}
 
 -- ---- The tests, in their order: what each answer means.
 
@@ -178,15 +177,22 @@ fault-range : {ms ps ts : List ℤ} {a i : ℕ} → Fault ms ps ts a i → (1 �
 fault-range (ofRule f) = let h = rule-range f in omega arith
 fault-range (ofTarget r w f) = target-range f
 
-out-answer : (n free : ℕ) (us : List Taken) (r : Run) → Outcome n free us r → 1 ≤ r .answer → r .answer ≤ 6 → ⊥
-unfolding report
-out-answer n free us r (done h f q) a b = let k = ap (λ (x : Run). x .answer) q in omega arith
-out-answer n free us r (spent h f q) a b = let k = ap (λ (x : Run). x .answer) q in omega arith
-out-answer n free us r (full f q) a b = let k = ap (λ (x : Run). x .answer) q in omega arith
+-- A run that goes on answers as what follows; one that ends answers 0, 7 or 8.
+row-answer : (t : Bool) (ws : List ℤ) (r : Run) → (1 ≤ r .answer → r .answer ≤ 6 → ⊥)
+    → 1 ≤ (elim t as (λ _. Run) [ true ↦ rowStep ws r | false ↦ stopped 8 1 ]) .answer
+    → (elim t as (λ _. Run) [ true ↦ rowStep ws r | false ↦ stopped 8 1 ]) .answer ≤ 6 → ⊥
+unfolding rowStep stopped
+row-answer true ws r h a b = h a b
+row-answer false ws r h a b = omega (arith, b)
 
 run-answer : (n free : ℕ) (ss : List State) → 1 ≤ (run n ss free) .answer → (run n ss free) .answer ≤ 6 → ⊥
-run-answer n free ss = subst (λ (r : Run). 1 ≤ r .answer → r .answer ≤ 6 → ⊥) (sym (run-walks n ss free))
-    (out-answer n free (trace ss) _ (walk-outcome n (trace ss) free))
+unfolding run
+run-answer zero free [] a b = omega (arith, a)
+run-answer zero free (s ∷ ss) a b = omega (arith, b)
+run-answer (suc n) free [] a b = omega (arith, a)
+run-answer (suc n) free (state g [] e ∷ ss) a b = row-answer (leb (length (row e)) free) (row e) _ (run-answer n (free - length (row e)) ss) a b
+run-answer (suc n) free (state g (endOfNot ∷ older) e ∷ ss) a b = run-answer n free (leaveNot ss) a b
+run-answer (suc n) free (state g (atom p m v ∷ older) e ∷ ss) a b = run-answer n free (after p m v older e ++ ss) a b
 
 module _ (ms ps ts : List ℤ) (budget : ℕ) (room : List ℤ) where
   -- An answer from 1 to 6 is given exactly when that is the first fault, and with its place.

@@ -10,7 +10,7 @@ use lib.ListN.{length}
 use lib.Dec.{T, leb, leb→le}
 use lib.IntN.{ℤ}
 use Rattle.rules.specs.Reading.{Verdict, ok, fault, _then_, Got, Reader, give, _>>=_, known, word, entry, ended, whole, limited}
-use Rattle.promises.specs.Tests.{leb-true}
+use Rattle.forms.specs.Tests.{leb-true}
 
 abbrev pub got : {A : Type 0} → A → ℕ → List ℤ → Got A
 got a next rest = record { it = a; next = next; rest = rest }

@@ -8,12 +8,12 @@ use mathlib.Core.Option.{Option, none, some}
 use mathlib.Core.List.{List, [], _∷_, map, List·Memᴰ·head, List·Memᴰ·tail, List·Memᴰ·not-nil, List·Memᴰ·cases-cons, List·Memᴰ·eq-of-singleton, Memᴰ·map, Memᴰ·of-map}
 use lib.ListN.{getElem?}
 use lib.Dec.{T, leb, leb→le, le→leb, leb·zero, leb·suc-zero, leb·suc-suc}
 use Rattle.rules.specs.Forms.{Matcher, something, integer, list, multiset, tupleOf, Value, int, collection, tupled, Values, empty, _▸_, count}
 use Rattle.rules.specs.Equality.{Pick, picks, behind}
 use Rattle.rules.specs.Search.{Cut, cuts, longer, Halves, consHalves, joinHalves}
 use Rattle.rules.specs.Ways.{Way, at, without, front, back, ConsBy, JoinBy}
-use Rattle.rules.specs.Lists.{Mem}
+use Rattle.forms.specs.Lists.{Mem}
 use Rattle.rules.specs.Following.{Numbered, up, numbered, isMultiset, mark}
 
 true-path : (b : Bool) → T b → b ≡ true
 true-path true t = refl

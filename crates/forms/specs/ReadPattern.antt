@@ -11,10 +11,10 @@ use lib.IntN.{ℤ, pos, negsuc}
 use Rattle.rules.specs.Forms.{Pattern, wildcard, variable, constant, value, nil, cons, join, tuple, both, either, never, Patterns, noPatterns, _▸ᵖ_, countᵖ}
 use Rattle.rules.specs.Reading.{ok, _then_, Got, Reader, give, _>>=_, word, entry, width, whole}
 use Rattle.rules.specs.Reading.{PatternTag, alone, operand, operands, inner, parts, wide, patternTags, patternParts, pattern, readPattern}
-use Rattle.promises.specs.Written.{patternWords, patternWordsAll, IsWidth, Widthsᵖ, WidthsAllᵖ}
-use Rattle.promises.specs.Readers.{got, Took, Sound, Complete, of-some, not-some, bind-ok, word-ok, gives, moved, none-read, tagged-sound}
-use Rattle.promises.specs.Readers.{whole-sound, whole-complete, limited-ok}
-use Rattle.promises.specs.Counted.{width-only, width-is, Row, Gathers, Opens, counted-sound, counted-complete}
+use Rattle.forms.specs.Written.{patternWords, patternWordsAll, IsWidth, Widthsᵖ, WidthsAllᵖ}
+use Rattle.forms.specs.Readers.{got, Took, Sound, Complete, of-some, not-some, bind-ok, word-ok, gives, moved, none-read, tagged-sound}
+use Rattle.forms.specs.Readers.{whole-sound, whole-complete, limited-ok}
+use Rattle.forms.specs.Counted.{width-only, width-is, Row, Gathers, Opens, counted-sound, counted-complete}
 
 in-a-row : Row noPatterns _▸ᵖ_ patternWords patternWordsAll countᵖ
 unfolding patternWords countᵖ

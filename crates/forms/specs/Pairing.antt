@@ -12,9 +12,9 @@ use native.Mathlib.Nat.{suc-ne-zero}
 use Rattle.rules.specs.Numbers.{same}
 use Rattle.rules.specs.Forms.{Matcher, something, integer, list, multiset, tupleOf, Matchers, noMatchers, _▸ᵐ_, Value, int, collection, tupled, Values, empty, _▸_}
 use Rattle.rules.specs.Equality.{Pick, picks, behind, any, inOrder, pairedOff, equal, equalParts}
-use Rattle.promises.specs.Tests.{and-split, and-join, or-left, or-right, bool-ext}
-use Rattle.rules.specs.Lists.{Mem}
-use Rattle.promises.specs.Paired.{Ins, Paired, Equiv, exchange, paired-symm, paired-tran}
+use Rattle.forms.specs.Tests.{and-split, and-join, or-left, or-right, bool-ext}
+use Rattle.forms.specs.Lists.{Mem}
+use Rattle.forms.specs.Paired.{Ins, Paired, Equiv, exchange, paired-symm, paired-tran}
 
 -- ---- The test of the definition decides it.
 

@@ -10,9 +10,9 @@ use lib.ListN.{length, length-append}
 use lib.Dec.{T, leb, leb→le, le→leb}
 use lib.IntN.{ℤ, pos, negsuc}
 use Rattle.rules.specs.Reading.{ok, _then_, Got, Reader, give, _>>=_, known, times, width, atMost64}
-use Rattle.promises.specs.Tests.{is-true, and-split, and-join}
-use Rattle.promises.specs.Written.{IsWidth}
-use Rattle.promises.specs.Readers.{got, Took, Sound, Complete, not-some, bind-ok, known-ok, known-is, gives, moved}
+use Rattle.forms.specs.Tests.{is-true, and-split, and-join}
+use Rattle.forms.specs.Written.{IsWidth}
+use Rattle.forms.specs.Readers.{got, Took, Sound, Complete, not-some, bind-ok, known-ok, known-is, gives, moved}
 
 -- ---- Which counts are taken.
 
