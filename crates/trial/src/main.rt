@@ -1,9 +1,19 @@
 // The trial program of document 01, section 9: asks match what standard input asks, and prints the answer.
+use libc::STDERR_FILENO;
 use libc::STDIN_FILENO;
 use libc::STDOUT_FILENO;
 use text::Printed;
 ghost use mathlib.Core.Path.{_≡_};
-ghost use lib.ListN.{length};
+ghost use Prim.Native.Nat.{_<_, _≤_};
+ghost use lib.ListN.{length, take};
+ghost use Rattle.text.specs.Printed.{printed};
+ghost use Rattle.trial.specs.Meaning.{Told, Whole};
+
+// What the system took: so many bytes of a text and then so many empty lines; or not all of it.
+enum Sent {
+    All(usize, u64),
+    Cut,
+}
 
 fn newlines() -> [u8; 4096]
     ensures { λ r. ⌜ 4096 ≡ length r ⌝ }
@@ -11,30 +21,50 @@ fn newlines() -> [u8; 4096]
     [b'\n'; 4096]
 }
 
-// Writes empty lines.
-fn write_lines(count: u64) {
-    let full = newlines();
-    let mut left = count;
-    while 4096 < left {
-        if !io::write_all(STDOUT_FILENO, &full) {
-            return;
-        }
-        left -= 4096;
+// Writes the first bytes of a slice and then empty lines.
+fn send(out: &[u8], at: usize, lines: u64) -> Sent
+    requires { ⌜ at ≤ length (now out) ⌝ }
+    ensures { λ r. ⌜ Told at lines r ⌝ }
+{
+    if !io::write_all(STDOUT_FILENO, &out[..at]) {
+        return Sent::Cut;
     }
-    let n = left as usize;
-    io::write_all(STDOUT_FILENO, &full[..n]);
+    let full = newlines();
+    let mut sent: u64 = 0;
+    while 4096 < lines - sent {
+        if !io::write_all(STDOUT_FILENO, &full) {
+            return Sent::Cut;
+        }
+        sent += 4096;
+    }
+    let n = (lines - sent) as usize;
+    if !io::write_all(STDOUT_FILENO, &full[..n]) {
+        return Sent::Cut;
+    }
+    Sent::All(at, sent + n as u64)
+}
+
+// Answers the first n bytes of what was read. The slice they were read into has one byte more than the program reads, so that longer input is seen.
+fn respond(read: &[u8], n: usize, out: &mut [u8]) -> Sent
+    requires { ⌜ 32768 < length (now read) ⌝ }
+    requires { ⌜ n ≤ length (now read) ⌝ }
+    requires { ⌜ 98304 ≤ length (now out) ⌝ }
+    ensures { λ r. ⌜ Whole (printed (take n (now (read .entry)))) (now (out .exit)) r ⌝ }
+{
+    match text::answer(&read[..n], out) {
+        Printed::Text(at, lines) => send(out, at, lines),
+        Printed::Short => Sent::Cut,
+    }
 }
 
 fn main() {
-    // One byte more than the program reads, so that longer input is seen.
     let mut input = [0u8; 32769];
     let n = io::read_full(STDIN_FILENO, &mut input);
     let mut out = [0u8; 98304];
-    match text::answer(&input[..n], &mut out) {
-        Printed::Text(at, lines) => {
-            io::write_all(STDOUT_FILENO, &out[..at]);
-            write_lines(lines);
+    match respond(&input, n, &mut out) {
+        Sent::All(_, _) => {}
+        Sent::Cut => {
+            io::write_all(STDERR_FILENO, b"trial: the output could not be written\n");
         }
-        Printed::Short => {}
     }
 }

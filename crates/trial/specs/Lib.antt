@@ -1,0 +1,2 @@
+-- What the trial program sends to standard output.
+pub mod Meaning
