@@ -332,7 +332,7 @@ fn after<'a>(atom: &Atom<'a>, older: State<'a>) -> Vec<State<'a>> {
         }
         (Form::Constant(c), _) => keep(*v == Value::Int(*c)),
         (Form::Value(x, c), _) => {
-            keep(raised(&older.bindings[*x as usize], *c).is_some_and(|w| sorted(m, &w) == sorted(m, v)))
+            keep(raised(&older.bindings[*x as usize], *c).map_or(false, |w| sorted(m, &w) == sorted(m, v)))
         }
         (Form::Nil, _) => keep(*v == Value::Collection(Vec::new())),
         (Form::Cons(a, b), Matcher::List(inner)) => elements
