@@ -1,11 +1,13 @@
-//! Runs case files: the trial program's, review's, and the published examples.
+//! Runs case files: the trial program's, review's, the published examples, and those with picks and scripts. A file's name says its kind.
 
-use crate::{text, Services};
+use crate::{scripts, text, Services};
 use std::path::Path;
 
 pub struct Count {
     pub cases: usize,
     pub differ: usize,
+    /// Not played, since the services have no such call.
+    pub left: usize,
 }
 
 impl Count {
@@ -40,9 +42,17 @@ fn blocks(bytes: &[u8]) -> Vec<(Vec<u8>, String)> {
     cases
 }
 
+/// Matcher, pattern and cap; from No. 13 on the dialect before them.
 fn review(services: &Services, input: &[u8]) -> String {
-    let lines: Vec<Vec<i32>> = input.split(|&b| b == b'\n').map(|line| text::words(line).unwrap()).collect();
-    let [answer, place, count] = (services.review)(&lines[0], &lines[1], lines[2][0]);
+    let lines: Vec<Vec<i32>> =
+        input.strip_suffix(b"\n").unwrap().split(|&b| b == b'\n').map(|line| text::words(line).unwrap()).collect();
+    let [answer, place, count] = match &lines[..] {
+        [dialect, matcher, pattern, cap] => {
+            services.review_with.expect("no review takes a dialect yet")(dialect[0] as u32, matcher, pattern, cap[0])
+        }
+        [matcher, pattern, cap] => (services.review)(matcher, pattern, cap[0]),
+        _ => panic!("a review has three lines, or four"),
+    };
     format!("{answer} {place} {count}\n")
 }
 
@@ -104,8 +114,18 @@ fn published_block(services: &Services, block: &[&str], count: &mut Count) {
 pub fn file(services: &Services, path: &str, count: &mut Count) {
     let bytes = std::fs::read(path).unwrap_or_else(|e| panic!("{path}: {e}"));
     match Path::new(path).file_name().and_then(|name| name.to_str()) {
+        Some(name) if scripts::kind(name).is_some() => {
+            for (asked, went) in
+                scripts::file(services, scripts::kind(name).unwrap(), std::str::from_utf8(&bytes).unwrap())
+            {
+                match went {
+                    Some(went) => count.see(path, asked.as_bytes(), "", &went.err().unwrap_or_default()),
+                    None => count.left += 1,
+                }
+            }
+        }
         Some("published.txt") => published(services, std::str::from_utf8(&bytes).unwrap(), count),
-        Some(name) if name.ends_with("review.txt") => {
+        Some(name) if name.contains("review") => {
             for (input, expected) in blocks(&bytes) {
                 count.see(path, &input, &expected, &review(services, &input));
             }

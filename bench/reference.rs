@@ -1,6 +1,8 @@
 //! Document 01, with the requests No. 1, 2, 3, 5 and 6 of document 02, by plain recursion on the words, as a good Rust engineer would write it: no tree, no heap.
 //! It knows nothing of the library and nothing of the proofs.
 
+pub mod book;
+pub mod run;
 pub mod tuned;
 
 /// Match's six numbers: answer, place, rows, steps, words written, cause.
