@@ -1,0 +1,2 @@
+-- What the proofs of the leaves share.
+pub mod Lines

@@ -1,0 +1,3 @@
+-- What lies where in the tables of a run.
+pub mod Line
+pub mod LineLaws
