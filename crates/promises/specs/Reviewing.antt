@@ -147,6 +147,61 @@ answer-11 ms ps cap = ((λ a. go a (review-judged ms ps cap)), back)
     back : AlwaysTrue ms ps → (review ms ps cap) .answer ≡ 11
     back t = ap (λ (x : Reviewed). x .answer) (review-always ms ps cap (t .rule) (t .wellFormed) (t .always))
 
+-- 9 exactly when the cap is outside 0 to 64, for a rule that 11 does not turn away.
+pub record Outside (ms ps : List ℤ) (cap : ℤ) : Type 0 where
+  pub rule : Rule
+  pub telling : Telling ms ps rule
+  pub beyond : (c : ℕ) → cap ≡ pos c → c ≤ 64 → ⊥
+
+same-rule : (ms ps : List ℤ) (r s : Rule) → WellFormed ms ps r → WellFormed ms ps s → r ≡ s
+same-rule ms ps r s u w = cc (rule-accepted ms ps r .1 u, rule-accepted ms ps s .1 w)
+
+pub answer-9 : (ms ps : List ℤ) (cap : ℤ) → (review ms ps cap) .answer ≡ 9 ↔ Outside ms ps cap
+unfolding declined
+answer-9 ms ps cap = ((λ a. go a (review-judged ms ps cap)), λ o. back o (review-judged ms ps cap))
+  where
+    go : (review ms ps cap) .answer ≡ 9 → Review ms ps cap (review ms ps cap) → Outside ms ps cap
+    go a (turned b i f q) = let k = ap (λ (x : Reviewed). x .answer) q in let l = rule-range f .1 in absurd (omega arith)
+    go a (always r w b q) = let k = ap (λ (x : Reviewed). x .answer) q in absurd (omega arith)
+    go a (outside r w o q) = record { rule = r; telling = w; beyond = o }
+    go a (tooBig r c w e h k q) = let l = ap (λ (x : Reviewed). x .answer) q in absurd (omega arith)
+    go a (counts r c w e h k q) = let l = ap (λ (x : Reviewed). x .answer) q in absurd (omega arith)
+
+    no-fault : (r : Rule) → WellFormed ms ps r → (a i : ℕ) → RuleFault ms ps a i → ⊥
+    no-fault r w a i f = let z : _≡_ {A = ℕ} 0 1 = cc (rule-accepted ms ps r .1 w, rule-refused ms ps a i .1 f) in omega arith
+
+    not-always : (o : Outside ms ps cap) (r : Rule) → WellFormed ms ps r → alwaysTrue (r .pattern) ≡ true → ⊥
+    not-always o r w b =
+        let e = same-rule ms ps r (o .rule) w (o .telling .wellFormed) in
+        let z : true ≡ false = sym b ∙ ap (λ (s : Rule). alwaysTrue (s .pattern)) e ∙ o .telling .canFail in
+        subst T z tt
+
+    back : Outside ms ps cap → Review ms ps cap (review ms ps cap) → (review ms ps cap) .answer ≡ 9
+    back o (turned b i f q) = absurd (no-fault (o .rule) (o .telling .wellFormed) b i f)
+    back o (always r w b q) = absurd (not-always o r w b)
+    back o (outside r w k q) = ap (λ (x : Reviewed). x .answer) q
+    back o (tooBig r c w e h k q) = absurd (o .beyond c e h)
+    back o (counts r c w e h k q) = absurd (o .beyond c e h)
+
+-- 1 to 4 exactly with the first fault of the rule, at its place.
+pub answer-1-to-4 : (ms ps : List ℤ) (cap : ℤ) (a i : ℕ)
+    → RuleFault ms ps a i ↔ (1 ≤ a) × (a ≤ 4) × ((review ms ps cap) .answer ≡ a) × ((review ms ps cap) .place ≡ i)
+unfolding declined review reviewRule
+answer-1-to-4 ms ps cap a i = (to, λ h. from h (review-judged ms ps cap))
+  where
+    to : RuleFault ms ps a i → (1 ≤ a) × (a ≤ 4) × ((review ms ps cap) .answer ≡ a) × ((review ms ps cap) .place ≡ i)
+    to f =
+        let q : review ms ps cap ≡ declined a i = ap (reviewRule cap) (rule-refused ms ps a i .1 f) in
+        (rule-range f .0, rule-range f .1, ap (λ (x : Reviewed). x .answer) q, ap (λ (x : Reviewed). x .place) q)
+
+    from : (1 ≤ a) × (a ≤ 4) × ((review ms ps cap) .answer ≡ a) × ((review ms ps cap) .place ≡ i) → Review ms ps cap (review ms ps cap) → RuleFault ms ps a i
+    from h (turned b j f q) = subst (λ n. RuleFault ms ps n i) (sym (ap (λ (x : Reviewed). x .answer) q) ∙ h .2)
+        (subst (RuleFault ms ps b) (sym (ap (λ (x : Reviewed). x .place) q) ∙ h .3) f)
+    from h (always r w b q) = let k = ap (λ (x : Reviewed). x .answer) q in absurd (omega (arith, k, h .1, h .2))
+    from h (outside r w o q) = let k = ap (λ (x : Reviewed). x .answer) q in absurd (omega (arith, k, h .1, h .2))
+    from h (tooBig r c w e l k q) = let g = ap (λ (x : Reviewed). x .answer) q in absurd (omega (arith, g, h .1, h .2))
+    from h (counts r c w e l k q) = let g = ap (λ (x : Reviewed). x .answer) q in absurd (omega (arith, g, h .0, h .2))
+
 -- Then there is a good way on every value that fits.
 pub everybody : (ms ps : List ℤ) (cap : ℤ) (r : Rule) → WellFormed ms ps r → (review ms ps cap) .answer ≡ 11
     → (v : Value) → fitsValue (r .matcher) v 0 ≡ ok tt → (w : Way) × (e : Bindings) × Good (r .matcher) (r .pattern) v w e

@@ -1,0 +1,18 @@
+-- The border's contracts leave nothing open: any two results that they allow agree, in the answer, every word of the room and every byte of the numbers.
+use mathlib.Core.Path.{_≡_, sym, _∙_, ap}
+use mathlib.Core.List.{List, []}
+use Prim.Native.Nat.{ℕ}
+use lib.IntN.{ℤ}
+use Rattle.host.specs.Border.{Called, called, matchCalled, reviewCalled}
+
+same-call : (a b : ℕ) (x y : List ℤ) (m n : List ℕ) (c : Called) → called a x m ≡ c → called b y n ≡ c → (a ≡ b) × (x ≡ y) × (m ≡ n)
+same-call a b x y m n c p q =
+    let e = p ∙ sym q in (ap (λ (z : Called). z .answer) e, ap (λ (z : Called). z .room) e, ap (λ (z : Called). z .numbers) e)
+
+pub match-called-once : (ms ps ts : List ℤ) (budget : ℕ) (room : List ℤ) (numbers : List ℕ) (a b : ℕ) (x y : List ℤ) (m n : List ℕ)
+    → called a x m ≡ matchCalled ms ps ts budget room numbers → called b y n ≡ matchCalled ms ps ts budget room numbers → (a ≡ b) × (x ≡ y) × (m ≡ n)
+match-called-once ms ps ts budget room numbers a b x y m n = same-call a b x y m n (matchCalled ms ps ts budget room numbers)
+
+pub review-called-once : (ms ps : List ℤ) (cap : ℤ) (numbers : List ℕ) (a b : ℕ) (m n : List ℕ)
+    → called a [] m ≡ reviewCalled ms ps cap numbers → called b [] n ≡ reviewCalled ms ps cap numbers → (a ≡ b) × (m ≡ n)
+review-called-once ms ps cap numbers a b m n p q = let r = same-call a b [] [] m n (reviewCalled ms ps cap numbers) p q in (r .0, r .2)

@@ -1,0 +1,52 @@
+-- Document 01, section 6: review's formula bounds every run, and with it as budget and room enough match answers 0.
+use Prim.Native.Nat.{ℕ, _*_, _≤_}
+use mathlib.Core.Path.{_≡_, sym}
+use mathlib.Core.Bool.{true}
+use mathlib.Core.List.{List}
+use lib.ListN.{length}
+use lib.IntN.{ℤ, pos}
+use Rattle.rules.specs.Forms.{Value, int, tupled, empty, _▸_}
+use Rattle.rules.specs.Reading.{ok}
+use Rattle.rules.specs.Variables.{variables}
+use Rattle.rules.specs.Review.{factor}
+use Rattle.rules.specs.Services.{accepted, Rule, ruleOf, targetOf, match, review}
+use Rattle.forms.specs.Written.{largest, variableTags, pair-largest}
+use Rattle.forms.specs.Faults.{sane-exactly, rule-accepted}
+use Rattle.promises.specs.Reviewing.{countOf}
+use Rattle.promises.specs.Matching.{steps-bounded, rows-bounded, room-enough, tags-counted}
+use mathlib.Core.Path.{subst}
+use Rattle.promises.specs.Main.Reviews.{count-is-formula}
+
+-- The variables are those that the test of section 2 counts, at most 16.
+pub variables-counted : (ms ps : List ℤ) (r : Rule) → ruleOf ms ps ≡ accepted r
+    → (variables (r .pattern) true 0 0 ≡ ok (variableTags (r .pattern))) × (variableTags (r .pattern) ≤ 16)
+variables-counted ms ps r e = tags-counted ms ps r (rule-accepted ms ps r .0 e)
+
+-- A tuple's width is no collection's size: a pair of integers keeps to every cap.
+pub pair-keeps-cap : (x y : ℤ) → largest (tupled (int x ▸ int y ▸ empty)) ≡ 0
+pair-keeps-cap = pair-largest
+
+-- The count bounds every run on a target whose collections, nested ones and those inside a tuple too, have at most `cap` elements.
+module _ (ms ps ts : List ℤ) (budget : ℕ) (room : List ℤ) (r : Rule) (v : Value)
+    (rule : ruleOf ms ps ≡ accepted r) (target : targetOf (r .matcher) ts ≡ accepted v)
+    (cap : ℕ) (small : largest v ≤ cap) where
+  pub steps-at-most : (match ms ps ts budget room) .steps ≤ countOf cap r
+  steps-at-most = steps-bounded ms ps ts budget room r v (sane-exactly ms ps ts r v .0 (rule, target)) cap small
+
+  pub rows-at-most : (match ms ps ts budget room) .rows ≤ factor cap (r .pattern) (r .matcher)
+  rows-at-most = rows-bounded ms ps ts budget room r v (sane-exactly ms ps ts r v .0 (rule, target)) cap small
+
+  -- ---- Room enough: with the count as budget, and (product of factors) × (variables) × (target words) words of room, match answers 0.
+
+  pub enough : countOf cap r ≤ budget → factor cap (r .pattern) (r .matcher) * variableTags (r .pattern) * length ts ≤ length room
+      → (match ms ps ts budget room) .answer ≡ 0
+  enough = room-enough ms ps ts budget room r v (sane-exactly ms ps ts r v .0 (rule, target)) cap small
+
+  -- ---- The same in review's own number: what it counts is enough.
+
+  pub steps-reviewed : (review ms ps (pos cap)) .answer ≡ 0 → (match ms ps ts budget room) .steps ≤ (review ms ps (pos cap)) .count
+  steps-reviewed a = subst (λ n. (match ms ps ts budget room) .steps ≤ n) (sym (count-is-formula ms ps cap r rule a)) steps-at-most
+
+  pub enough-reviewed : (review ms ps (pos cap)) .answer ≡ 0 → (review ms ps (pos cap)) .count ≤ budget
+      → factor cap (r .pattern) (r .matcher) * variableTags (r .pattern) * length ts ≤ length room → (match ms ps ts budget room) .answer ≡ 0
+  enough-reviewed a b = enough (subst (λ n. n ≤ budget) (count-is-formula ms ps cap r rule a) b)
