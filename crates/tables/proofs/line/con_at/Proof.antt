@@ -22,7 +22,7 @@ con-at-spec =
     (λ c κs. search read-rules)
     (λ c κs. search read-rules)
     (λ c.
-      let s = c .before .before .before .before in
-      let k : SFits w32 (c .of-bits .result) = search needs in
-      toZ-ofZ k
-      ∙ con-read (s .args .lines .now) (s .args .pc) (c .before .joined .result) (c .of-bits .result) (s .pre .1) (c .before .joined .ensures) (c .of-bits .ensures)))
+    let s = c .before .before .before .before in
+    let k : SFits w32 (c .of-bits .result) = search needs in
+    toZ-ofZ k
+    ∙ con-read (s .args .lines .now) (s .args .pc) (c .before .joined .result) (c .of-bits .result) (s .pre .1) (c .before .joined .ensures) (c .of-bits .ensures)))

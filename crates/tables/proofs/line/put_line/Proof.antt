@@ -34,9 +34,9 @@ put-line-spec =
     (λ c. search read-rules)
     (λ c. search read-rules)
     (λ c.
-      let s = c .before .before in
-      let f : SFits w32 (s .args .l .con) = search needs in
-      let b = c .bits .result in
-      let g : Fits w32 b = search needs in
-      let e : b ≡ ofZ w32 (s .args .l .con) = c .bits .ensures ∙ ap (ofZ w32) (toZ-ofZ f) in
-      line-is-put (s .args .lines .now) (s .args .pc) b (s .args .l) (s .pre) f g e))
+    let s = c .before .before in
+    let f : SFits w32 (s .args .l .con) = search needs in
+    let b = c .bits .result in
+    let g : Fits w32 b = search needs in
+    let e : b ≡ ofZ w32 (s .args .l .con) = c .bits .ensures ∙ ap (ofZ w32) (toZ-ofZ f) in
+    line-is-put (s .args .lines .now) (s .args .pc) b (s .args .l) (s .pre) f g e))
