@@ -4,7 +4,6 @@ use mathlib.Core.Bool.{Bool, true, false}
 use mathlib.Core.List.{List}
 use Prim.Native.Nat.{ℕ, suc, _+_, _-_, _*_, _^_, _<_, _≤_}
 use native.Mathlib.Omega.{arith}
-use borrow.Author.Needs.{needs}
 use borrow.Author.Tests.{eq-eqb, ne-eqb, lt-ltb, le-ltb, eqb-true, eqb-false}
 use lib.ListN.{length, getD, set}
 use lib.Dec.{eqb}
@@ -14,73 +13,42 @@ use mir.Val.{Fits}
 use Rattle.rules.specs.Search.{row}
 use Rattle.words.specs.Words.{entries}
 use Rattle.value_places.specs.Places.{Target}
-use Rattle.value_places.specs.Tables.{Ends, Places}
 use Rattle.value_places.specs.Held.{Held, put}
 use Rattle.value_rows.specs.Row.{bound, Bound, nothing}
 use Rattle.value_equality.specs.Equality.{equalAt, isSum}
 use Rattle.value_rows.specs.declared.Binding.{Binding}
 use Rattle.value_places.proofs.Elements.{second}
+use Rattle.value_rows.proofs.Row.{row-within}
 use Rattle.search_step.specs.declared.State.{State}
 use Rattle.search_atom.specs.Leaves.{when, passesOf}
 use Rattle.search_step.specs.Steps.{Tables, Turned, tables, turned, counted, dropped, stepBy, stepOf, Steps}
 use Rattle.search_choice.specs.Choices.{pickOf, settleOf, Slots, PicksIf}
-use Rattle.search.specs.Run.{Env, Run, run, Ended, ended, filled, wrote, endBy, endOf, askOf, boundAt, asked, afterTurn, afterEnd, takeEnd, takeBind, takeStep, takeOf, taken, settled, runOf}
-use Rattle.search.specs.Valid.{Fine, Valid, Given, Rows, Takes}
+use Rattle.search.specs.Run.{Env, Run, run, filled, wroteTo, wrote, endBy, endOf, askOf, boundAt, asked, afterTurn, afterEnd, takeEnd, takeBind, takeStep, takeOf, settled, runOf}
+use Rattle.search.specs.Valid.{Fine, Valid, Rows}
 use Rattle.search.proofs.Keeps.{take-keeps}
 use Rattle.search.proofs.Settles.{settle-keeps}
 use Rattle.search.proofs.Counts.{settled-is, takes-is, run-over, run-more}
 use Rattle.search.proofs.Frames.{top-bound}
 
--- ---- The row.
+-- ---- The row: its size is asked only where the room may be short of it.
 
-module _ (s : List ℤ) (ends base places : List ℕ) (g : Given s ends base places) where
-  pub given-target : Target s
-  given-target = g .target
+-- What the code knows as the row's size tells whether it fits into the words that are free.
+pub record Sized (s : List ℤ) (b : List Binding) (n free size : ℕ) : Type 0 where
+  pub short : free < size → free < length (row (bound s b n))
+  pub fits : size ≤ free → length (row (bound s b n)) ≤ free
 
-  pub given-ends : Ends s ends
-  given-ends = g .ended
+module _ (s : List ℤ) (b : List Binding) (n free size : ℕ) where
+  pub sized-asked : size ≡ length (row (bound s b n)) → Sized s b n free size
+  sized-asked e = record { short = λ l. omega arith; fits = λ l. omega arith }
 
-  pub given-places : Places s base places
-  given-places = g .placed
+  pub sized-ample : Target s → Bound s b n → size ≡ 0 → n * length s ≤ free → Sized s b n free size
+  sized-ample g q z l = let m = row-within s b n q g in record { short = λ k. absurd (omega arith); fits = λ k. omega arith }
 
-module _ (s : List ℤ) (b : List Binding) (n : ℕ) (x : State) (room : List ℤ) (h : Rows s b n x room) where
-  pub row-bound : Bound s b n
-  row-bound = h .bound
+pub tables-path : {a a′ w w′ c c′ l l′ k k′ : List ℕ} → a ≡ a′ → w ≡ w′ → c ≡ c′ → l ≡ l′ → k ≡ k′ → tables a w c l k ≡ tables a′ w′ c′ l′ k′
+tables-path p₀ p₁ p₂ p₃ p₄ i = tables (p₀ i) (p₁ i) (p₂ i) (p₃ i) (p₄ i)
 
-  pub row-full : (size : ℕ) → size ≡ length (row (bound s b n)) → length room - x .words < size → ended (filled x) room ≡ endOf s n x b room
-  unfolding endOf endBy when
-  row-full size e l = let k : length room - x .words < length (row (bound s b n)) = omega arith in rw (lt-ltb _ _ k)
-
-  pub row-room : (size : ℕ) → size ≡ length (row (bound s b n)) → size ≤ length room - x .words → x .words + length (row (bound s b n)) ≤ length room
-  row-room size e l = let k = h .words in omega arith
-
-  pub row-wrote : (size w : ℕ) (room′ : List ℤ) → size ≡ length (row (bound s b n)) → size ≤ length room - x .words
-      → w ≡ x .words + length (row (bound s b n)) → room′ ≡ put room (x .words) (row (bound s b n))
-      → ended (record { pc = x .pc; at = x .at; marks = x .marks; top = x .top; live = 2; rows = x .rows + 1; steps = x .steps + 1; words = w }) room′ ≡ endOf s n x b room
-  unfolding endOf endBy when wrote
-  row-wrote size w room′ e l i j = let k : length (row (bound s b n)) ≤ length room - x .words = omega arith in rw (le-ltb _ _ k, i, j)
-
-pub ruleset row-rules = (given-target, given-ends, given-places, row-bound, row-full, row-room, row-wrote, needs)
-
--- ---- The row, or a step.
-
-module _ (o : ℕ) (s : List ℤ) (op from : List ℕ) (b : List Binding) (n : ℕ) (x : State) (room : List ℤ) (h : Takes o s op from b n x room) where
-  pub take-row : o ≡ 0 → Rows s b n x room
-  take-row z = h .row z
-
-  pub take-steps : (o ≡ 0 → ⊥) → Steps s op from x
-  take-steps z = h .step z
-
-module _ (o : ℕ) (q : Bool) (op from to : List ℕ) (con s : List ℤ) (n : ℕ) (x : State) (t : Tables) (b : List Binding) (room : List ℤ) where
-  pub taken-end : (y : State) (room′ : List ℤ) → o ≡ 0 → ended y room′ ≡ endOf s n x b room → run y t b room′ ≡ taken o q op from to con s n (run x t b room)
-  unfolding taken afterEnd when
-  taken-end y room′ z p = rw (eq-eqb _ _ z) (ap (λ (u : Ended). run (u .state) t b (u .room)) p)
-
-  pub taken-step : (y : State) (u : Tables) → (o ≡ 0 → ⊥) → turned y u ≡ stepOf op from to con s q x t → run y u b room ≡ taken o q op from to con s n (run x t b room)
-  unfolding taken afterTurn when
-  taken-step y u z p = rw (ne-eqb _ _ z) (ap (λ (w : Turned). run (w .state) (w .tables) b room) p)
-
-pub ruleset take-rules = (take-row, take-steps, taken-end, taken-step, needs)
+pub turned-path : {x y : State} {t u : Tables} → x ≡ y → t ≡ u → turned x t ≡ turned y u
+turned-path p q i = turned (p i) (q i)
 
 -- ---- At the loop's head: the whole run w is what is left of it from here.
 
@@ -183,36 +151,51 @@ module _ (e : Env) (x : State) (t : Tables) (b : List Binding) (room : List ℤ)
   unfolding when
   new-binds z = a .binds ∙ rw (eq-eqb _ _ z)
 
-  took-0 : getD (e .op) (x .pc) 0 ≡ 0 → taken (getD (e .op) (x .pc) 0) q (e .op) (e .from) (e .to) (e .con) (e .words) (e .vars) (run x t b′ room) ≡ takeOf e (run x t b room)
-  unfolding taken takeOf takeEnd afterEnd when
-  took-0 z = rw (eq-eqb _ _ z, same-binds (λ y. omega arith))
+  -- The row does not fit; it is written; or a step is taken.
+  pub took-full : (y : State) (u : Tables) (room′ : List ℤ) → getD (e .op) (x .pc) 0 ≡ 0 → length room - x .words < length (row (bound (e .words) b′ (e .vars)))
+      → y ≡ filled x → u ≡ t → room′ ≡ room → run y u b′ room′ ≡ takeOf e (run x t b room)
+  unfolding takeOf takeEnd endOf endBy afterEnd when
+  took-full y u room′ z l p d k =
+      let s = same-binds (λ w. omega arith) in
+      let m : length room - x .words < length (row (bound (e .words) b (e .vars))) = rw s at l in
+      rw (p, d, k, s, eq-eqb _ _ z, lt-ltb _ _ m)
 
-  took-3 : getD (e .op) (x .pc) 0 ≡ 3 → taken (getD (e .op) (x .pc) 0) q (e .op) (e .from) (e .to) (e .con) (e .words) (e .vars) (run x t b′ room) ≡ takeOf e (run x t b room)
-  unfolding taken takeOf takeBind afterTurn when
+  pub took-wrote : (y : State) (u : Tables) (room′ : List ℤ) (w : ℕ) → getD (e .op) (x .pc) 0 ≡ 0 → length (row (bound (e .words) b′ (e .vars))) ≤ length room - x .words
+      → y ≡ wroteTo x w → w ≡ x .words + length (row (bound (e .words) b′ (e .vars))) → u ≡ t → room′ ≡ put room (x .words) (row (bound (e .words) b′ (e .vars)))
+      → run y u b′ room′ ≡ takeOf e (run x t b room)
+  unfolding takeOf takeEnd endOf endBy afterEnd when wrote wroteTo
+  took-wrote y u room′ w z l p i d k =
+      let s = same-binds (λ w. omega arith) in
+      let m : length (row (bound (e .words) b (e .vars))) ≤ length room - x .words = rw s at l in
+      rw (p, i, d, k, s, eq-eqb _ _ z, le-ltb _ _ m)
+
+  stepped : Turned
+  stepped = stepOf (e .op) (e .from) (e .to) (e .con) (e .words) q x t
+
+  took-3 : getD (e .op) (x .pc) 0 ≡ 3 → run (stepped .state) (stepped .tables) b′ room ≡ takeOf e (run x t b room)
+  unfolding stepped takeOf takeBind when
   took-3 z =
       rw (ne-eqb _ 0 (λ (y : getD (e .op) (x .pc) 0 ≡ 0). omega arith), eq-eqb _ 3 z, new-binds z)
       (ap (λ (u : Turned). run (u .state) (u .tables) (set b (getD (e .arg) (x .pc) 0) (record { at = x .at; marks = x .marks })) room)
       (step-bind (e .op) (e .from) (e .to) (e .con) (e .words) q x t z))
 
-  took-n : (getD (e .op) (x .pc) 0 ≡ 0 → ⊥) → (getD (e .op) (x .pc) 0 ≡ 3 → ⊥)
-      → taken (getD (e .op) (x .pc) 0) q (e .op) (e .from) (e .to) (e .con) (e .words) (e .vars) (run x t b′ room) ≡ takeOf e (run x t b room)
-  unfolding taken takeOf takeStep afterTurn when
+  took-n : (getD (e .op) (x .pc) 0 ≡ 0 → ⊥) → (getD (e .op) (x .pc) 0 ≡ 3 → ⊥) → run (stepped .state) (stepped .tables) b′ room ≡ takeOf e (run x t b room)
+  unfolding stepped takeOf takeStep afterTurn when
   took-n n m = rw (ne-eqb _ _ n, ne-eqb _ _ m, same-binds m, a .ask)
 
-  -- What `take` gives is the state taken up.
-  pub took : (r : Run) → r ≡ taken (getD (e .op) (x .pc) 0) q (e .op) (e .from) (e .to) (e .con) (e .words) (e .vars) (run x t b′ room) → r ≡ takeOf e (run x t b room)
-  took r p = p ∙ go (eqb (getD (e .op) (x .pc) 0) 0) (eqb (getD (e .op) (x .pc) 0) 3) refl refl
+  pub took-step : (y : State) (u : Tables) (room′ : List ℤ) → (getD (e .op) (x .pc) 0 ≡ 0 → ⊥) → turned y u ≡ stepOf (e .op) (e .from) (e .to) (e .con) (e .words) q x t
+      → room′ ≡ room → run y u b′ room′ ≡ takeOf e (run x t b room)
+  unfolding stepped
+  took-step y u room′ n p k = rw k (ap (λ (w : Turned). run (w .state) (w .tables) b′ room) p ∙ go (eqb (getD (e .op) (x .pc) 0) 3) refl)
     where
-      go : (c d : Bool) → eqb (getD (e .op) (x .pc) 0) 0 ≡ c → eqb (getD (e .op) (x .pc) 0) 3 ≡ d
-          → taken (getD (e .op) (x .pc) 0) q (e .op) (e .from) (e .to) (e .con) (e .words) (e .vars) (run x t b′ room) ≡ takeOf e (run x t b room)
-      go true d i j = took-0 (eqb-true _ _ i)
-      go false true i j = took-3 (eqb-true _ _ j)
-      go false false i j = took-n (eqb-false _ _ i) (eqb-false _ _ j)
+      go : (d : Bool) → eqb (getD (e .op) (x .pc) 0) 3 ≡ d → run (stepped .state) (stepped .tables) b′ room ≡ takeOf e (run x t b room)
+      go true j = took-3 (eqb-true _ _ j)
+      go false j = took-n n (eqb-false _ _ j)
 
   -- What a row and a step ask.
   module _ (fine : Fine e) (g : Target (e .words)) (v : Valid e (run x t b room)) (l : x .steps + 1 < 2 ^ 64) where
-    steps-ask : Steps (e .words) (e .op) (e .from) x
-    steps-ask =
+    pub turn-steps : Steps (e .words) (e .op) (e .from) x
+    turn-steps =
         let h = v .held .tag .inside in
         let s = g .short in
         record {
@@ -236,8 +219,8 @@ module _ (e : Env) (x : State) (t : Tables) (b : List Binding) (room : List ℤ)
           words = v .room;
         }
 
-    pub turn-takes : Takes (getD (e .op) (x .pc) 0) (e .words) (e .op) (e .from) b′ (e .vars) x room
-    turn-takes = record { row = λ z. rw (same-binds (λ y. omega arith)) rows-ask; step = λ z. steps-ask }
+    pub turn-row : getD (e .op) (x .pc) 0 ≡ 0 → Rows (e .words) b′ (e .vars) x room
+    turn-row z = rw (same-binds (λ y. omega arith)) rows-ask
 
     pub turn-picks : x .live ≡ 1 → (y : State) (u : Tables) (k : List Binding) (room′ : List ℤ) → run y u k room′ ≡ takeOf e (run x t b room)
         → PicksIf (y .live) (e .op) (e .words) (y .top) (u .ats) (u .wholes) (u .lefts)

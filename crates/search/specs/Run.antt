@@ -47,6 +47,9 @@ run x t b room = record { state = x; tables = t; binds = b; room = room }
 unfoldable pub filled : State → State
 filled x = record { pc = x .pc; at = x .at; marks = x .marks; top = x .top; live = 3; rows = x .rows; steps = x .steps + 1; words = x .words }
 
+unfoldable pub wroteTo : State → (end : ℕ) → State
+wroteTo x n = record { pc = x .pc; at = x .at; marks = x .marks; top = x .top; live = 2; rows = x .rows + 1; steps = x .steps + 1; words = n }
+
 unfoldable pub wrote : State → ℕ → State
 wrote x n = record { pc = x .pc; at = x .at; marks = x .marks; top = x .top; live = 2; rows = x .rows + 1; steps = x .steps + 1; words = x .words + n }
 
@@ -110,13 +113,6 @@ takeStep e r = afterTurn (stepOf (e .op) (e .from) (e .to) (e .con) (e .words) (
 unfoldable pub takeOf : Env → Run → Run
 unfolding when takeEnd takeBind takeStep
 takeOf e r = when (eqb (getD (e .op) (r .state .pc) 0) 0) (takeEnd e r) (when (eqb (getD (e .op) (r .state .pc) 0) 3) (takeBind e r) (takeStep e r))
-
--- The row, or a step; what tag 3 asks and the binding come before it.
-unfoldable pub taken : (o : ℕ) → Bool → (op from to : List ℕ) → (con words : List ℤ) → (vars : ℕ) → Run → Run
-unfolding when endOf afterEnd afterTurn
-taken o q op from to con s n r =
-    when (eqb o 0) (afterEnd (endOf s n (r .state) (r .binds) (r .room)) (r .tables) (r .binds))
-    (afterTurn (stepOf op from to con s q (r .state) (r .tables)) (r .binds) (r .room))
 
 -- ---- The run.
 

@@ -11,7 +11,7 @@ use Rattle.value_places.specs.Held.{Held}
 use Rattle.value_rows.specs.Row.{Bound}
 use Rattle.value_rows.specs.declared.Binding.{Binding}
 use Rattle.search_step.specs.declared.State.{State}
-use Rattle.search_step.specs.Steps.{Tables, Steps}
+use Rattle.search_step.specs.Steps.{Tables}
 use Rattle.search_choice.specs.Choices.{Picks}
 use Rattle.search.specs.Run.{Env, Run}
 
@@ -67,7 +67,3 @@ pub record Rows (s : List ℤ) (b : List Binding) (n : ℕ) (x : State) (room : 
   pub steps : x .steps + 1 < 2 ^ 64
   pub rows : x .rows + 1 < 2 ^ 64
   pub words : x .words ≤ length room
-
-pub record Takes (o : ℕ) (s : List ℤ) (op from : List ℕ) (b : List Binding) (n : ℕ) (x : State) (room : List ℤ) : Type 0 where
-  pub row : o ≡ 0 → Rows s b n x room
-  pub step : (o ≡ 0 → ⊥) → Steps s op from x

@@ -3,14 +3,16 @@ pub mod taking;
 
 use search_choice::settle;
 use search_step::State;
-use taking::take;
+use taking::filled;
+use taking::wrote;
 use value_equality::equal;
 use value_equality::is_sum;
 use value_places::places::ends_of;
 use value_places::places::places_of;
 use value_places::places::whole;
 use value_rows::Binding;
-use value_rows::bind;
+use value_rows::put_value;
+use value_rows::row_size;
 use words::ENTRIES;
 ghost use mathlib.Core.Path.{_≡_};
 ghost use Prim.Native.Nat.{_-_, _<_};
@@ -83,7 +85,7 @@ pub fn advance(
             } else if o < 5 {
                 if o == 3 {
                     let v = index(arg[pc]);
-                    b = bind(b, v, Binding { at: at, marks: m });
+                    b[v] = Binding { at: at, marks: m };
                 }
             } else if o < 7 {
                 let v = index(arg[pc]);
@@ -94,27 +96,43 @@ pub fn advance(
                 q = equal(mt, i, s, base, places, g, k, at, m);
             }
         }
-        x = take(
-            x,
-            o,
-            q,
-            b,
-            n,
-            s,
-            ends,
-            base,
-            places,
-            op,
-            from,
-            to,
-            con,
-            ats,
-            wholes,
-            lefts,
-            lows,
-            backs,
-            room,
-        );
+        if o == 0 {
+            let mut e = x.words;
+            let free = room.len() - e;
+            let mut size: usize = 0;
+            if free < n * s.len() {
+                size = row_size(s, ends, base, places, b, n);
+            }
+            if free < size {
+                x = filled(x);
+            } else {
+                let mut v: usize = 0;
+                while v < n {
+                    let y = b[v];
+                    let g = y.at;
+                    let k = y.marks;
+                    e = put_value(s, ends, base, places, g, k, room, e);
+                    v += 1;
+                }
+                x = wrote(x, e);
+            }
+        } else {
+            x = x.step(
+                q,
+                s,
+                base,
+                places,
+                op,
+                from,
+                to,
+                con,
+                ats,
+                wholes,
+                lefts,
+                lows,
+                backs,
+            );
+        }
         x = settle(
             x,
             s,

@@ -3,6 +3,7 @@ use mathlib.Core.Path.{_≡_, refl, sym, _∙_, ap}
 use mathlib.Core.List.{List, [], _∷_, _++_, map}
 use Prim.Native.Nat.{ℕ, zero, suc, _+_, _-_, _*_, _/_, _%_, _^_, _<_, _≤_}
 use native.Mathlib.Decide.{decLt}
+use native.Mathlib.Nat.{suc-mul, mul-le-mul}
 use native.Mathlib.Numerals.{add-one}
 use native.Mathlib.Omega.{arith}
 use borrow.Author.Needs.{needs}
@@ -54,12 +55,15 @@ module _ (s : List ℤ) (at m tag : ℕ) (g : Target s) (w : Held s at m) (d : t
     unfolding size sizeLeft
     size-collection = rw (held-collection s at m g (w .tag) a-collection)
 
-    pub size-held : size (heldAt s at m) ≤ 1024
+    size-within : size (heldAt s at m) ≤ length s
     unfolding sizeLeft left size
-    size-held =
+    size-within =
         let i = is-here s at g (w .tag) in
         let v : size (valueAt s at) ≡ 2 + sizeAll (elements (valueAt s at)) = ap size (collection-at s at g (w .tag) a-collection) in
-        omega (arith, size-collection, size-marked (elements (valueAt s at)) m, v, i .fits, g .short)
+        omega (arith, size-collection, size-marked (elements (valueAt s at)) m, v, i .fits)
+
+    pub size-held : size (heldAt s at m) ≤ 1024
+    size-held = omega (arith, size-within, g .short)
 
 -- The words of a whole value, up to its end.
 module _ (s : List ℤ) (ends : List ℕ) (at z : ℕ) (g : Target s) (q : Ends s ends) (w : Tag s at) (u : z ≡ getD ends (at / 2) 0) where
@@ -253,26 +257,33 @@ module _ (s : List ℤ) (b : List Binding) (n : ℕ) where
   pub row-start-room : (room : List ℤ) (o : ℕ) → put room o (row (bound s b n)) ≡ put room o (row (boundFrom s b 0 n))
   row-start-room room o = rw row-start
 
-pub row-long : (room room′ ws : List ℤ) (o l : ℕ) → room′ ≡ put room o ws → length room ≡ l → length room′ ≡ l
-row-long room room′ ws o l i e = ap length i ∙ length-put room o ws ∙ e
-
-pub row-le : (room room′ ws : List ℤ) (o y : ℕ) → room′ ≡ put room o ws → y ≤ length room → y ≤ length room′
-row-le room room′ ws o y i e = rw (ap length i ∙ length-put room o ws) e
-
-pub ruleset row-rules = (row-held, row-16, row-mul, row-room, row-turn-size, row-turn, row-long, row-le, row-out, row-out-size, row-start-size, row-start-room, needs)
-
 -- ---- The size of the row.
 
-pub held-size : (s : List ℤ) (at m : ℕ) → Target s → Held s at m → size (heldAt s at m) ≤ 1024
-held-size s at m g w = by-tag s at g (w .tag) _
-    (λ e. omega (arith, size-int s at m (tagAt s at) g w refl e))
-    (λ e. size-held s at m (tagAt s at) g w refl (λ z. omega arith) (λ z. omega arith))
-    (λ e. omega (arith, size-tuple s at m (tagAt s at) g w refl (size (valueAt s at)) e refl, is-here s at g (w .tag) .fits, g .short))
+held-within : (s : List ℤ) (at m : ℕ) → Target s → Held s at m → size (heldAt s at m) ≤ length s
+held-within s at m g w = by-tag s at g (w .tag) _
+    (λ e. omega (arith, size-int s at m (tagAt s at) g w refl e, second s at g (w .tag)))
+    (λ e. size-within s at m (tagAt s at) g w refl (λ z. omega arith) (λ z. omega arith))
+    (λ e. omega (arith, size-tuple s at m (tagAt s at) g w refl (size (valueAt s at)) e refl, is-here s at g (w .tag) .fits))
+
+-- A row has no more words than its variables have targets.
+module _ (s : List ℤ) (b : List Binding) (n : ℕ) (q : Bound s b n) (g : Target s) where
+  row-most : (k v : ℕ) → v + k ≡ n → length (row (boundFrom s b v n)) ≤ k * length s
+  row-most zero v e = rw (row-none s b n v q (omega arith)) (omega arith)
+  row-most (suc k) v e =
+      let h : v < n = omega arith in
+      rw (suc-mul k (length s))
+      (omega (arith, step-length s b n v q h, held-within s (getD b v nothing .at) (getD b v nothing .marks) g (q .are v h), row-most k (v + 1) (omega arith)))
+
+  pub row-within : length (row (bound s b n)) ≤ n * length s
+  row-within = rw (row-start s b n) (row-most n 0 (omega arith))
+
+pub targets-fit : (s : List ℤ) (n : ℕ) → Target s → n ≤ 16 → Fits w64 (n * length s)
+targets-fit s n g h = let l : n * length s ≤ 16 * 1024 = mul-le-mul h (g .short) in record { fits = omega arith }
 
 module _ (s : List ℤ) (b : List Binding) (n v k r : ℕ) (q : Bound s b n) (h : v < n) (g : Target s)
     (e : r ≡ size (heldAt s (getD b v nothing .at) (getD b v nothing .marks))) where
   small : r ≤ 1024
-  small = omega (arith, e, held-size s (getD b v nothing .at) (getD b v nothing .marks) g (row-held s b n v q h))
+  small = omega (arith, e, held-within s (getD b v nothing .at) (getD b v nothing .marks) g (row-held s b n v q h), g .short)
 
   pub sum-fits : k ≤ v * 1024 → Fits w64 (k + r)
   sum-fits a = let z = row-16 s b n v q h in record { fits = omega (arith, small) }
@@ -284,24 +295,3 @@ module _ (s : List ℤ) (b : List Binding) (n v k r : ℕ) (q : Bound s b n) (h 
   sum-turn y i = omega (arith, step-length s b n v q h)
 
 pub ruleset sum-rules = (sum-fits, sum-bound, sum-turn, row-held, row-16, row-mul, row-out-size, row-start-sum, needs)
-
--- ---- A bind: one value more at the end, and the earlier ones as they were.
-
-map-end : {A B : Type 0} (f : A → B) (l : List A) (a : A) → map f (l ++ (a ∷ [])) ≡ map f l ++ (f a ∷ [])
-map-end f [] a = refl
-map-end f (x ∷ l) a = ap (λ r. f x ∷ r) (map-end f l a)
-
-pub bind-is : (s : List ℤ) (b : List Binding) (n : ℕ) (x : Binding) → n < length b → bound s (set b n x) (suc n) ≡ bound s b n ++ (holds s x ∷ [])
-unfolding bound
-bind-is s b n x h = rw (take-suc-set b n x h) (map-end (holds s) (take n b) x)
-
-pub bind-bound : (s : List ℤ) (b : List Binding) (n : ℕ) (x : Binding) → n < 16 → Bound s b n → Held s (x .at) (x .marks) → Bound s (set b n x) (suc n)
-bind-bound s b n x h q w = record {
-  most = omega arith;
-  long = length-set b n x ∙ q .long;
-  are = λ v k. go v k (decLt v n);
-}
-  where
-    go : (v : ℕ) → v < suc n → Dec (v < n) → Held s (getD (set b n x) v nothing .at) (getD (set b n x) v nothing .marks)
-    go v k (yes y) = rw (getD-set-other b n v x nothing (λ z. omega arith)) (q .are v y)
-    go v k (no y) = let z : v ≡ n = omega arith in rw (z, getD-set-same b n x nothing (omega (arith, q .long))) w

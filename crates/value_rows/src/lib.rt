@@ -9,7 +9,7 @@ use words::marks::rest;
 ghost use mathlib.Core.Path.{_≡_};
 ghost use mathlib.Core.List.{_∷_, []};
 ghost use Prim.Native.Nat.{_+_, _-_, _<_, _≤_};
-ghost use lib.ListN.{length, set};
+ghost use lib.ListN.{length};
 ghost use lib.IntN.{pos};
 ghost use lib.Count.{ones};
 ghost use Rattle.rules.specs.Forms.{size, words};
@@ -23,15 +23,6 @@ ghost use Rattle.value_rows.specs.Row.{bound, Bound};
 pub struct Binding {
     pub at: usize,
     pub marks: u64,
-}
-
-// Variable v is bound.
-pub fn bind(mut b: [Binding; 16], v: usize, x: Binding) -> [Binding; 16]
-    requires { ⌜ v < 16 ⌝ }
-    ensures { λ r. ⌜ r ≡ set b v x ⌝ }
-{
-    b[v] = x;
-    b
 }
 
 // How many words the value at an index has.
@@ -132,7 +123,7 @@ fn put_left(
 }
 
 // A held value's words, written into the room from an index on.
-fn put_value(
+pub fn put_value(
     s: &[i32],
     ends: &[u16; 512],
     base: &[u16; 512],
@@ -182,30 +173,4 @@ pub fn row_size(
         v += 1;
     }
     size
-}
-
-// The row, written into the room from an index on.
-pub fn put_row(
-    s: &[i32],
-    ends: &[u16; 512],
-    base: &[u16; 512],
-    places: &[u16; 512],
-    b: [Binding; 16],
-    n: usize,
-    room: &mut [i32],
-    from: usize,
-) -> usize
-    requires { ⌜ Target (now s) ⌝ ∗ ⌜ Ends (now s) (now ends) ⌝ ∗ ⌜ Places (now s) (now base) (now places) ⌝ ∗ ⌜ Bound (now s) b n ⌝ ∗ ⌜ from + length (row (bound (now s) b n)) ≤ length (now room) ⌝ }
-    ensures { λ r. ⌜ (r ≡ from + length (row (bound (now (s .entry)) b n))) × (now (room .exit) ≡ put (now (room .entry)) from (row (bound (now (s .entry)) b n))) ⌝ }
-{
-    let mut o = from;
-    let mut v: usize = 0;
-    while v < n {
-        let x = b[v];
-        let at = x.at;
-        let m = x.marks;
-        o = put_value(s, ends, base, places, at, m, room, o);
-        v += 1;
-    }
-    o
 }

@@ -1,20 +1,39 @@
--- `search::advance` meets its contract: at the loop's head the whole run is what is left of it from here. The measure is the steps left. Assumes nothing.
-use Prim.Native.Nat.{ℕ, _-_, _<_}
+-- `search::advance` meets its contract: at the loop's head the whole run is what is left of it from here. The measure is the steps left. In the inner loop
+-- what is left of the row is still to be written. Assumes nothing.
+use Prim.Native.Nat.{ℕ, _+_, _-_, _<_, _≤_}
 use mathlib.Core.Path.{_≡_, refl, ap, _∙_}
 use mathlib.Core.Logic.{⊎-elim}
 use native.Mathlib.Omega.{arith}
 use borrow.Author.Needs.{needs}
+use lib.ListN.{length}
+use Rattle.rules.specs.Search.{row}
+use Rattle.value_places.specs.Held.{put}
+use Rattle.value_rows.specs.Row.{bound, boundFrom}
 use Rattle.search_step.specs.Steps.{tables}
 use Rattle.search.specs.Run.{Env, env, Run, run, settled, takeOf, runOf}
-use Rattle.search.proofs.Laws.{Here, here-start, here-end, here-spent, here-next, next-less, Asked, asked-3, asked-4, asked-5, asked-6, asked-below, asked-above, took, turn-takes, turn-picks, settled-by, Ready, ready, ready-place, ready-mul, ready-number, ready-number-mul, ready-bound, ready-sum, fine-slots}
+use Rattle.search.specs.Valid.{Rows}
+use Rattle.value_rows.proofs.Row.{targets-fit, row-held, row-16, row-mul, row-room, row-turn, row-turn-size, row-out, row-out-size, row-start-size, row-start-room}
+use Rattle.value_rows.proofs.Room.{length-put}
+use Rattle.search.proofs.Laws.{Sized, sized-asked, sized-ample, tables-path, turned-path, Here, here-start, here-end, here-spent, here-next, next-less, Asked, asked-3, asked-4, asked-5, asked-6, asked-below, asked-above, took-full, took-wrote, took-step, turn-row, turn-steps, turn-picks, settled-by, Ready, ready, ready-place, ready-mul, ready-number, ready-number-mul, ready-bound, ready-sum, fine-slots}
 use Rattle.search.proofs.advance.Statement.{statement}
 use Rattle.search.proofs.advance.Tie as tie
 use Rattle.value_equality.proofs.equal.Reads as equal-reads
 use Rattle.value_equality.proofs.is_sum.Reads as is-sum-reads
-use Rattle.value_rows.proofs.bind.Reads as bind-reads
+use Rattle.value_rows.proofs.put_value.Reads as put-value-reads
+use Rattle.value_rows.proofs.row_size.Reads as row-size-reads
 use Rattle.search.proofs.index.Reads as index-reads
-use Rattle.search.proofs.taking.take.Reads as take-reads
+use Rattle.search.proofs.taking.filled.Reads as filled-reads
+use Rattle.search.proofs.taking.wrote.Reads as wrote-reads
+use Rattle.search_step.proofs.State.step.Reads as step-reads
 use Rattle.search_choice.proofs.settle.Reads as settle-reads
+
+abbrev Inv-loop2 : tie.InvT-loop2
+Inv-loop2 budget n mt s ends base places op from to arg mat con ats wholes lefts lows backs room₀ x b steps pc at m o q e₀ free size v₀ room e v =
+    (v ≤ n) × (length room ≡ length room₀) × (e₀ + length (row (bound s b n)) ≤ length room) × (e₀ + length (row (bound s b n)) ≡ e + length (row (boundFrom s b v n)))
+    × (put room₀ e₀ (row (bound s b n)) ≡ put room e (row (boundFrom s b v n)))
+
+abbrev μ-loop2 : tie.MeasureT-loop2
+μ-loop2 budget n mt s ends base places op from to arg mat con ats wholes lefts lows backs room₀ x b steps pc at m o q e₀ free size v₀ room e v = n - v
 
 abbrev Inv-loop : tie.InvT-loop
 Inv-loop budget n mt s ends base places op from to arg mat con ats₀ wholes₀ lefts₀ lows₀ backs₀ room₀ x₀ b₀ ats wholes lefts lows backs room x b =
@@ -25,129 +44,213 @@ abbrev μ-loop : tie.MeasureT-loop
 μ-loop budget n mt s ends base places op from to arg mat con ats₀ wholes₀ lefts₀ lows₀ backs₀ room₀ x₀ b₀ ats wholes lefts lows backs room x b = budget - x .steps
 
 -- The program and the run at the loop's head.
-abbrev program : tie.At-loop Inv-loop μ-loop → Env
+abbrev program : tie.At-loop Inv-loop2 μ-loop2 Inv-loop μ-loop → Env
 program c =
     env (c .before .args .op .now) (c .before .args .from .now) (c .before .args .to .now) (c .before .args .arg .now) (c .before .args .mat .now) (c .before .args .con .now) (c .before .args .mt .now)
     (c .before .args .s .now) (c .before .args .n)
 
-abbrev current : tie.At-loop Inv-loop μ-loop → Run
+abbrev current : tie.At-loop Inv-loop2 μ-loop2 Inv-loop μ-loop → Run
 current c = run (c .loop .x) (tables (c .loop .ats) (c .loop .wholes) (c .loop .lefts) (c .loop .lows) (c .loop .backs)) (c .loop .b) (c .loop .room)
 
 -- A state stands, and the budget is not used up.
-stands : (c : tie.Else2 Inv-loop μ-loop) → Ready (program (c .before .before .before)) (current (c .before .before .before))
+stands : (c : tie.Else2 Inv-loop2 μ-loop2 Inv-loop μ-loop) → Ready (program (c .before .before .before)) (current (c .before .before .before))
 stands c =
     ready _ _ _ _ _ (c .before .before .before .loop .inv) (c .before .before .before .before .pre .1 .0) (c .before .before .before .before .pre .0 .target) (c .before .if1 .taken) (c .if2 .left)
     (omega arith)
 
 -- Where the branches before a step meet.
-joined : (c : tie.Joined3 Inv-loop μ-loop) → Asked (program (c .before .before .before .before .before)) (current (c .before .before .before .before .before)) (c .if3 .q) (c .if3 .b)
+joined : (c : tie.Joined3 Inv-loop2 μ-loop2 Inv-loop μ-loop) → Asked (program (c .before .before .before .before .before)) (current (c .before .before .before .before .before)) (c .if3 .q) (c .if3 .b)
 joined c = ⊎-elim
     (λ w. asked-5 _ _ _ _ _ _ _ _ _ _ (w .1 .taken) (w .3 .ensures) (w .7) (w .8) (search needs) (w .6 .ensures))
-    (⊎-elim (λ w. asked-3 _ _ _ _ _ _ _ _ (w .3 .taken) (w .5 .ensures) (w .7 ∙ w .6 .ensures) (w .8))
+    (⊎-elim (λ w. asked-3 _ _ _ _ _ _ _ _ (w .3 .taken) (w .5 .ensures) (w .6) (w .7))
     (⊎-elim (λ w. asked-4 _ _ _ _ _ _ _ (w .2 .taken) (w .3 .left) (w .4) (w .5))
     (⊎-elim (λ w. asked-6 _ _ _ _ _ _ _ _ _ _ (w .1 .left) (w .2 .left) (w .3 .taken) (w .5 .ensures) (w .8 .ensures) (w .10) (w .11) (w .9 .ensures))
     (⊎-elim (λ w. asked-above _ _ _ _ _ _ _ (w .3 .left) (w .4) (w .5))
     (λ w. asked-below _ _ _ _ _ _ _ (w .0 .left) (w .1) (w .2))))))
     (c .if3 .came)
 
-loop-holds : tie.Need-loop-holds Inv-loop μ-loop
+-- At a state with no atom left: its row can be written, and what is known of its size.
+rows : (c : tie.Then8 Inv-loop2 μ-loop2 Inv-loop μ-loop) → Rows (c .before .before .before .before .before .before .before .args .s .now) (c .before .if3 .b) (c .before .before .before .before .before .before .before .args .n) (c .before .before .before .before .before .before .loop .x) (c .before .before .before .before .before .before .loop .room)
+rows c = let h = stands (c .before .before .before) in turn-row _ _ _ _ _ _ _ (joined (c .before)) (h .fine) (h .target) (h .valid) (h .count) (c .if8 .taken)
+
+sized : (c : tie.Joined9 Inv-loop2 μ-loop2 Inv-loop μ-loop) → Sized (c .before .before .before .before .before .before .before .before .args .s .now) (c .before .before .if3 .b) (c .before .before .before .before .before .before .before .before .args .n) (length (c .before .before .before .before .before .before .before .loop .room) - c .before .before .before .before .before .before .before .loop .x .words) (c .if9 .size)
+sized c = ⊎-elim
+    (λ w. sized-asked _ _ _ _ _ (w .2 ∙ w .1 .ensures))
+    (λ w. sized-ample _ _ _ _ _ (c .before .before .before .before .before .before .before .before .pre .0 .target) (rows (c .before) .bound) (w .1) (w .0 .left))
+    (c .if9 .came)
+
+-- Where a row and a step meet: the state is taken up.
+met : (c : tie.Joined8 Inv-loop2 μ-loop2 Inv-loop μ-loop)
+    → run (c .if8 .x) (tables (c .if8 .ats) (c .if8 .wholes) (c .if8 .lefts) (c .if8 .lows) (c .if8 .backs)) (c .before .if3 .b) (c .if8 .room)
+    ≡ takeOf (program (c .before .before .before .before .before .before)) (current (c .before .before .before .before .before .before))
+met c = ⊎-elim
+    (λ w. let z = sized (record { before = record { before = c .before; if8 = w .0 }; if9 = w .1 }) in
+    took-full _ _ _ _ _ _ _ (joined (c .before)) _ _ _ (w .0 .taken) (z .short (w .2 .taken)) (w .10 ∙ w .3 .ensures) (tables-path (w .4) (w .5) (w .6) (w .7) (w .8)) (w .9))
+    (⊎-elim
+    (λ w. let z = sized (record { before = record { before = c .before; if8 = w .0 }; if9 = w .1 }) in
+    let k = rows (record { before = c .before; if8 = w .0 }) .bound in
+    let i = w .3 .inv in
+    took-wrote _ _ _ _ _ _ _ (joined (c .before)) _ _ _ _ (w .0 .taken) (z .fits (w .2 .left)) (w .12 ∙ w .5 .ensures)
+    (row-out-size _ _ _ _ _ _ k (i .3) (w .4 .left)) (tables-path (w .6) (w .7) (w .8) (w .9) (w .10)) (w .11 ∙ row-out _ _ _ _ _ _ _ k (i .4) (w .4 .left)))
+    (λ w. took-step _ _ _ _ _ _ _ (joined (c .before)) _ _ _ (w .0 .left) (turned-path (w .13) (tables-path (w .7) (w .8) (w .9) (w .10) (w .11)) ∙ w .6 .ensures) (w .12)))
+    (c .if8 .came)
+
+loop-holds : tie.Need-loop-holds Inv-loop2 μ-loop2 Inv-loop μ-loop
 loop-holds c = here-start _ _ _ (c .pre .1 .1)
 
-same-length : tie.Need-same-length Inv-loop μ-loop
+same-length : tie.Need-same-length Inv-loop2 μ-loop2 Inv-loop μ-loop
 same-length c = c .before .before .before .loop .inv .long
 
-returns : tie.Need-returns Inv-loop μ-loop
+returns : tie.Need-returns Inv-loop2 μ-loop2 Inv-loop μ-loop
 returns c = here-spent _ _ _ _ _ (c .before .before .before .loop .inv) (c .if2 .taken)
 
-element-copy-out-o : tie.Need-element-copy-out-o Inv-loop μ-loop
+element-copy-out-o : tie.Need-element-copy-out-o Inv-loop2 μ-loop2 Inv-loop μ-loop
 element-copy-out-o c = ready-place _ _ _ _ _ (stands c)
 
-element-copy-out-index : tie.Need-element-copy-out-index Inv-loop μ-loop
+element-copy-out-index : tie.Need-element-copy-out-index Inv-loop2 μ-loop2 Inv-loop μ-loop
 element-copy-out-index c = ready-place _ _ _ _ _ (stands (c .before .before .before))
 
-index-requires : tie.Need-index-requires Inv-loop μ-loop
+index-requires : tie.Need-index-requires Inv-loop2 μ-loop2 Inv-loop μ-loop
 index-requires c κs = search needs
 
-mul-y : tie.Need-mul-y Inv-loop μ-loop
+mul-y : tie.Need-mul-y Inv-loop2 μ-loop2 Inv-loop μ-loop
 mul-y c = ready-number-mul _ _ _ _ _ (stands (c .before .before .before .before .before)) _ (c .index .ensures)
 
-array-copy-out-y : tie.Need-array-copy-out-y Inv-loop μ-loop
+array-copy-out-y : tie.Need-array-copy-out-y Inv-loop2 μ-loop2 Inv-loop μ-loop
 array-copy-out-y c = ready-number _ _ _ _ _ (stands (c .before .before .before .before .before)) _ (c .index .ensures)
 
-mul-c : tie.Need-mul-c Inv-loop μ-loop
+mul-c : tie.Need-mul-c Inv-loop2 μ-loop2 Inv-loop μ-loop
 mul-c c = ready-mul _ _ _ _ _ (stands (c .before .before .before .before .before .before))
 
-element-copy-out-c : tie.Need-element-copy-out-c Inv-loop μ-loop
+element-copy-out-c : tie.Need-element-copy-out-c Inv-loop2 μ-loop2 Inv-loop μ-loop
 element-copy-out-c c = ready-place _ _ _ _ _ (stands (c .before .before .before .before .before .before))
 
-is-sum-requires : tie.Need-is-sum-requires Inv-loop μ-loop
+is-sum-requires : tie.Need-is-sum-requires Inv-loop2 μ-loop2 Inv-loop μ-loop
 is-sum-requires c κs = ready-sum _ _ _ _ _ (stands (c .before .before .before .before .before .before .before)) _ (c .before .before .index .ensures)
 
-element-copy-out-index-2 : tie.Need-element-copy-out-index-2 Inv-loop μ-loop
+element-copy-out-index-2 : tie.Need-element-copy-out-index-2 Inv-loop2 μ-loop2 Inv-loop μ-loop
 element-copy-out-index-2 c = ready-place _ _ _ _ _ (stands (c .before .before .before .before .before))
 
-index-requires-2 : tie.Need-index-requires-2 Inv-loop μ-loop
+index-requires-2 : tie.Need-index-requires-2 Inv-loop2 μ-loop2 Inv-loop μ-loop
 index-requires-2 c κs = search needs
 
-bind-requires : tie.Need-bind-requires Inv-loop μ-loop
-bind-requires c κs = ready-number _ _ _ _ _ (stands (c .before .before .before .before .before .before .before)) _ (c .index2 .ensures)
+mul-b : tie.Need-mul-b Inv-loop2 μ-loop2 Inv-loop μ-loop
+mul-b c = ready-number-mul _ _ _ _ _ (stands (c .before .before .before .before .before .before .before)) _ (c .index2 .ensures)
 
-element-copy-out-index-3 : tie.Need-element-copy-out-index-3 Inv-loop μ-loop
+array-set-from-b : tie.Need-array-set-from-b Inv-loop2 μ-loop2 Inv-loop μ-loop
+array-set-from-b c = ready-number _ _ _ _ _ (stands (c .before .before .before .before .before .before .before)) _ (c .index2 .ensures)
+
+element-copy-out-index-3 : tie.Need-element-copy-out-index-3 Inv-loop2 μ-loop2 Inv-loop μ-loop
 element-copy-out-index-3 c = ready-place _ _ _ _ _ (stands (c .before .before .before .before .before))
 
-index-requires-3 : tie.Need-index-requires-3 Inv-loop μ-loop
+index-requires-3 : tie.Need-index-requires-3 Inv-loop2 μ-loop2 Inv-loop μ-loop
 index-requires-3 c κs = search needs
 
-mul-y-2 : tie.Need-mul-y-2 Inv-loop μ-loop
+mul-y-2 : tie.Need-mul-y-2 Inv-loop2 μ-loop2 Inv-loop μ-loop
 mul-y-2 c = ready-number-mul _ _ _ _ _ (stands (c .before .before .before .before .before .before .before)) _ (c .index3 .ensures)
 
-array-copy-out-y-2 : tie.Need-array-copy-out-y-2 Inv-loop μ-loop
+array-copy-out-y-2 : tie.Need-array-copy-out-y-2 Inv-loop2 μ-loop2 Inv-loop μ-loop
 array-copy-out-y-2 c = ready-number _ _ _ _ _ (stands (c .before .before .before .before .before .before .before)) _ (c .index3 .ensures)
 
-element-copy-out-index-4 : tie.Need-element-copy-out-index-4 Inv-loop μ-loop
+element-copy-out-index-4 : tie.Need-element-copy-out-index-4 Inv-loop2 μ-loop2 Inv-loop μ-loop
 element-copy-out-index-4 c = ready-place _ _ _ _ _ (stands (c .before .before .before .before .before .before .before .before))
 
-index-requires-4 : tie.Need-index-requires-4 Inv-loop μ-loop
+index-requires-4 : tie.Need-index-requires-4 Inv-loop2 μ-loop2 Inv-loop μ-loop
 index-requires-4 c κs = search needs
 
-equal-requires : tie.Need-equal-requires Inv-loop μ-loop
+equal-requires : tie.Need-equal-requires Inv-loop2 μ-loop2 Inv-loop μ-loop
 equal-requires c κs =
     let h = stands (c .before .before .before .before .before .before .before .before .before .before) in
     (h .target, (c .before .before .before .before .before .before .before .before .before .before .before .before .before .before .pre .0 .placed, (ready-bound _ _ _ _ _ h _ (c .before .before .before .index3 .ensures), h .valid .held)))
 
-take-requires : tie.Need-take-requires Inv-loop μ-loop
-take-requires c κs =
+sub-free : tie.Need-sub-free Inv-loop2 μ-loop2 Inv-loop μ-loop
+sub-free c = rows c .words
+
+mul-if9 : tie.Need-mul-if9 Inv-loop2 μ-loop2 Inv-loop μ-loop
+mul-if9 c = let h = stands (c .before .before .before) in targets-fit _ _ (h .target) (h .fine .few)
+
+row-size-requires : tie.Need-row-size-requires Inv-loop2 μ-loop2 Inv-loop μ-loop
+row-size-requires c κs = let g = c .before .before .before .before .before .before .before .before .pre .0 in (g .target, (g .ended, (g .placed, rows (c .before) .bound)))
+
+filled-requires : tie.Need-filled-requires Inv-loop2 μ-loop2 Inv-loop μ-loop
+filled-requires c κs = rows (c .before .before) .steps
+
+loop2-holds : tie.Need-loop2-holds Inv-loop2 μ-loop2 Inv-loop μ-loop
+loop2-holds c =
+    let k = rows (c .before .before) in
+    let l = sized (c .before) .fits (c .if10 .left) in
+    let w = k .words in
+    (omega arith, refl, omega arith, row-start-size _ _ _ _, row-start-room _ _ _ _ _)
+
+mul-y-3 : tie.Need-mul-y-3 Inv-loop2 μ-loop2 Inv-loop μ-loop
+mul-y-3 c = row-mul _ _ _ _ (rows (c .before .before .before .before) .bound) (c .loop2-test .taken)
+
+array-copy-out-y-3 : tie.Need-array-copy-out-y-3 Inv-loop2 μ-loop2 Inv-loop μ-loop
+array-copy-out-y-3 c = row-16 _ _ _ _ (rows (c .before .before .before .before) .bound) (c .loop2-test .taken)
+
+put-value-requires : tie.Need-put-value-requires Inv-loop2 μ-loop2 Inv-loop μ-loop
+put-value-requires c κs =
+    let g = c .before .before .before .before .before .before .before .before .before .before .before .before .before .pre .0 in
+    let k = rows (c .before .before .before .before .before .before) .bound in
+    let i = c .before .before .before .loop2 .inv in
+    let h = c .before .before .loop2-test .taken in
+    (g .target, (g .ended, (g .placed, (row-held _ _ _ _ k h, row-room _ _ _ _ k h _ _ _ (i .3) (i .2)))))
+
+add-v : tie.Need-add-v Inv-loop2 μ-loop2 Inv-loop μ-loop
+add-v c = let l = row-16 _ _ _ _ (rows (c .before .before .before .before .before .before .before .before) .bound) (c .before .before .before .before .loop2-test .taken) in record { fits = omega arith }
+
+loop2-less : tie.Need-loop2-less Inv-loop2 μ-loop2 Inv-loop μ-loop
+loop2-less c = let h = c .before .before .before .before .loop2-test .taken in omega arith
+
+loop2-again : tie.Need-loop2-again Inv-loop2 μ-loop2 Inv-loop μ-loop
+loop2-again c =
+    let k = rows (c .before .before .before .before .before .before .before .before) .bound in
+    let i = c .before .before .before .before .before .loop2 .inv in
+    let h = c .before .before .before .before .loop2-test .taken in
+    let p = c .before .put-value .ensures in
+    let l = ap length (p .1) ∙ length-put _ _ _ in (
+      omega arith,
+      l ∙ i .1,
+      omega (arith, l, i .2),
+      row-turn-size _ _ _ _ k h _ _ _ (i .3) (p .0),
+      row-turn _ _ _ _ k h _ _ _ _ _ (i .4) (p .0) (p .1),
+    )
+
+wrote-requires : tie.Need-wrote-requires Inv-loop2 μ-loop2 Inv-loop μ-loop
+wrote-requires c κs = let k = rows (c .before .before .before .before) in (k .steps, k .rows)
+
+step-requires : tie.Need-step-requires Inv-loop2 μ-loop2 Inv-loop μ-loop
+step-requires c κs =
     let h = stands (c .before .before .before .before .before .before .before .before) in
-    (c .before .before .before .before .before .before .before .before .before .before .before .before .pre .0, turn-takes _ _ _ _ _ _ _ (joined (c .before .before .before .before .before .before)) (h .fine) (h .target) (h .valid) (h .count))
+    (h .target, (c .before .before .before .before .before .before .before .before .before .before .before .before .pre .0 .placed, turn-steps _ _ _ _ _ _ _ (joined (c .before .before .before .before .before .before)) (h .fine) (h .target) (h .valid) (h .count)))
 
-settle-requires : tie.Need-settle-requires Inv-loop μ-loop
+settle-requires : tie.Need-settle-requires Inv-loop2 μ-loop2 Inv-loop μ-loop
 settle-requires c κs =
-    let h = stands (c .before .before .before .before .before .before .before .before .before .before .before .before .before .before .before) in
-    let a = joined (c .before .before .before .before .before .before .before .before .before .before .before .before .before) in
-    (h .target, (c .before .before .before .before .before .before .before .before .before .before .before .before .before .before .before .before .before .before .before .pre .0 .placed, (fine-slots _ (h .fine), turn-picks _ _ _ _ _ _ _ a (h .fine) (h .target) (h .valid) (h .count) (h .live) _ _ _ _ (took _ _ _ _ _ _ _ a _ (c .before .before .before .before .before .before .take .ensures)))))
+    let h = stands (c .before .before .before .before .before .before .before .before) in
+    (h .target, (c .before .before .before .before .before .before .before .before .before .before .before .before .pre .0 .placed, (fine-slots _ (h .fine), turn-picks _ _ _ _ _ _ _ (joined (c .before .before .before .before .before .before)) (h .fine) (h .target) (h .valid) (h .count) (h .live) _ _ _ _ (met (c .before .before .before .before .before)))))
 
-loop-less : tie.Need-loop-less Inv-loop μ-loop
+loop-less : tie.Need-loop-less Inv-loop2 μ-loop2 Inv-loop μ-loop
 loop-less c =
-    let h = stands (c .before .before .before .before .before .before .before .before .before .before .before .before .before .before .before .before) in
-    next-less _ _ _ _ _ (c .before .before .before .before .before .before .before .before .before .before .before .before .before .before .before .before .before .before .before .loop .inv) (h .fine) (h .target) (h .live) (c .before .before .before .before .before .before .before .before .before .before .before .before .before .before .before .before .if2 .left) _
-    (settled-by _ (run (c .before .before .before .before .before .before .before .take .result) _ _ _) _ _ (c .settle .ensures) ∙ ap (settled _) (took _ _ _ _ _ _ _ (joined (c .before .before .before .before .before .before .before .before .before .before .before .before .before .before)) _ (c .before .before .before .before .before .before .before .take .ensures)))
+    let h = stands (c .before .before .before .before .before .before .before .before .before) in
+    next-less _ _ _ _ _ (c .before .before .before .before .before .before .before .before .before .before .before .before .loop .inv) (h .fine) (h .target) (h .live) (c .before .before .before .before .before .before .before .before .before .if2 .left) _ (settled-by _ (run (c .before .before .before .before .before .before .if8 .x) _ _ _) _ _ (c .settle .ensures) ∙ ap (settled _) (met (c .before .before .before .before .before .before)))
 
-loop-again : tie.Need-loop-again Inv-loop μ-loop
+loop-again : tie.Need-loop-again Inv-loop2 μ-loop2 Inv-loop μ-loop
 loop-again c =
-    let h = stands (c .before .before .before .before .before .before .before .before .before .before .before .before .before .before .before .before) in
-    here-next _ _ _ _ _ (c .before .before .before .before .before .before .before .before .before .before .before .before .before .before .before .before .before .before .before .loop .inv) (h .fine) (h .target) (h .live) (c .before .before .before .before .before .before .before .before .before .before .before .before .before .before .before .before .if2 .left) _
-    (settled-by _ (run (c .before .before .before .before .before .before .before .take .result) _ _ _) _ _ (c .settle .ensures) ∙ ap (settled _) (took _ _ _ _ _ _ _ (joined (c .before .before .before .before .before .before .before .before .before .before .before .before .before .before)) _ (c .before .before .before .before .before .before .before .take .ensures)))
+    let h = stands (c .before .before .before .before .before .before .before .before .before) in
+    here-next _ _ _ _ _ (c .before .before .before .before .before .before .before .before .before .before .before .before .loop .inv) (h .fine) (h .target) (h .live) (c .before .before .before .before .before .before .before .before .before .if2 .left) _ (settled-by _ (run (c .before .before .before .before .before .before .if8 .x) _ _ _) _ _ (c .settle .ensures) ∙ ap (settled _) (met (c .before .before .before .before .before .before)))
 
-same-length-2 : tie.Need-same-length-2 Inv-loop μ-loop
+same-length-2 : tie.Need-same-length-2 Inv-loop2 μ-loop2 Inv-loop μ-loop
 same-length-2 c = c .before .before .loop .inv .long
 
-returns-2 : tie.Need-returns-2 Inv-loop μ-loop
+returns-2 : tie.Need-returns-2 Inv-loop2 μ-loop2 Inv-loop μ-loop
 returns-2 c = here-end _ _ _ _ _ (c .before .before .loop .inv) (c .if1 .left)
 
 pub advance-spec : {M : Type 1} → statement M
 advance-spec =
     tie.close
     (tie.spec
+    Inv-loop2
+    μ-loop2
     Inv-loop
     μ-loop
     loop-holds
@@ -163,7 +266,8 @@ advance-spec =
     is-sum-requires
     element-copy-out-index-2
     index-requires-2
-    bind-requires
+    mul-b
+    array-set-from-b
     element-copy-out-index-3
     index-requires-3
     mul-y-2
@@ -171,7 +275,19 @@ advance-spec =
     element-copy-out-index-4
     index-requires-4
     equal-requires
-    take-requires
+    sub-free
+    mul-if9
+    row-size-requires
+    filled-requires
+    loop2-holds
+    mul-y-3
+    array-copy-out-y-3
+    put-value-requires
+    add-v
+    loop2-less
+    loop2-again
+    wrote-requires
+    step-requires
     settle-requires
     loop-less
     loop-again
