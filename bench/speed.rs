@@ -40,13 +40,13 @@ const THREE_IN_A_ROW: &[i32] = &[6, 0, 5, 1, 0, 5, 3, 0, 1, 5, 3, 0, 2, 0];
 
 #[rustfmt::skip]
 pub const CASES: [Case; 12] = [
-    Case { name: "T1", about: "two of a rank, 64 equal", bar: 520, per: Per::Step,
+    Case { name: "T1", about: "two of a rank, 64 equal", bar: 341, per: Per::Step,
         matcher: MULTISET, pattern: TWO_OF_A_RANK, target: || units(64, |_| 7), budget: u32::MAX },
-    Case { name: "T2", about: "two of a rank, 64 unequal", bar: 489, per: Per::Step,
+    Case { name: "T2", about: "two of a rank, 64 unequal", bar: 591, per: Per::Step,
         matcher: MULTISET, pattern: TWO_OF_A_RANK, target: || units(64, |k| k), budget: u32::MAX },
-    Case { name: "T3", about: "four cons over variables, 16", bar: 736, per: Per::Step,
+    Case { name: "T3", about: "four cons over variables, 16", bar: 440, per: Per::Step,
         matcher: MULTISET, pattern: FOUR_VARIABLES, target: || units(16, |k| k), budget: u32::MAX },
-    Case { name: "T4", about: "four cons over wildcards, 16", bar: 273, per: Per::Step,
+    Case { name: "T4", about: "four cons over wildcards, 16", bar: 239, per: Per::Step,
         matcher: MULTISET, pattern: FOUR_WILDCARDS, target: || units(16, |k| k), budget: u32::MAX },
     Case { name: "T5", about: "list: join cons join cons, 64", bar: 349, per: Per::Step,
         matcher: LIST, pattern: TWICE_IN_A_LIST, target: || units(64, |k| k % 24), budget: u32::MAX },
