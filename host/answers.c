@@ -106,9 +106,25 @@ static void too_short(void)
     printf("match and review 24\n");
 }
 
+/* Slices of no words and null pointers: refused as every other words, and a match with no room. */
+static void nulls(void)
+{
+    static const int32_t integer[] = {1}, wildcard[] = {0}, seven[] = {0, 7};
+    clear();
+    check(lozhbinor_match(NULL, 0, NULL, 0, NULL, 0, 1000, NULL, 0, bytes + GUARD, LOZHBINOR_MATCH_BYTES) == LOZHBINOR_MATCHER, "no matcher at null");
+    check(lozhbinor_match(integer, 1, NULL, 0, NULL, 0, 1000, NULL, 0, bytes + GUARD, LOZHBINOR_MATCH_BYTES) == LOZHBINOR_PATTERN, "no pattern at null");
+    check(lozhbinor_match(integer, 1, wildcard, 1, NULL, 0, 1000, NULL, 0, bytes + GUARD, LOZHBINOR_MATCH_BYTES) == LOZHBINOR_TARGET, "no target at null");
+    check(lozhbinor_match(integer, 1, wildcard, 1, seven, 2, 1000, NULL, 0, bytes + GUARD, LOZHBINOR_MATCH_BYTES) == LOZHBINOR_DONE, "no room at null");
+    check(lozhbinor_matched_of(bytes + GUARD).rows == 1, "the row of no words");
+    check(lozhbinor_match(integer, 1, wildcard, 1, seven, 2, 1000, NULL, 0, NULL, 0) == LOZHBINOR_SHORT, "no numbers at null");
+    check(lozhbinor_review(NULL, 0, NULL, 0, 8, NULL, 0) == LOZHBINOR_SHORT, "review with no numbers at null");
+}
+
 int main(void)
 {
     static const int32_t too_many[1025];
+    check(lozhbinor_version() == LOZHBINOR_VERSION, "the version of the library is that of the header");
+    nulls();
     match("3 1", "5 1 0 5 3 0 0 0", "1 3 0 2 0 8 0 2", 1000, ROOM, "0 0 2 22 4 0");
     match("3 4 2 1 1", "5 7 2 1 0 1 1 5 7 2 3 0 0 3 1 1 0", "1 3 2 2 0 1 0 4 2 2 0 2 0 5 2 2 0 1 0 5", 1000, ROOM, "0 0 1 36 4 0");
     match("9", "0", "0 7", 1000, ROOM, "1 0 0 0 0 0");

@@ -36,24 +36,23 @@ int main(void)
     uint8_t numbers[LOZHBINOR_MATCH_BYTES];
     int32_t room[256];
 
-    uint32_t answer = lozhbinor_review(matcher, COUNT(matcher), pattern, COUNT(pattern), 64, numbers, sizeof numbers);
-    if (answer != LOZHBINOR_DONE) {
-        printf("the rule is refused: answer %" PRIu32 ", place %" PRIu64 "\n", answer, lozhbinor_number(numbers, 1));
+    lozhbinor_review(matcher, COUNT(matcher), pattern, COUNT(pattern), LOZHBINOR_CAP_LARGEST, numbers, sizeof numbers);
+    struct lozhbinor_reviewed rule = lozhbinor_reviewed_of(numbers);
+    if (rule.answer != LOZHBINOR_DONE) {
+        printf("the rule is refused: %s, at word %zu\n", lozhbinor_answer_name(rule.answer), rule.place);
         return 1;
     }
-    uint64_t worst = lozhbinor_number(numbers, 2);
-    printf("at worst %" PRIu64 " steps for 64 units\n", worst);
+    printf("at worst %" PRIu32 " steps for 64 units\n", rule.count);
 
-    answer = lozhbinor_match(matcher, COUNT(matcher), pattern, COUNT(pattern), units, COUNT(units), (uint32_t)worst,
-                             room, COUNT(room), numbers, sizeof numbers);
-    if (answer == LOZHBINOR_TARGET) {
-        printf("the units are refused: place %" PRIu64 ", cause %" PRIu64 "\n", lozhbinor_number(numbers, 1), lozhbinor_number(numbers, 5));
+    lozhbinor_match(matcher, COUNT(matcher), pattern, COUNT(pattern), units, COUNT(units), rule.count, room, COUNT(room), numbers, sizeof numbers);
+    struct lozhbinor_matched found = lozhbinor_matched_of(numbers);
+    if (found.answer == LOZHBINOR_TARGET) {
+        printf("the units are refused at word %zu: %s\n", found.place, lozhbinor_cause_name(found.cause));
         return 1;
     }
-    uint64_t rows = lozhbinor_number(numbers, 2);
-    printf("answer %" PRIu32 ": %" PRIu64 " rows in %" PRIu64 " steps\n", answer, rows, lozhbinor_number(numbers, 3));
+    printf("answer %" PRIu32 ": %" PRIu64 " rows in %" PRIu64 " steps\n", found.answer, found.rows, found.steps);
     const int32_t *at = room;
-    for (uint64_t row = 0; row < rows; row++) {
+    for (uint64_t row = 0; row < found.rows; row++) {
         printf("two of rank");
         for (int variable = 0; variable < VARIABLES; variable++)
             at = print_value(at);

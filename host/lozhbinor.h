@@ -1,10 +1,11 @@
-/* Lozhbinor: badge rules over a player's units, matched and reviewed.
+/* Lozhbinor: badge rules over a player's units, matched and reviewed. The
+ * library is x86-64 code for Linux; on another machine it runs in an emulator.
  *
  * Every slice is a pointer and a length. Words are signed 32-bit numbers; the
  * lengths of matcher, pattern, target and room count words, that of `numbers`
  * counts bytes. The slices are only read, except `room` and `numbers`, which
  * must not overlap each other or any other slice. A slice of length 0 may have
- * any pointer that is not null.
+ * any pointer, null too.
  *
  * The words, each form a tag and what follows it (docs/RULES.md has examples):
  *   matcher, at most 64 words, four levels of 2, 3 and 4
@@ -21,7 +22,15 @@
  * first; its further bytes are left alone. The call gives back the answer. No
  * input is wrong: every words, budget and room give one of the answers below.
  * Nothing is allocated, nothing is kept between calls, and two threads may call
- * at the same time on slices of their own.
+ * at the same time on slices of their own. A call takes at most 34 KB of stack.
+ * It is not interrupted from outside: it ends by itself, a match after at most
+ * `budget` steps.
+ *
+ * How to choose a room. Either by what the game shows: with room for some rows
+ * a match ends with 8 when the next one does not fit, and the rows before it
+ * stand whole. Or so that it is never full: rows times variables times
+ * target_words words, where rows is at most the product of the rule's factors
+ * (docs/RULES.md), and review's count is more than that product.
  */
 #ifndef LOZHBINOR_H
 #define LOZHBINOR_H
@@ -32,6 +41,51 @@
 #ifdef __cplusplus
 extern "C" {
 #endif
+
+/* The version of this header. lozhbinor_version() gives that of the library:
+ * the same number, or the two do not belong together. */
+#define LOZHBINOR_VERSION_MAJOR 2
+#define LOZHBINOR_VERSION_MINOR 1
+#define LOZHBINOR_VERSION (1000 * LOZHBINOR_VERSION_MAJOR + LOZHBINOR_VERSION_MINOR)
+
+uint32_t lozhbinor_version(void);
+
+/* The tags. */
+enum {
+    LOZHBINOR_M_SOMETHING = 0,
+    LOZHBINOR_M_INTEGER = 1,
+    LOZHBINOR_M_LIST = 2,
+    LOZHBINOR_M_MULTISET = 3,
+    LOZHBINOR_M_TUPLE = 4
+};
+enum {
+    LOZHBINOR_P_WILDCARD = 0,
+    LOZHBINOR_P_VARIABLE = 1,
+    LOZHBINOR_P_CONSTANT = 2,
+    LOZHBINOR_P_VALUE = 3,
+    LOZHBINOR_P_NIL = 4,
+    LOZHBINOR_P_CONS = 5,
+    LOZHBINOR_P_JOIN = 6,
+    LOZHBINOR_P_TUPLE = 7,
+    LOZHBINOR_P_AND = 8,
+    LOZHBINOR_P_OR = 9,
+    LOZHBINOR_P_NOT = 10
+};
+enum {
+    LOZHBINOR_T_INTEGER = 0,
+    LOZHBINOR_T_COLLECTION = 1,
+    LOZHBINOR_T_TUPLE = 2
+};
+
+/* The limits. */
+enum {
+    LOZHBINOR_MATCHER_WORDS = 64,
+    LOZHBINOR_PATTERN_WORDS = 256,
+    LOZHBINOR_TARGET_WORDS = 1024,
+    LOZHBINOR_ELEMENTS = 64,
+    LOZHBINOR_VARIABLES = 16,
+    LOZHBINOR_CAP_LARGEST = 64
+};
 
 /* The answers. */
 enum {
@@ -50,8 +104,14 @@ enum {
     LOZHBINOR_SHORT = 24        /* `numbers` is too short; nothing was written */
 };
 
-/* The numbers of match, in this order: answer, place, rows, steps, words, cause. */
+/* The numbers of match, and their indices. */
 enum {
+    LOZHBINOR_ANSWER = 0,
+    LOZHBINOR_PLACE = 1,
+    LOZHBINOR_ROWS = 2,
+    LOZHBINOR_STEPS = 3,
+    LOZHBINOR_WORDS = 4,
+    LOZHBINOR_CAUSE = 5,
     LOZHBINOR_MATCH_NUMBERS = 6,
     LOZHBINOR_MATCH_BYTES = 48
 };
@@ -70,8 +130,9 @@ enum {
     LOZHBINOR_CAUSE_WIDTH = 7        /* a tuple's width is not from 2 to 4 */
 };
 
-/* The numbers of review, in this order: answer, place, count. */
+/* The numbers of review: answer and place as above, and the count. */
 enum {
+    LOZHBINOR_COUNT = 2,
     LOZHBINOR_REVIEW_NUMBERS = 3,
     LOZHBINOR_REVIEW_BYTES = 24
 };
@@ -101,6 +162,78 @@ static inline uint64_t lozhbinor_number(const uint8_t *numbers, size_t index)
     for (size_t i = 8; i-- > 0;)
         number = number << 8 | numbers[8 * index + i];
     return number;
+}
+
+/* The numbers as structs, read from the bytes that a call has written. */
+struct lozhbinor_matched {
+    uint32_t answer;
+    size_t place;
+    uint64_t rows;
+    uint64_t steps;
+    size_t words;
+    uint32_t cause;
+};
+struct lozhbinor_reviewed {
+    uint32_t answer;
+    size_t place;
+    uint32_t count;
+};
+
+static inline struct lozhbinor_matched lozhbinor_matched_of(const uint8_t *numbers)
+{
+    struct lozhbinor_matched m;
+    m.answer = (uint32_t)lozhbinor_number(numbers, LOZHBINOR_ANSWER);
+    m.place = (size_t)lozhbinor_number(numbers, LOZHBINOR_PLACE);
+    m.rows = lozhbinor_number(numbers, LOZHBINOR_ROWS);
+    m.steps = lozhbinor_number(numbers, LOZHBINOR_STEPS);
+    m.words = (size_t)lozhbinor_number(numbers, LOZHBINOR_WORDS);
+    m.cause = (uint32_t)lozhbinor_number(numbers, LOZHBINOR_CAUSE);
+    return m;
+}
+
+static inline struct lozhbinor_reviewed lozhbinor_reviewed_of(const uint8_t *numbers)
+{
+    struct lozhbinor_reviewed r;
+    r.answer = (uint32_t)lozhbinor_number(numbers, LOZHBINOR_ANSWER);
+    r.place = (size_t)lozhbinor_number(numbers, LOZHBINOR_PLACE);
+    r.count = (uint32_t)lozhbinor_number(numbers, LOZHBINOR_COUNT);
+    return r;
+}
+
+/* An answer and a cause in a word or two, for a log. */
+static inline const char *lozhbinor_answer_name(uint32_t answer)
+{
+    switch (answer) {
+    case LOZHBINOR_DONE: return "done";
+    case LOZHBINOR_MATCHER: return "matcher";
+    case LOZHBINOR_PATTERN: return "pattern";
+    case LOZHBINOR_VARIABLE: return "variable";
+    case LOZHBINOR_MISFIT: return "misfit";
+    case LOZHBINOR_TARGET: return "target";
+    case LOZHBINOR_UNFIT: return "unfit";
+    case LOZHBINOR_BUDGET: return "budget";
+    case LOZHBINOR_FULL: return "full";
+    case LOZHBINOR_CAP: return "cap";
+    case LOZHBINOR_TOO_BIG: return "too big";
+    case LOZHBINOR_ALWAYS_TRUE: return "always true";
+    case LOZHBINOR_SHORT: return "short";
+    default: return "no answer";
+    }
+}
+
+static inline const char *lozhbinor_cause_name(uint32_t cause)
+{
+    switch (cause) {
+    case LOZHBINOR_CAUSE_NONE: return "none";
+    case LOZHBINOR_CAUSE_OVER_LENGTH: return "over length";
+    case LOZHBINOR_CAUSE_UNKNOWN_TAG: return "unknown tag";
+    case LOZHBINOR_CAUSE_COUNT: return "count out of range";
+    case LOZHBINOR_CAUSE_TOO_DEEP: return "too deep";
+    case LOZHBINOR_CAUSE_CUT_SHORT: return "cut short";
+    case LOZHBINOR_CAUSE_LEFT_OVER: return "left over";
+    case LOZHBINOR_CAUSE_WIDTH: return "width out of range";
+    default: return "no cause";
+    }
 }
 
 #ifdef __cplusplus

@@ -60,6 +60,16 @@ fn long(x: usize) -> u64
 // 24 short: the slice for the numbers is too short for them.
 const SHORT: u32 = 24;
 
+// The library's version, as the header has it: a thousand times the first number, plus the second.
+const VERSION: u32 = 2001;
+
+#[no_mangle]
+pub extern "C" fn lozhbinor_version() -> u32
+    ensures { λ r. ⌜ r ≡ 2001 ⌝ }
+{
+    VERSION
+}
+
 #[no_mangle]
 pub extern "C" fn lozhbinor_match(
     matcher: &[i32],

@@ -1,0 +1,290 @@
+/* Random calls through the C border, each slice in pages of its own with a page
+ * on either side that may not be touched: a read or a write outside a slice ends
+ * the program.   fuzz CALLS [SEED]
+ *
+ * Half of the slices end where their page ends, half begin where it begins. What
+ * a call answers is held to the header: an answer of the table, what a refusal
+ * leaves alone, no word after the words written, no byte after the numbers, and
+ * the same again for the same call. */
+#define _DEFAULT_SOURCE
+#include "lozhbinor.h"
+
+#include <inttypes.h>
+#include <stdio.h>
+#include <stdlib.h>
+#include <string.h>
+#include <sys/mman.h>
+#include <unistd.h>
+
+enum { WORDS = 2048, FILL = -77, DEPTH = 4 };
+
+static uint64_t state;
+
+static uint32_t below(uint32_t n)
+{
+    state ^= state << 13;
+    state ^= state >> 7;
+    state ^= state << 17;
+    return (uint32_t)((state >> 11) % n);
+}
+
+/* Pages between two that may not be touched. */
+struct pages {
+    uint8_t *first;
+    size_t bytes;
+};
+
+static struct pages pages_for(size_t bytes)
+{
+    size_t page = (size_t)sysconf(_SC_PAGESIZE);
+    struct pages p;
+    p.bytes = (bytes + page - 1) / page * page;
+    uint8_t *all = mmap(NULL, p.bytes + 2 * page, PROT_NONE, MAP_PRIVATE | MAP_ANONYMOUS, -1, 0);
+    if (all == MAP_FAILED || mprotect(all + page, p.bytes, PROT_READ | PROT_WRITE) != 0) {
+        perror("fuzz");
+        exit(2);
+    }
+    p.first = all + page;
+    return p;
+}
+
+/* Where a slice of so many bytes stands: at the end or at the start of its pages. */
+static void *place_of(struct pages p, size_t bytes, int at_end)
+{
+    return at_end ? p.first + p.bytes - bytes : p.first;
+}
+
+struct words {
+    int32_t at[WORDS];
+    size_t count;
+};
+
+static void put(struct words *w, int32_t x)
+{
+    if (w->count < WORDS)
+        w->at[w->count++] = x;
+}
+
+static void matcher(struct words *w, int depth)
+{
+    uint32_t tag = below(depth > 0 ? 5 : 2);
+    put(w, (int32_t)tag);
+    if (tag == LOZHBINOR_M_LIST || tag == LOZHBINOR_M_MULTISET)
+        matcher(w, depth - 1);
+    if (tag == LOZHBINOR_M_TUPLE) {
+        uint32_t width = 2 + below(3);
+        put(w, (int32_t)width);
+        while (width-- > 0)
+            matcher(w, depth - 1);
+    }
+}
+
+/* A pattern under the matcher at `m`, whose next variable is `*next`; gives back where the matcher ends. */
+static const int32_t *skip(const int32_t *m)
+{
+    if (*m == LOZHBINOR_M_LIST || *m == LOZHBINOR_M_MULTISET)
+        return skip(m + 1);
+    if (*m == LOZHBINOR_M_TUPLE) {
+        int32_t width = m[1];
+        for (m += 2; width-- > 0;)
+            m = skip(m);
+        return m;
+    }
+    return m + 1;
+}
+
+static void pattern(struct words *w, const int32_t *m, int depth, int *next, int may_bind)
+{
+    uint32_t kind = depth > 0 ? below(8) : below(3);
+    if (kind < 2 && may_bind && *next < LOZHBINOR_VARIABLES) {
+        put(w, LOZHBINOR_P_VARIABLE);
+        put(w, (*next)++);
+    } else if (kind == 3) {
+        put(w, LOZHBINOR_P_AND);
+        pattern(w, m, depth - 1, next, may_bind);
+        pattern(w, m, depth - 1, next, may_bind);
+    } else if (kind == 4) {
+        put(w, below(2) ? LOZHBINOR_P_OR : LOZHBINOR_P_NOT);
+        if (w->count > 0 && w->at[w->count - 1] == LOZHBINOR_P_OR)
+            pattern(w, m, depth - 1, next, 0);
+        pattern(w, m, depth - 1, next, 0);
+    } else if (kind > 4 && (*m == LOZHBINOR_M_LIST || *m == LOZHBINOR_M_MULTISET)) {
+        int join = *m == LOZHBINOR_M_LIST && below(2);
+        put(w, join ? LOZHBINOR_P_JOIN : LOZHBINOR_P_CONS);
+        pattern(w, join ? m : m + 1, depth - 1, next, may_bind);
+        pattern(w, m, depth - 1, next, may_bind);
+    } else if (kind > 4 && *m == LOZHBINOR_M_TUPLE) {
+        int32_t width = m[1];
+        put(w, LOZHBINOR_P_TUPLE);
+        put(w, width);
+        for (m += 2; width-- > 0; m = skip(m))
+            pattern(w, m, depth - 1, next, may_bind);
+    } else if (*next > 0 && below(2)) {
+        put(w, LOZHBINOR_P_VALUE);
+        put(w, (int32_t)below((uint32_t)*next));
+        put(w, *m == LOZHBINOR_M_INTEGER ? (int32_t)below(3) - 1 : 0);
+    } else if (*m == LOZHBINOR_M_INTEGER && below(2)) {
+        put(w, LOZHBINOR_P_CONSTANT);
+        put(w, (int32_t)below(3));
+    } else {
+        put(w, LOZHBINOR_P_WILDCARD);
+    }
+}
+
+static void target(struct words *w, const int32_t *m, int depth)
+{
+    if (*m == LOZHBINOR_M_TUPLE) {
+        int32_t width = m[1];
+        put(w, LOZHBINOR_T_TUPLE);
+        put(w, width);
+        for (m += 2; width-- > 0; m = skip(m))
+            target(w, m, depth - 1);
+    } else if (*m == LOZHBINOR_M_LIST || *m == LOZHBINOR_M_MULTISET) {
+        uint32_t count = below(depth > 3 ? 12 : 4);
+        put(w, LOZHBINOR_T_COLLECTION);
+        put(w, (int32_t)count);
+        while (count-- > 0)
+            target(w, m + 1, depth - 1);
+    } else {
+        put(w, LOZHBINOR_T_INTEGER);
+        put(w, (int32_t)below(3));
+    }
+}
+
+/* Now and then a word is another, or words are missing, left over or all random. */
+static void damage(struct words *w)
+{
+    switch (below(8)) {
+    case 0:
+        if (w->count > 0)
+            w->at[below((uint32_t)w->count)] = (int32_t)below(12) - 1;
+        break;
+    case 1:
+        w->count = below((uint32_t)w->count + 1);
+        break;
+    case 2:
+        put(w, (int32_t)below(4));
+        break;
+    case 3:
+        if (below(8) == 0) {
+            w->count = below(1400);
+            for (size_t i = 0; i < w->count; i++)
+                w->at[i] = below(4) ? (int32_t)below(8) : (int32_t)(below(65536) << 16 | below(65536));
+        }
+        break;
+    default:
+        break;
+    }
+}
+
+static void wrong(uint64_t call, const char *what)
+{
+    printf("fuzz: call %" PRIu64 ": %s\n", call, what);
+    exit(1);
+}
+
+struct lent {
+    struct pages matcher, pattern, target, room, numbers;
+};
+
+struct call {
+    struct words m, p, t;
+    uint32_t budget;
+    size_t room;
+    size_t bytes;
+    int at_end;
+};
+
+static const int32_t *laid(struct pages pages, const struct words *w, int at_end)
+{
+    /* a slice of no words may be lent with a null pointer */
+    if (w->count == 0 && at_end)
+        return NULL;
+    return memcpy(place_of(pages, 4 * w->count, at_end), w->at, 4 * w->count);
+}
+
+/* One call; its numbers and its room are held to the header. */
+static void match(uint64_t no, const struct lent *l, const struct call *c, uint8_t *kept)
+{
+    int32_t *room = c->room == 0 && c->at_end ? NULL : place_of(l->room, 4 * c->room, c->at_end);
+    uint8_t *numbers = place_of(l->numbers, c->bytes, c->at_end);
+    for (size_t i = 0; i < c->room; i++)
+        room[i] = FILL;
+    memset(numbers, 0xA5, c->bytes);
+    uint32_t answer = lozhbinor_match(laid(l->matcher, &c->m, c->at_end), c->m.count, laid(l->pattern, &c->p, c->at_end), c->p.count,
+                                      laid(l->target, &c->t, c->at_end), c->t.count, c->budget, room, c->room, numbers, c->bytes);
+    size_t written = 0, filled = 0;
+    if (c->bytes < LOZHBINOR_MATCH_BYTES) {
+        if (answer != LOZHBINOR_SHORT)
+            wrong(no, "the numbers are too short, and the answer is another");
+    } else {
+        struct lozhbinor_matched r = lozhbinor_matched_of(numbers);
+        filled = LOZHBINOR_MATCH_BYTES;
+        written = r.words;
+        if (r.answer != answer || answer > LOZHBINOR_FULL)
+            wrong(no, "an answer that match does not give");
+        if (answer >= LOZHBINOR_MATCHER && answer <= LOZHBINOR_UNFIT && (r.rows || r.steps || r.words))
+            wrong(no, "a refusal with rows, steps or words");
+        if ((answer == LOZHBINOR_TARGET) != (r.cause != LOZHBINOR_CAUSE_NONE) || r.cause > LOZHBINOR_CAUSE_WIDTH)
+            wrong(no, "a cause that does not belong to the answer");
+        if (r.steps > c->budget || r.words > c->room)
+            wrong(no, "more steps than the budget, or more words than the room");
+    }
+    for (size_t i = written; i < c->room; i++)
+        if (room[i] != FILL)
+            wrong(no, "a word after the words written");
+    for (size_t i = filled; i < c->bytes; i++)
+        if (numbers[i] != 0xA5)
+            wrong(no, "a byte after the numbers");
+    memcpy(kept, numbers, c->bytes);
+}
+
+static void review(uint64_t no, const struct lent *l, const struct call *c)
+{
+    uint8_t *numbers = place_of(l->numbers, LOZHBINOR_REVIEW_BYTES, c->at_end);
+    int32_t cap = (int32_t)below(70) - 2;
+    uint32_t answer = lozhbinor_review(laid(l->matcher, &c->m, c->at_end), c->m.count, laid(l->pattern, &c->p, c->at_end), c->p.count, cap, numbers,
+                                       LOZHBINOR_REVIEW_BYTES);
+    struct lozhbinor_reviewed r = lozhbinor_reviewed_of(numbers);
+    if (r.answer != answer || (answer > LOZHBINOR_MISFIT && (answer < LOZHBINOR_CAP || answer > LOZHBINOR_ALWAYS_TRUE)))
+        wrong(no, "an answer that review does not give");
+    if (answer != LOZHBINOR_DONE && r.count != 0)
+        wrong(no, "a refusal with a count");
+}
+
+int main(int argc, char **argv)
+{
+    uint64_t calls = argc > 1 ? strtoull(argv[1], NULL, 10) : 50000;
+    state = 2463534242u + (argc > 2 ? strtoull(argv[2], NULL, 10) : 1);
+    struct lent l = {pages_for(4 * WORDS), pages_for(4 * WORDS), pages_for(4 * WORDS), pages_for(4 * WORDS), pages_for(64)};
+    static struct call c;
+    uint64_t answers[LOZHBINOR_SHORT + 1] = {0};
+    for (uint64_t no = 0; no < calls; no++) {
+        uint8_t once[64], again[64];
+        int next = 0;
+        c.m.count = c.p.count = c.t.count = 0;
+        matcher(&c.m, DEPTH);
+        pattern(&c.p, c.m.at, 5, &next, 1);
+        target(&c.t, c.m.at, 5);
+        damage(&c.m);
+        damage(&c.p);
+        damage(&c.t);
+        c.budget = below(4) ? below(400) : below(20000);
+        c.room = below(2) ? below(40) : below(WORDS);
+        c.bytes = below(16) ? LOZHBINOR_MATCH_BYTES + below(4) : below(LOZHBINOR_MATCH_BYTES);
+        c.at_end = (int)below(2);
+        match(no, &l, &c, once);
+        match(no, &l, &c, again);
+        if (memcmp(once, again, c.bytes) != 0)
+            wrong(no, "the same call answers something else");
+        answers[c.bytes < LOZHBINOR_MATCH_BYTES ? LOZHBINOR_SHORT : lozhbinor_number(once, LOZHBINOR_ANSWER)]++;
+        review(no, &l, &c);
+    }
+    printf("fuzz: %" PRIu64 " random calls of match, twice each, and of review, between guard pages: 0 differ\n", calls);
+    printf("fuzz: answers");
+    for (uint32_t a = 0; a <= LOZHBINOR_SHORT; a++)
+        if (answers[a] > 0)
+            printf("  %s %" PRIu64, lozhbinor_answer_name(a), answers[a]);
+    printf("\n");
+    return 0;
+}
