@@ -5,7 +5,7 @@ use mathlib.Core.List.{List, [], _∷_}
 use Prim.Native.Nat.{ℕ, zero, suc, _+_, _-_, _^_, _<_, _≤_}
 use native.Mathlib.Omega.{arith}
 use borrow.Author.Needs.{needs}
-use borrow.Author.Tests.{lt-leb, le-leb, lt-ltb, le-ltb, ne-eqb, leb-true, not-true, not-false}
+use borrow.Author.Tests.{lt-leb, le-leb, lt-ltb, le-ltb, ne-eqb, eqb-true, ltb-true, leb-true, not-true, not-false}
 use mir.Syntax.{w64}
 use mir.Val.{Fits}
 use lib.Dec.{eqb, leb, ltb}
@@ -18,7 +18,7 @@ use Rattle.forms.specs.Together.{value-well}
 use Rattle.words.specs.Words.{tagAt}
 use Rattle.words.proofs.Signed as signed
 use Rattle.test_forms.specs.Ends.{within}
-use Rattle.test_target.specs.Targets.{causeAt, countCause, countFits, found, valued, valuedFrom, further, inLine, wholeValue}
+use Rattle.test_target.specs.Targets.{causeAt, countCause, countFits, found, plainAt, valued, valuedFrom, further, inLine, wholeValue}
 use Rattle.test_target.specs.declared.Valued.{Valued}
 use Rattle.test_target.specs.declared.Valued.the-variants.{End, Bad}
 use Rattle.test_target.specs.declared.Found.{Found}
@@ -69,6 +69,31 @@ ret-past s at w h = rw (le-ltb at (length s) h)
 
 pub ruleset cause-rules = (ret-count, ret-width, ret-there, ret-past, needs)
 
+-- ---- An integer that stands whole.
+
+module _ (s : List ℤ) (at t : ℕ) (e : t ≡ tagAt s at) where
+  pub plain-there : t ≡ 0 → ltb (at + 1) (length s) ≡ plainAt s at
+  unfolding plainAt
+  plain-there h = rw (← e, h)
+
+  pub plain-other : (t ≡ 0 → ⊥) → false ≡ plainAt s at
+  unfolding plainAt
+  plain-other h = rw (← e, ne-eqb t 0 h)
+
+  pub plain-next : t ≡ 0 → length s < 2 ^ 64 → Fits w64 (at + 1)
+  plain-next h l = let x = signed.within s at t e (omega arith) in record { fits = omega arith }
+
+pub ruleset plain-rules = (plain-there, plain-other, plain-next, needs)
+
+pub plain-words : (s : List ℤ) (at : ℕ) → plainAt s at ≡ true → (tagAt s at ≡ 0) × (at + 1 < length s)
+unfolding plainAt
+plain-words s at = go (eqb (tagAt s at) 0) refl (ltb (at + 1) (length s)) refl
+  where
+    go : (b : Bool) → eqb (tagAt s at) 0 ≡ b → (c : Bool) → ltb (at + 1) (length s) ≡ c → cond b c false ≡ true → (tagAt s at ≡ 0) × (at + 1 < length s)
+    go true p true q h = (eqb-true (tagAt s at) 0 p, ltb-true (at + 1) (length s) q)
+    go true p false q h = let z : _≡_ {A = ℕ} 0 1 = cc in absurd (omega arith)
+    go false p c q h = let z : _≡_ {A = ℕ} 0 1 = cc in absurd (omega arith)
+
 -- ---- Returns before the elements.
 
 module _ (s : List ℤ) (at t d : ℕ) (e : t ≡ tagAt s at) where
@@ -115,6 +140,9 @@ module _ (s : List ℤ) (d n e : ℕ) (v : Valued) (i : v ≡ inLine (valuedFrom
   unfolding further
   loop-turn h r q x w = on h r q ∙ rw w
 
+  pub loop-plain : 0 < n → (b : Bool) → b ≡ plainAt s e → b ≡ true → v ≡ inLine (valuedFrom s d) (n - 1) (e + 2)
+  loop-plain h b q w = let x = plain-words s e (sym q ∙ w) in loop-turn h (End (e + 2)) (ret-integer s e (tagAt s e) d refl (x .0) (x .1)) (e + 2) refl
+
   pub loop-bad : 0 < n → (r : Valued) → r ≡ valuedFrom s d e → (p c : ℕ) → r ≡ Bad p c → Bad p c ≡ v
   unfolding further
   loop-bad h r q p c w = sym (on h r q ∙ rw w)
@@ -127,7 +155,10 @@ next-1 s at t e h l = let x = signed.within s at t e (omega arith) in record { f
 pub next-2 : (s : List ℤ) (at n t : ℕ) → n ≡ tagAt s (at + 1) → (c : Bool) → c ≡ countFits t n → not c ≡ false → length s < 2 ^ 64 → Fits w64 (at + 2)
 next-2 s at n t e c w h l = let k = count-most t n (sym w ∙ not-false c h) in next-two s at n e (omega arith) l
 
-pub ruleset rules = (ret-other, ret-integer, ret-cut, ret-deep, ret-many, loop-in, loop-out, loop-turn, loop-bad, next-1, next-2, depth-pos, depth-less, needs)
+pub plain-next-2 : (s : List ℤ) (e : ℕ) (b : Bool) → b ≡ plainAt s e → b ≡ true → length s < 2 ^ 64 → Fits w64 (e + 2)
+plain-next-2 s e b q w l = let x = plain-words s e (sym q ∙ w) .1 in record { fits = omega arith }
+
+pub ruleset rules = (ret-other, ret-integer, ret-cut, ret-deep, ret-many, loop-in, loop-out, loop-turn, loop-plain, loop-bad, next-1, next-2, plain-next-2, depth-pos, depth-less, needs)
 
 -- ---- The end of a value.
 

@@ -1,6 +1,6 @@
 -- Test 5 from a place on, and its cause.
-use Prim.Native.Nat.{ℕ, zero, suc}
-use mathlib.Core.Bool.{Bool, cond}
+use Prim.Native.Nat.{ℕ, zero, suc, _+_}
+use mathlib.Core.Bool.{Bool, false, cond}
 use mathlib.Core.List.{List}
 use lib.ListN.{length, drop}
 use lib.Dec.{eqb, leb, ltb}
@@ -8,6 +8,7 @@ use lib.IntN.{ℤ}
 use Rattle.rules.specs.Forms.{Value}
 use Rattle.rules.specs.Reading.{Verdict, ok, fault, Got, target}
 use Rattle.rules.specs.Causes.{badCount, cutShort, leftOver, badWidth, causeNumber, Look, told, value}
+use Rattle.words.specs.Words.{tagAt}
 use Rattle.test_forms.specs.Ends.{endOf, within}
 use Rattle.test_forms.specs.declared.Ended.{Ended}
 use Rattle.test_target.specs.declared.Valued.{Valued}
@@ -33,6 +34,11 @@ countCause t = cond (eqb t 1) (causeNumber badCount) (causeNumber badWidth)
 unfoldable pub causeAt : List ℤ → (at wrong : ℕ) → ℕ
 unfolding causeNumber
 causeAt s at wrong = cond (ltb at (length s)) wrong (causeNumber cutShort)
+
+-- Whether an integer stands whole at an index.
+unfoldable pub plainAt : List ℤ → ℕ → Bool
+unfolding tagAt
+plainAt s at = cond (eqb (tagAt s at) 0) (ltb (at + 1) (length s)) false
 
 -- The value at an index, in which `depth` collections or tuples may stand one inside the other.
 unfoldable pub valueFrom : List ℤ → (depth at : ℕ) → Ended

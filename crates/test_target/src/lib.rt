@@ -5,7 +5,7 @@ use words::tag_at;
 ghost use mathlib.Core.Path.{_≡_};
 ghost use Rattle.rules.specs.Reading.{readTarget};
 ghost use Rattle.rules.specs.Causes.{causeOf};
-ghost use Rattle.test_target.specs.Targets.{causeAt, countCause, countFits, found, valueFrom, valuedFrom, wholeValue};
+ghost use Rattle.test_target.specs.Targets.{causeAt, countCause, countFits, found, plainAt, valueFrom, valuedFrom, wholeValue};
 
 // Where a value ends, or the place and the cause of the first word at fault.
 pub enum Valued {
@@ -54,6 +54,17 @@ fn cause_at(s: &[i32], at: usize, wrong: u32) -> u32
     if at < s.len() { wrong } else { CUT_SHORT }
 }
 
+// Whether an integer stands whole at an index.
+pub fn plain_at(s: &[i32], at: usize) -> bool
+    ensures { λ r. ⌜ r ≡ plainAt (now (s .entry)) at ⌝ }
+{
+    if tag_at(s, at) == 0 {
+        at + 1 < s.len()
+    } else {
+        false
+    }
+}
+
 // The value at an index, in which so many collections or tuples may stand one inside the other.
 fn read_value(s: &[i32], at: usize, depth: u32) -> Valued
     ensures { λ r. ⌜ r ≡ valuedFrom (now (s .entry)) depth at ⌝ }
@@ -78,12 +89,17 @@ fn read_value(s: &[i32], at: usize, depth: u32) -> Valued
     }
     let mut e = at + 2;
     while 0 < left {
-        match read_value(s, e, depth - 1) {
-            Valued::End(x) => {
-                e = x;
-                left -= 1;
+        if plain_at(s, e) {
+            e += 2;
+            left -= 1;
+        } else {
+            match read_value(s, e, depth - 1) {
+                Valued::End(x) => {
+                    e = x;
+                    left -= 1;
+                }
+                Valued::Bad(p, c) => return Valued::Bad(p, c),
             }
-            Valued::Bad(p, c) => return Valued::Bad(p, c),
         }
     }
     Valued::End(e)

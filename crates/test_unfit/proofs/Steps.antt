@@ -16,8 +16,10 @@ use Rattle.words.proofs.Signed as signed
 use Rattle.test_forms.specs.Ends.{onward, within}
 use Rattle.matchers.specs.Places.{matcherEnd}
 use Rattle.test_fit.specs.Shapes.{widthFits}
-use Rattle.test_target.specs.Targets.{valueFrom}
-use Rattle.test_unfit.specs.Unfit.{opensAt, underTag, membersOf, nextMember, byMembers, inEach, insideFrom, fitFrom}
+use Rattle.test_target.specs.Targets.{plainAt, valueFrom}
+use Rattle.test_target.proofs.Values.{integer}
+use Rattle.test_target.proofs.Steps.{plain-words}
+use Rattle.test_unfit.specs.Unfit.{opensAt, underTag, membersOf, nextMember, numberFits, byMembers, inEach, insideFrom, fitFrom}
 use Rattle.test_forms.specs.declared.Ended.{Ended}
 use Rattle.test_forms.specs.declared.Ended.the-variants.{End, Bad}
 use Rattle.test_unfit.specs.declared.Members.{Members}
@@ -109,6 +111,27 @@ module _ (m : List ℤ) (k j : ℕ) where
 
 pub ruleset member-rules = (opens-tuple, opens-collection, opens-none, members-wide, members-unequal, members-over, members-in, width-next, next-part, next-element, needs)
 
+-- ---- An integer under integer.
+
+module _ (s m : List ℤ) (at j k : ℕ) (e : k ≡ tagAt m j) where
+  pub number-there : k ≡ 1 → (b : Bool) → b ≡ plainAt s at → b ≡ numberFits s at m j
+  unfolding numberFits
+  number-there h b q = rw (← e, h) q
+
+  pub number-other : (k ≡ 1 → ⊥) → false ≡ numberFits s at m j
+  unfolding numberFits
+  number-other h = rw (← e, ne-eqb k 1 h)
+
+pub ruleset number-rules = (number-there, number-other, needs)
+
+number-words : (s m : List ℤ) (at j : ℕ) → numberFits s at m j ≡ true → (tagAt m j ≡ 1) × (plainAt s at ≡ true)
+unfolding numberFits
+number-words s m at j = go (eqb (tagAt m j) 1) refl
+  where
+    go : (b : Bool) → eqb (tagAt m j) 1 ≡ b → cond b (plainAt s at) false ≡ true → (tagAt m j ≡ 1) × (plainAt s at ≡ true)
+    go true p h = (eqb-true (tagAt m j) 1 p, h)
+    go false p h = let z : _≡_ {A = ℕ} 0 1 = cc in absurd (omega arith)
+
 -- ---- A value under a matcher.
 
 unfoldable pub inside : (s m : List ℤ) (d i at : ℕ) → Ended
@@ -165,6 +188,12 @@ module _ (s m : List ℤ) (i at k d : ℕ) (e : k ≡ tagAt m i) where
           unfolding byMembers
           loop-in l x = within-it ∙ rw x
 
+number-end : (s m : List ℤ) (at j d : ℕ) → numberFits s at m j ≡ true → End (at + 2) ≡ fitFrom s m d j at
+number-end s m at j d h =
+    let a = number-words s m at j h in
+    let b = plain-words s at (a .1) in
+    ret-integer s m j at (tagAt m j) d refl (tagAt s at) refl (End (at + 2)) (a .0) (b .0) (sym (integer s at (tagAt s at) refl d (b .0) ∙ rw (lt-ltb (at + 1) (length s) (b .1))))
+
 -- ---- The elements or parts; v is what they are to give.
 
 module _ (s m : List ℤ) (d k n j e : ℕ) (v : Ended) (x : v ≡ inEach (fitFrom s m d) (nextMember m k) n j e) where
@@ -185,6 +214,10 @@ module _ (s m : List ℤ) (d k n j e : ℕ) (v : Ended) (x : v ≡ inEach (fitFr
       → v ≡ inEach (fitFrom s m d) (nextMember m k) (n - 1) l y
   unfolding onward
   loop-turn h r q y w l z = each-on h r q ∙ rw (w, z)
+
+  pub loop-number : 0 < n → (b : Bool) → b ≡ numberFits s e m j → b ≡ true → (l : ℕ) → l ≡ nextMember m k j
+      → v ≡ inEach (fitFrom s m d) (nextMember m k) (n - 1) l (e + 2)
+  loop-number h b q w l z = loop-turn h (End (e + 2)) (number-end s m e j d (sym q ∙ w)) (e + 2) refl l z
 
   pub loop-bad : 0 < n → (r : Ended) → r ≡ fitFrom s m d j e → (p : ℕ) → r ≡ Bad p → Bad p ≡ v
   unfolding onward
@@ -208,4 +241,7 @@ module _ (k t : ℕ) (b : Bool) (h : b ≡ opensAt k t) (y : not b ≡ false) wh
 pub next-2 : (s m : List ℤ) (at i k n j : ℕ) → n ≡ tagAt s (at + 1) → (a : Members) → a ≡ membersOf m i k n → a ≡ From j → length s < 2 ^ 64 → Fits w64 (at + 2)
 next-2 s m at i k n j e a w x l = let o = members-most m i k n j (sym w ∙ x) in next-two s at n e (omega arith) l
 
-pub ruleset rules = (ret-something, ret-integer, ret-no-integer, ret-closed, ret-deep, ret-unfit, loop-in, loop-out, loop-turn, loop-bad, next-i, next-at, next-2, depth-pos, depth-less, needs)
+pub number-next : (s m : List ℤ) (e j : ℕ) (b : Bool) → b ≡ numberFits s e m j → b ≡ true → length s < 2 ^ 64 → Fits w64 (e + 2)
+number-next s m e j b q w l = let x = plain-words s e (number-words s m e j (sym q ∙ w) .1) .1 in record { fits = omega arith }
+
+pub ruleset rules = (ret-something, ret-integer, ret-no-integer, ret-closed, ret-deep, ret-unfit, loop-in, loop-out, loop-turn, loop-number, loop-bad, next-i, next-at, next-2, number-next, depth-pos, depth-less, needs)

@@ -8,7 +8,7 @@ use Rattle.words.specs.Words.{tagAt}
 use Rattle.test_forms.specs.Ends.{onward, within}
 use Rattle.matchers.specs.Places.{matcherEnd}
 use Rattle.test_fit.specs.Shapes.{widthFits}
-use Rattle.test_target.specs.Targets.{valueFrom}
+use Rattle.test_target.specs.Targets.{plainAt, valueFrom}
 use Rattle.test_forms.specs.declared.Ended.{Ended}
 use Rattle.test_forms.specs.declared.Ended.the-variants.{End, Bad}
 use Rattle.test_unfit.specs.declared.Members.{Members}
@@ -32,6 +32,11 @@ membersOf m i k n = cond (eqb k 4) (cond (widthFits (tagAt m (i + 1)) n) (From (
 unfoldable pub nextMember : List ℤ → (k j : ℕ) → ℕ
 unfolding matcherEnd
 nextMember m k j = cond (eqb k 4) (matcherEnd m j) j
+
+-- Whether an integer stands whole at an index of s, and integer at the index j of m.
+unfoldable pub numberFits : (s : List ℤ) → ℕ → (m : List ℤ) → ℕ → Bool
+unfolding plainAt tagAt
+numberFits s at m j = cond (eqb (tagAt m j) 1) (plainAt s at) false
 
 unfoldable pub byMembers : Members → Ended → (ℕ → Ended) → Ended
 byMembers Unfit z k = z

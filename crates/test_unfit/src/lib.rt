@@ -3,11 +3,12 @@ use matchers::matcher_end;
 use test_fit::shapes::width_fits;
 use test_forms::Ended;
 use test_forms::between;
+use test_target::plain_at;
 use test_target::value_end;
 use words::tag_at;
 ghost use mathlib.Core.Path.{_≡_};
 ghost use Prim.Native.Nat.{_+_, _<_, _^_};
-ghost use Rattle.test_unfit.specs.Unfit.{opensAt, membersOf, nextMember, fitFrom};
+ghost use Rattle.test_unfit.specs.Unfit.{opensAt, membersOf, nextMember, numberFits, fitFrom};
 
 // The matcher of the first element or part of a value; or no such value fits.
 pub enum Members {
@@ -50,6 +51,17 @@ fn next_member(m: &[i32], k: u32, j: usize) -> usize
     if k == 4 { matcher_end(m, j) } else { j }
 }
 
+// Whether an integer stands whole at an index of `s`, and integer at the index j of `m`.
+fn number_fits(s: &[i32], at: usize, m: &[i32], j: usize) -> bool
+    ensures { λ r. ⌜ r ≡ numberFits (now (s .entry)) at (now (m .entry)) j ⌝ }
+{
+    if tag_at(m, j) == 1 {
+        plain_at(s, at)
+    } else {
+        false
+    }
+}
+
 // Where the value at an index of `s` ends, if it fits the matcher at the index i of `m`; else the place of the tag that does not.
 pub fn fit_end(s: &[i32], at: usize, m: &[i32], i: usize, depth: u32) -> Ended
     ensures { λ r. ⌜ r ≡ fitFrom (now (s .entry)) (now (m .entry)) depth i at ⌝ }
@@ -78,13 +90,19 @@ pub fn fit_end(s: &[i32], at: usize, m: &[i32], i: usize, depth: u32) -> Ended
     };
     let mut e = at + 2;
     while 0 < left {
-        match fit_end(s, e, m, j, depth - 1) {
-            Ended::End(x) => {
-                e = x;
-                j = next_member(m, k, j);
-                left -= 1;
+        if number_fits(s, e, m, j) {
+            e += 2;
+            j = next_member(m, k, j);
+            left -= 1;
+        } else {
+            match fit_end(s, e, m, j, depth - 1) {
+                Ended::End(x) => {
+                    e = x;
+                    j = next_member(m, k, j);
+                    left -= 1;
+                }
+                Ended::Bad(p) => return Ended::Bad(p),
             }
-            Ended::Bad(p) => return Ended::Bad(p),
         }
     }
     Ended::End(e)

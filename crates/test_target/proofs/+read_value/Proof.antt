@@ -12,6 +12,7 @@ use Rattle.words.proofs.tag_at.Reads as tag-at-reads
 use Rattle.test_target.proofs.cause_at.Reads as cause-at-reads
 use Rattle.test_target.proofs.count_fits.Reads as count-fits-reads
 use Rattle.test_target.proofs.count_cause.Reads as count-cause-reads
+use Rattle.test_target.proofs.plain_at.Reads as plain-at-reads
 use Rattle.test_target.proofs.+read_value.{statement}
 use Rattle.test_target.proofs.+read_value.Tie.{close}
 
@@ -31,7 +32,12 @@ abbrev μ-loop : read-value-lts.MeasureT-loop
 μ-loop s at depth t left₀ e₀ left e = left
 
 pub +read-value-spec : {M : Type 1} → statement M
-+read-value-spec = close μ-read-value λ t. read-value-lts.spec (tag-at-reads.Asked, tag-at-reads.Learnt, cause-at-reads.Asked, cause-at-reads.Learnt, count-fits-reads.Asked, count-fits-reads.Learnt, count-cause-reads.Asked, count-cause-reads.Learnt, read-value-below t, read-value.Post) (read-value-at t) read-value.Post Inv-loop μ-loop
++read-value-spec = close μ-read-value λ t. read-value-lts.spec (tag-at-reads.Asked, tag-at-reads.Learnt, cause-at-reads.Asked, cause-at-reads.Learnt, count-fits-reads.Asked, count-fits-reads.Learnt, count-cause-reads.Asked, count-cause-reads.Learnt, plain-at-reads.Asked, plain-at-reads.Learnt, read-value-below t, read-value.Post) (read-value-at t) read-value.Post Inv-loop μ-loop
+    (λ c. search rules)
+    (λ c. search rules)
+    (λ c. search rules)
+    (λ c. search rules)
+    (λ c. search rules)
     (λ c. search rules)
     (λ c. search rules)
     (λ c. search rules)

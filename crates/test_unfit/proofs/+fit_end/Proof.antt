@@ -13,6 +13,7 @@ use Rattle.test_target.proofs.value_end.Reads as value-end-reads
 use Rattle.test_unfit.proofs.opens.Reads as opens-reads
 use Rattle.test_unfit.proofs.members_of.Reads as members-of-reads
 use Rattle.test_unfit.proofs.next_member.Reads as next-member-reads
+use Rattle.test_unfit.proofs.number_fits.Reads as number-fits-reads
 use Rattle.test_unfit.proofs.+fit_end.{statement}
 use Rattle.test_unfit.proofs.+fit_end.Tie.{close}
 
@@ -41,10 +42,12 @@ pub +fit-end-spec : {M : Type 1} → statement M
   opens-reads.Learnt,
   members-of-reads.Asked,
   members-of-reads.Learnt,
-  fit-end-below t,
-  fit-end.Post,
+  number-fits-reads.Asked,
+  number-fits-reads.Learnt,
   next-member-reads.Asked,
   next-member-reads.Learnt,
+  fit-end-below t,
+  fit-end.Post,
 ) (fit-end-at t) fit-end.Post Inv-loop μ-loop
     (λ c. search rules)
     (λ c. search rules)
@@ -64,6 +67,12 @@ pub +fit-end-spec : {M : Type 1} → statement M
     (λ c. search rules)
     (λ c. search rules)
     (λ c. loop-in _ _ _ _ _ _ (c .before .before .before .before .before .before .before .before .before .before .before .tag-at .ensures) _ (c .before .before .before .before .before .before .before .before .before .tag-at2 .ensures) (c .before .before .before .before .before .before .before .before .before .before .if1 .left) (c .before .before .before .before .before .before .before .before .if2 .left) _ (c .before .before .before .before .before .before .before .opens .ensures) (c .before .before .before .before .before .before .if4 .left) (c .before .before .before .before .before .if5 .left) _ (c .before .before .before .before .tag-at3 .ensures) _ (c .before .before .before .members-of .ensures) _ (c .before .first .given .1))
+    (λ c. search rules)
+    (λ c. search rules)
+    (λ c. search rules)
+    (λ c. search rules)
+    (λ c. search rules)
+    (λ c. search rules)
     (λ c. search rules)
     (λ c. search rules)
     (λ c. search rules)
