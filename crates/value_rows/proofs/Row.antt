@@ -76,14 +76,66 @@ module _ (s : List ℤ) (ends : List ℕ) (at z : ℕ) (g : Target s) (q : Ends 
   pub whole-size : z - at ≡ size (valueAt s at)
   whole-size = omega (arith, whole-end)
 
+  pub whole-fits : z ≤ length s
+  whole-fits = omega (arith, whole-end, is-here s at g w .fits)
+
+  module _ (from : ℕ) where
+    pub copied-room : (l : ℕ) → from + size (valueAt s at) ≤ l → from + (z - at) ≤ l
+    copied-room l b = omega (arith, whole-size)
+
+    pub copied-end : (r : ℕ) → r ≡ from + (z - at) → r ≡ from + size (valueAt s at)
+    copied-end r e = omega (arith, whole-size)
+
+    pub copied : (room room′ : List ℤ) → room′ ≡ put room from (part at z s) → room′ ≡ put room from (words (valueAt s at))
+    unfolding part
+    copied room room′ e = e ∙ ap (put room from) (rw whole-end (slice-words s at g w))
+
 pub ruleset whole-rules = (find-half, find-half-mul, whole-le, whole-size, needs)
+
+-- An integer: two words.
+module _ (s : List ℤ) (at from tag : ℕ) (g : Target s) (w : Tag s at) (d : tag ≡ tagAt s at) (z : tag ≡ 0) where
+  pub integer-end : from + 2 ≡ from + size (valueAt s at)
+  unfolding size
+  integer-end = rw (int-at s at g w (sym d ∙ z))
+
+  pub integer-words : (room room′ : List ℤ) (x : ℤ) → x ≡ getD s (at + 1) (pos 0) → room′ ≡ put room from (pos 0 ∷ x ∷ []) → room′ ≡ put room from (words (valueAt s at))
+  unfolding words
+  integer-words room room′ x q i = i ∙ rw (int-at s at g w (sym d ∙ z), q)
+
+pub two-room : (s : List ℤ) (at from l : ℕ) → from + size (valueAt s at) ≤ l → from + 2 ≤ l
+two-room s at from l b = omega (arith, two-words (valueAt s at))
+
+pub ruleset put-whole-rules = (tag-small, second, integer-end, integer-words, two-room, find-half, find-half-mul, whole-le, whole-fits, copied-room, copied-end, copied, length-put, needs)
 
 pub size-done : (s : List ℤ) (at m n x : ℕ) → x ≡ n + sizeLeft s at m → m ≤ 0 → n ≡ x
 unfolding sizeLeft sizeAll
 size-done s at m n x e h = omega (arith, ap sizeAll (left-none s at m h))
 
+-- The next element.
+module _ (s : List ℤ) (at m k e : ℕ) (g : Target s) (w : Held s at m) (d : k ≡ trailingZeros 64 m) (h : 0 < m) (i : e ≡ elementAt s at k) where
+  next-size : (x : ℕ) → x ≡ clear (trailingZeros 64 m) m → sizeLeft s at m ≡ size (valueAt s e) + sizeLeft s at x
+  unfolding sizeLeft sizeAll
+  next-size x j = rw (next-left s at m k g w d h e i x j)
+
+  next-words : (x : ℕ) → x ≡ clear (trailingZeros 64 m) m → wordsLeft s at m ≡ words (valueAt s e) ++ wordsLeft s at x
+  unfolding wordsLeft wordsAll
+  next-words x j = rw (next-left s at m k g w d h e i x j)
+
+  pub put-turn : (room room′ x : List ℤ) (o o′ y : ℕ) → x ≡ put room o (wordsLeft s at m) → o′ ≡ o + size (valueAt s e) → room′ ≡ put room o (words (valueAt s e))
+      → y ≡ clear (trailingZeros 64 m) m → x ≡ put room′ o′ (wordsLeft s at y)
+  put-turn room room′ x o o′ y a p r n = a ∙ rw (p, r, next-words y n, ← length-words (valueAt s e)) (put-append (words (valueAt s e)) (wordsLeft s at y) room o)
+
+  pub put-size : (o o′ x y : ℕ) → x ≡ o + sizeLeft s at m → o′ ≡ o + size (valueAt s e) → y ≡ clear (trailingZeros 64 m) m → x ≡ o′ + sizeLeft s at y
+  put-size o o′ x y a p n = let b = next-size y n in omega arith
+
+  pub put-room : (o x l : ℕ) → x ≡ o + sizeLeft s at m → x ≤ l → o + size (valueAt s e) ≤ l
+  put-room o x l a b = let c = next-size _ refl in omega arith
+
 module _ (s : List ℤ) (ends : List ℕ) (at m k e : ℕ) (g : Target s) (q : Ends s ends) (w : Held s at m) (d : k ≡ trailingZeros 64 m) (h : 0 < m)
     (i : e ≡ elementAt s at k) where
+  next-is : (x : ℕ) → x ≡ clear (trailingZeros 64 m) m → sizeLeft s at m ≡ size (valueAt s e) + sizeLeft s at x
+  next-is = next-size s at m k e g w d h i
+
   pub end-half : e / 2 < 512
   end-half = let t = next-tag s at m k g w d h e i in let l = g .short in omega (arith, t .inside)
 
@@ -97,38 +149,13 @@ module _ (s : List ℤ) (ends : List ℕ) (at m k e : ℕ) (g : Target s) (q : E
     pub end-le : e ≤ z
     end-le = omega (arith, end-is)
 
-    pub end-fits : z ≤ length s
-    end-fits = omega (arith, end-is, is-here s e g (next-tag s at m k g w d h e i) .fits)
-
-    module _ (x : ℕ) (j : x ≡ clear (trailingZeros 64 m) m) where
-      next-size : sizeLeft s at m ≡ (z - e) + sizeLeft s at x
-      unfolding sizeLeft sizeAll
-      next-size = rw (next-left s at m k g w d h e i x j, end-is) (omega arith)
-
-      next-words : wordsLeft s at m ≡ part e z s ++ wordsLeft s at x
-      unfolding wordsLeft wordsAll part
-      next-words = rw (end-is, slice-words s e g (next-tag s at m k g w d h e i), next-left s at m k g w d h e i x j)
-
     pub size-turn : (n x y : ℕ) → y ≡ n + sizeLeft s at m → x ≡ clear (trailingZeros 64 m) m → y ≡ n + (z - e) + sizeLeft s at x
-    size-turn n x y a j = let b = next-size x j in omega arith
+    size-turn n x y a j = let b = next-is x j in omega (arith, end-is)
 
     pub size-fits : (n y : ℕ) → y ≡ n + sizeLeft s at m → y ≤ 1024 → Fits w64 (n + (z - e))
-    size-fits n y a l = let b = next-size _ refl in record { fits = omega arith }
+    size-fits n y a l = let b = next-is _ refl in record { fits = omega (arith, end-is) }
 
-    pub put-turn : (room room′ x : List ℤ) (o o′ y : ℕ) → x ≡ put room o (wordsLeft s at m) → o′ ≡ o + (z - e) → room′ ≡ put room o (part e z s)
-        → y ≡ clear (trailingZeros 64 m) m → x ≡ put room′ o′ (wordsLeft s at y)
-    unfolding part
-    put-turn room room′ x o o′ y a p r n =
-        let l = length-slice e z s end-fits in
-        a ∙ rw (p, r, next-words y n, ← l) (put-append (part e z s) (wordsLeft s at y) room o)
-
-    pub put-size : (o o′ x y : ℕ) → x ≡ o + sizeLeft s at m → o′ ≡ o + (z - e) → y ≡ clear (trailingZeros 64 m) m → x ≡ o′ + sizeLeft s at y
-    put-size o o′ x y a p n = let b = next-size y n in omega arith
-
-    pub put-room : (o x l : ℕ) → x ≡ o + sizeLeft s at m → x ≤ l → o + (z - e) ≤ l
-    put-room o x l a b = let c = next-size _ refl in omega arith
-
-pub ruleset next-rules = (tag-small, end-half, end-mul, end-le, end-fits, held-clear, next-in, next-less, needs)
+pub ruleset next-rules = (tag-small, end-half, end-mul, end-le, held-clear, next-in, next-less, needs)
 
 pub ruleset size-rules = (size-int, size-tuple, size-collection, size-held, size-done, size-turn, size-fits, held-tag, next-rules)
 
@@ -138,58 +165,49 @@ pub put-done : (s room x : List ℤ) (at m o : ℕ) → x ≡ put room o (wordsL
 unfolding wordsLeft wordsAll
 put-done s room x at m o a h = sym (a ∙ rw (left-none s at m h) (put-none room o))
 
-pub ruleset left-rules = (put-turn, put-size, put-room, put-done, size-done, length-put, next-rules)
+pub ruleset left-rules = (put-turn, put-size, put-room, put-done, size-done, length-put, held-tag, next-tag, next-in, next-less, held-clear, needs)
 
-module _ (s room : List ℤ) (at m from tag : ℕ) (g : Target s) (w : Held s at m) (d : tag ≡ tagAt s at) where
-  pub put-collection : (room′ room″ : List ℤ) (n : ℤ) → (tag ≡ 0 → ⊥) → (tag ≡ 2 → ⊥) → n ≡ pos (ones m) → room′ ≡ put room from (pos 1 ∷ n ∷ [])
-      → room″ ≡ put room′ (from + 2) (wordsLeft s at m) → room″ ≡ put room from (words (heldAt s at m))
-  unfolding words wordsLeft left
-  put-collection room′ room″ n f h q r i =
-      i ∙ rw (r, q, held-collection s at m g (w .tag) (a-collection s at m tag g w d f h), count-marked (elements (valueAt s at)) m (held-some s at m g w))
-      (sym (put-append (pos 1 ∷ pos (ones m) ∷ []) (wordsLeft s at m) room from))
+module _ (s : List ℤ) (at m from tag : ℕ) (g : Target s) (w : Held s at m) (d : tag ≡ tagAt s at) where
+  -- An integer or a tuple is held whole.
+  module _ (f : tag ≡ 1 → ⊥) where
+    kept-whole : heldAt s at m ≡ valueAt s at
+    kept-whole = by-tag s at g (w .tag) _
+        (λ e. held-int s at m g (w .tag) e ∙ sym (int-at s at g (w .tag) e))
+        (λ e. absurd (f (d ∙ e)))
+        (λ e. held-tuple s at m g (w .tag) e)
 
-  pub put-collection-end : (r : ℕ) → (tag ≡ 0 → ⊥) → (tag ≡ 2 → ⊥) → r ≡ from + 2 + sizeLeft s at m → r ≡ from + size (heldAt s at m)
-  put-collection-end r f h i = omega (arith, i, size-collection s at m tag g w d f h)
+    pub kept-room : (l : ℕ) → from + size (heldAt s at m) ≤ l → from + size (valueAt s at) ≤ l
+    kept-room l b = rw (← kept-whole) b
 
-  pub put-collection-room : (room′ ws : List ℤ) → (tag ≡ 0 → ⊥) → (tag ≡ 2 → ⊥) → room′ ≡ put room from ws → from + size (heldAt s at m) ≤ length room
-      → from + 2 + sizeLeft s at m ≤ length room′
-  put-collection-room room′ ws f h i b = omega (arith, size-collection s at m tag g w d f h, ap length i ∙ length-put room from ws)
+    pub kept-end : (r : ℕ) → r ≡ from + size (valueAt s at) → r ≡ from + size (heldAt s at m)
+    kept-end r e = rw kept-whole e
 
-  module _ (n : ℕ) (z : tag ≡ 2) (e : n ≡ size (valueAt s at)) where
-    tuple-size : n ≡ size (heldAt s at m)
-    tuple-size = size-tuple s at m tag g w d n z e
+    pub kept-words : (room room′ : List ℤ) → room′ ≡ put room from (words (valueAt s at)) → room′ ≡ put room from (words (heldAt s at m))
+    kept-words room room′ e = rw kept-whole e
 
-    pub put-tuple : (room′ : List ℤ) → room′ ≡ put room from (part at (at + n) s) → room′ ≡ put room from (words (heldAt s at m))
-    unfolding part
-    put-tuple room′ i = i ∙ ap (put room from) (rw (e, slice-words s at g (w .tag), held-tuple s at m g (w .tag) (sym d ∙ z)))
+  module _ (z : tag ≡ 1) where
+    size-left : size (heldAt s at m) ≡ 2 + sizeLeft s at m
+    unfolding size sizeLeft
+    size-left = rw (held-collection s at m g (w .tag) (sym d ∙ z))
 
-    pub put-tuple-end : (r : ℕ) → r ≡ from + (at + n - at) → r ≡ from + size (heldAt s at m)
-    put-tuple-end r i = omega (arith, tuple-size)
+    pub put-collection : (room room′ room″ : List ℤ) (n : ℤ) → n ≡ pos (ones m) → room′ ≡ put room from (pos 1 ∷ n ∷ [])
+        → room″ ≡ put room′ (from + 2) (wordsLeft s at m) → room″ ≡ put room from (words (heldAt s at m))
+    unfolding words wordsLeft left
+    put-collection room room′ room″ n q r i =
+        i ∙ rw (r, q, held-collection s at m g (w .tag) (sym d ∙ z), count-marked (elements (valueAt s at)) m (held-some s at m g w))
+        (sym (put-append (pos 1 ∷ pos (ones m) ∷ []) (wordsLeft s at m) room from))
 
-    pub put-tuple-room : (l : ℕ) → from + size (heldAt s at m) ≤ l → from + (at + n - at) ≤ l
-    put-tuple-room l b = omega (arith, tuple-size)
+    pub put-collection-end : (r : ℕ) → r ≡ from + 2 + sizeLeft s at m → r ≡ from + size (heldAt s at m)
+    put-collection-end r i = omega (arith, i, size-left)
 
-  pub put-int : (room′ : List ℤ) (x : ℤ) → tag ≡ 0 → x ≡ getD s (at + 1) (pos 0) → room′ ≡ put room from (pos 0 ∷ x ∷ []) → room′ ≡ put room from (words (heldAt s at m))
-  unfolding words
-  put-int room′ x z q i = i ∙ rw (held-int s at m g (w .tag) (sym d ∙ z), q)
-
-  pub put-int-end : tag ≡ 0 → from + 2 ≡ from + size (heldAt s at m)
-  put-int-end z = omega (arith, size-int s at m tag g w d z)
-
-module _ (s : List ℤ) (at m n : ℕ) (g : Target s) (w : Held s at m) (e : n ≡ size (valueAt s at)) where
-  pub put-inside : at + n ≤ length s
-  put-inside = omega (arith, is-here s at g (w .tag) .fits)
-
-  pub put-to : Fits w64 (at + n)
-  put-to = record { fits = omega (arith, put-inside, g .short) }
+    pub put-collection-room : (room room′ ws : List ℤ) → room′ ≡ put room from ws → from + size (heldAt s at m) ≤ length room
+        → from + 2 + sizeLeft s at m ≤ length room′
+    put-collection-room room room′ ws i b = omega (arith, size-left, ap length i ∙ length-put room from ws)
 
 pub put-two-room : (s : List ℤ) (at m from l : ℕ) → from + size (heldAt s at m) ≤ l → from + 2 ≤ l
 put-two-room s at m from l b = omega (arith, two-words (heldAt s at m))
 
-pub put-second : (s : List ℤ) (at m : ℕ) → Target s → Held s at m → at + 1 < length s
-put-second s at m g w = second s at g (w .tag)
-
-pub ruleset put-rules = (tag-small, put-collection, put-collection-end, put-collection-room, put-int, put-int-end, put-tuple, put-tuple-end, put-tuple-room, put-inside, put-to, put-two-room, put-second, held-tag, length-put, needs)
+pub ruleset put-rules = (tag-small, kept-room, kept-end, kept-words, put-collection, put-collection-end, put-collection-room, put-two-room, held-tag, length-put, needs)
 
 -- ---- The row.
 

@@ -89,6 +89,21 @@ fn put_two(room: &mut [i32], from: usize, a: i32, b: i32)
     room[from + 1] = b;
 }
 
+// The words of a whole value, an integer's at once.
+fn put_whole(s: &[i32], ends: &[u16; 512], at: usize, room: &mut [i32], from: usize) -> usize
+    requires { ⌜ Target (now s) ⌝ ∗ ⌜ Ends (now s) (now ends) ⌝ ∗ ⌜ Tag (now s) at ⌝ ∗ ⌜ from + size (valueAt (now s) at) ≤ length (now room) ⌝ }
+    ensures { λ r. ⌜ (r ≡ from + size (valueAt (now (s .entry)) at)) × (now (room .exit) ≡ put (now (room .entry)) from (words (valueAt (now (s .entry)) at))) ⌝ }
+{
+    let tag = number_at(s, at);
+    if tag == 0 {
+        let x = s[at + 1];
+        put_two(room, from, 0, x);
+        return from + 2;
+    }
+    let end = wide(ends[at / 2]);
+    copy(s, at, end, room, from)
+}
+
 // The number of marks as a word.
 fn count_word(m: u64) -> i32
     ensures { λ r. ⌜ r ≡ pos (ones m) ⌝ }
@@ -115,8 +130,7 @@ fn put_left(
     while 0 < left {
         let k = lowest(left);
         let e = element(s, base, places, at, k);
-        let end = wide(ends[e / 2]);
-        o = copy(s, e, end, room, o);
+        o = put_whole(s, ends, e, room, o);
         left = rest(left);
     }
     o
@@ -137,14 +151,8 @@ pub fn put_value(
     ensures { λ r. ⌜ (r ≡ from + size (heldAt (now (s .entry)) at m)) × (now (room .exit) ≡ put (now (room .entry)) from (words (heldAt (now (s .entry)) at m))) ⌝ }
 {
     let tag = number_at(s, at);
-    if tag == 0 {
-        let x = s[at + 1];
-        put_two(room, from, 0, x);
-        return from + 2;
-    }
-    if tag == 2 {
-        let n = size_at(s, ends, at);
-        return copy(s, at, at + n, room, from);
+    if tag != 1 {
+        return put_whole(s, ends, at, room, from);
     }
     let n = count_word(m);
     put_two(room, from, 1, n);

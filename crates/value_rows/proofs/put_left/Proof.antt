@@ -6,11 +6,6 @@ use Rattle.value_places.specs.Held.{Held, sizeLeft, wordsLeft, put}
 use Rattle.value_rows.proofs.Row.{left-rules}
 use Rattle.value_rows.proofs.put_left.Statement.{statement}
 use Rattle.value_rows.proofs.put_left.Tie as tie
-use Rattle.value_places.proofs.places.element.Reads as element-reads
-use Rattle.value_places.proofs.places.wide.Reads as wide-reads
-use Rattle.value_rows.proofs.copy.Reads as copy-reads
-use Rattle.words.proofs.marks.lowest.Reads as lowest-reads
-use Rattle.words.proofs.marks.rest.Reads as rest-reads
 
 abbrev Inv-loop : tie.InvT-loop
 Inv-loop s ends base places at m room₀ from o₀ left₀ room o left = (from + sizeLeft s at m ≡ o + sizeLeft s at left) × Held s at left × (length room ≡ length room₀) × (from + sizeLeft s at m ≤ length room) × (put room₀ from (wordsLeft s at m) ≡ put room o (wordsLeft s at left))
@@ -24,15 +19,12 @@ put-left-spec =
     (tie.spec
     Inv-loop
     μ-loop
-    (λ c. search left-rules)
-    (λ c κs. search left-rules)
-    (λ c κs. search left-rules)
-    (λ c. search left-rules)
-    (λ c. search left-rules)
-    (λ c κs. search left-rules)
-    (λ c κs. search left-rules)
-    (λ c κs. search left-rules)
-    (λ c. search left-rules)
-    (λ c. search left-rules)
-    (λ c. search left-rules)
-    (λ c. search left-rules))
+    (λ c. search left-rules)  -- loop-holds
+    (λ c κs. search left-rules)  -- lowest-requires
+    (λ c κs. search left-rules)  -- element-requires
+    (λ c κs. search left-rules)  -- put-whole-requires
+    (λ c κs. search left-rules)  -- rest-requires
+    (λ c. search left-rules)  -- loop-less
+    (λ c. search left-rules)  -- loop-again
+    (λ c. search left-rules)  -- same-length
+    (λ c. search left-rules))  -- returns
