@@ -10,6 +10,7 @@ use lib.ListN.{getD, set}
 use lib.Dec.{eqb, ltb}
 use lib.IntN.{ℤ}
 use lib.Count.{trailingZeros}
+use Rattle.words.specs.Words.{entries}
 use Rattle.words.proofs.Same.{same-bits}
 use Rattle.words.proofs.marks.Places.{low-lt}
 use Rattle.value_places.specs.Places.{Target, Tag, countAt, elementAt}
@@ -97,37 +98,20 @@ wide-by s at n k e = rw e
 
 pub ruleset wide-rules = (wide-by, needs)
 
--- Entry after entry.
-stored-turn : (f : ℕ → ℕ) (from i n x : ℕ) (l all : List ℕ) → stored f (from + i - 1) i (n + 1 - i) l ≡ all → 1 ≤ i → i ≤ n → x ≡ f i
-    → stored f (from + (i + 1) - 1) (i + 1) (n + 1 - (i + 1)) (set l (from + i - 1) x) ≡ all
-unfolding stored
-stored-turn f from i n x l all e h k q =
-    let z : n + 1 - i ≡ suc (n + 1 - (i + 1)) = omega arith in
-    let y : from + (i + 1) - 1 ≡ from + i - 1 + 1 = omega arith in
-    rw (q, y) (ap (λ m. stored f (from + i - 1) i m l) (sym z) ∙ e)
+-- One to three entries, each put by itself.
+module _ (f : ℕ → ℕ) (from n : ℕ) (l a : List ℕ) (z : 0 < n) (p : a ≡ set l from (f 1)) where
+  pub stored-one : n < 2 → a ≡ stored f from 1 n l
+  unfolding stored
+  stored-one h = let e : n ≡ 1 = omega arith in rw (e, p)
 
-pub stored-end : (f : ℕ → ℕ) (from i n : ℕ) (l all : List ℕ) → stored f (from + i - 1) i (n + 1 - i) l ≡ all → n < i → l ≡ all
-unfolding stored
-stored-end f from i n l all e h = let z : n + 1 - i ≡ 0 = omega arith in ap (λ m. stored f (from + i - 1) i m l) (sym z) ∙ e
+  module _ (b : List ℕ) (h : 2 ≤ n) (q : b ≡ set a (from + 1) (f 2)) where
+    pub stored-two : n < 3 → b ≡ stored f from 1 n l
+    unfolding stored
+    stored-two k = let e : n ≡ 2 = omega arith in rw (e, q, p)
 
-pub stored-start : (f : ℕ → ℕ) (from n : ℕ) (l : List ℕ) → stored f (from + 1 - 1) 1 (n + 1 - 1) l ≡ stored f from 1 n l
-stored-start f from n l =
-    let z : n + 1 - 1 ≡ n = omega arith in
-    let y : from + 1 - 1 ≡ from = omega arith in
-    rw (z, y)
-
-module _ (s : List ℤ) (at from i n x e : ℕ) (l all : List ℕ) (h : 1 ≤ i) (k : i ≤ n) (p : e ≡ elementAt s at i) where
-  pub ats-turn : stored (elementAt s at) (from + i - 1) i (n + 1 - i) l ≡ all → x ≡ e
-      → stored (elementAt s at) (from + (i + 1) - 1) (i + 1) (n + 1 - (i + 1)) (set l (from + i - 1) x) ≡ all
-  ats-turn r q = stored-turn (elementAt s at) from i n x l all r h k (q ∙ p)
-
-  pub backs-turn : stored (partMarks s at) (from + i - 1) i (n + 1 - i) l ≡ all → x ≡ wholeAt s e
-      → stored (partMarks s at) (from + (i + 1) - 1) (i + 1) (n + 1 - (i + 1)) (set l (from + i - 1) x) ≡ all
-  unfolding partMarks
-  backs-turn r q = stored-turn (partMarks s at) from i n x l all r h k (q ∙ ap (wholeAt s) p)
-
-pub part-there : (s : List ℤ) (at i n : ℕ) → i ≤ n → n < countAt s at → i < countAt s at
-part-there s at i n h k = omega arith
+    pub stored-three : (c : List ℕ) → 3 ≤ n → n < 4 → c ≡ set b (from + 2) (f 3) → c ≡ stored f from 1 n l
+    unfolding stored
+    stored-three c k m r = let e : n ≡ 3 = omega arith in let d : from + 2 ≡ from + 1 + 1 = omega arith in rw (e, r, q, p, d)
 
 module _ (s : List ℤ) (at i e : ℕ) (g : Target s) (w : Tag s at) (p : e ≡ elementAt s at i) (k : i < countAt s at) where
   pub part-tag : Tag s e
@@ -136,4 +120,35 @@ module _ (s : List ℤ) (at i e : ℕ) (g : Target s) (w : Tag s at) (p : e ≡ 
   pub part-small : e < 65536
   part-small = let q = part-tag .inside in let r = g .short in omega arith
 
-pub ruleset keep-rules = (part-there, part-tag, part-small, ats-turn, backs-turn, stored-start, stored-end, needs)
+module _ (s : List ℤ) (at i e x : ℕ) (l : List ℕ) (j : ℕ) (p : e ≡ elementAt s at i) where
+  pub part-at : x ≡ e → set l j x ≡ set l j (elementAt s at i)
+  part-at q = rw (q, p)
+
+  pub part-marks : x ≡ wholeAt s e → set l j x ≡ set l j (partMarks s at i)
+  unfolding partMarks
+  part-marks q = rw (q, p)
+
+pub ruleset part-rules = (part-tag, part-small, part-at, part-marks, needs)
+
+-- The slots and the parts are there.
+module _ (from n : ℕ) (h : from + n ≤ entries) where
+  pub first-slot : 0 < n → from < entries
+  first-slot z = omega arith
+
+  pub second-slot : 2 ≤ n → from + 1 < entries
+  second-slot z = omega arith
+
+  pub third-slot : 3 ≤ n → from + 2 < entries
+  third-slot z = omega arith
+
+module _ (s : List ℤ) (at n : ℕ) (h : n < countAt s at) where
+  pub second-part : 0 < n → 1 < countAt s at
+  second-part z = omega arith
+
+  pub third-part : 2 ≤ n → 2 < countAt s at
+  third-part z = omega arith
+
+  pub fourth-part : 3 ≤ n → 3 < countAt s at
+  fourth-part z = omega arith
+
+pub ruleset keep-rules = (stored-one, stored-two, stored-three, first-slot, second-slot, third-slot, second-part, third-part, fourth-part, needs)

@@ -6,6 +6,7 @@ use value_places::places::whole;
 use words::ENTRIES;
 ghost use mathlib.Core.Path.{_≡_};
 ghost use Prim.Native.Nat.{_+_, _-_, _<_, _≤_};
+ghost use lib.ListN.{set};
 ghost use Rattle.words.specs.Words.{entries};
 ghost use Rattle.value_places.specs.Places.{countAt, elementAt, Target, Tag};
 ghost use Rattle.value_places.specs.Tables.{Places};
@@ -29,7 +30,26 @@ pub fn is_wide(s: &[i32], at: usize, n: usize) -> bool
     (k as usize) == n + 1
 }
 
-// The n parts after the first wait in the slots from one place on.
+// Part i waits in the slot j.
+fn put_part(
+    s: &[i32],
+    base: &[u16; 512],
+    places: &[u16; 512],
+    at: usize,
+    i: u32,
+    j: usize,
+    ats: &mut [u16; ENTRIES],
+    backs: &mut [u64; ENTRIES],
+)
+    requires { ⌜ Target (now s) ⌝ ∗ ⌜ Places (now s) (now base) (now places) ⌝ ∗ ⌜ Tag (now s) at ⌝ ∗ ⌜ j < entries ⌝ ∗ ⌜ i < countAt (now s) at ⌝ }
+    ensures { λ r. ⌜ now (ats .exit) ≡ set (now (ats .entry)) j (elementAt (now (s .entry)) at i) ⌝ ∗ ⌜ now (backs .exit) ≡ set (now (backs .entry)) j (partMarks (now (s .entry)) at i) ⌝ }
+{
+    let e = element(s, base, places, at, i);
+    ats[j] = narrow(e);
+    backs[j] = whole(s, e);
+}
+
+// The n parts after the first, one to three, wait in the slots from one place on.
 pub fn keep(
     s: &[i32],
     base: &[u16; 512],
@@ -40,15 +60,16 @@ pub fn keep(
     ats: &mut [u16; ENTRIES],
     backs: &mut [u64; ENTRIES],
 )
-    requires { ⌜ Target (now s) ⌝ ∗ ⌜ Places (now s) (now base) (now places) ⌝ ∗ ⌜ Tag (now s) at ⌝ ∗ ⌜ (from + n ≤ entries) × (n < countAt (now s) at) ⌝ }
+    requires { ⌜ Target (now s) ⌝ ∗ ⌜ Places (now s) (now base) (now places) ⌝ ∗ ⌜ Tag (now s) at ⌝ ∗ ⌜ (from + n ≤ entries) × (n < countAt (now s) at) × (0 < n) × (n < 4) ⌝ }
     ensures { λ r. ⌜ now (ats .exit) ≡ stored (elementAt (now (s .entry)) at) from 1 n (now (ats .entry)) ⌝ ∗ ⌜ now (backs .exit) ≡ stored (partMarks (now (s .entry)) at) from 1 n (now (backs .entry)) ⌝ }
 {
-    let mut i: u32 = 1;
-    while (i as usize) <= n {
-        let j = from + (i as usize) - 1;
-        let e = element(s, base, places, at, i);
-        ats[j] = narrow(e);
-        backs[j] = whole(s, e);
-        i += 1;
+    put_part(s, base, places, at, 1, from, ats, backs);
+    if n < 2 {
+        return;
     }
+    put_part(s, base, places, at, 2, from + 1, ats, backs);
+    if n < 3 {
+        return;
+    }
+    put_part(s, base, places, at, 3, from + 2, ats, backs);
 }

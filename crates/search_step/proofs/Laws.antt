@@ -62,6 +62,12 @@ pub ruleset split-rules = (split-is, cases)
 pub few-wait : (n o : ℕ) → n ≡ o - 10 → o < 256 → n < 256
 few-wait n o e h = omega arith
 
+pub some-wait : (n o : ℕ) → n ≡ o - 10 → 10 < o → 0 < n
+some-wait n o e h = omega arith
+
+pub three-wait : (n o : ℕ) → n ≡ o - 10 → o < 14 → n < 4
+three-wait n o e h = omega arith
+
 module _ (s : List ℤ) (at n : ℕ) (b : Bool) (h : b ≡ isWide s at n) (t : b ≡ true) where
   wide-count : countAt s at ≡ n + 1
   unfolding isWide
@@ -104,7 +110,7 @@ module _ (s : List ℤ) (n k : ℕ) (x : State) (b : Bool) (h : b ≡ isWide s (
   unfolding apartBacks
   apart-backs-none old t = when-false _ _ _ b (isWide s (x .at) k) same-wide t refl
 
-pub ruleset apart-rules = (few-wait, wide-some, wide-keeps, wide-first, apart-at, apart-ats, apart-backs, apart-none, apart-ats-none, apart-backs-none, needs)
+pub ruleset apart-rules = (few-wait, some-wait, three-wait, wide-some, wide-keeps, wide-first, apart-at, apart-ats, apart-backs, apart-none, apart-ats-none, apart-backs-none, needs)
 
 -- ---- And, or, not.
 
@@ -154,7 +160,7 @@ unfolding divideOf
 divide-split s o from x r t u h e = when-le _ _ _ 10 o h e
 
 pub apart-asks : (s : List ℤ) (o : ℕ) (from : List ℕ) (x : State) → Divides s o from x → 10 < o → o < 14 → Aparts s o x
-apart-asks s o from x d h g = record { tuple = h; tag = d .tag; place = d .parts h g }
+apart-asks s o from x d h g = record { tuple = h; few = g; tag = d .tag; place = d .parts h g }
 
 pub sides-asks : (s : List ℤ) (o : ℕ) (from : List ℕ) (x : State) → Divides s o from x → Sides from x
 sides-asks s o from x d = record { place = d .place; next = d .next; small = d .small; frame = d .frame }

@@ -148,6 +148,7 @@ pub record Divides (s : List ℤ) (o : ℕ) (from : List ℕ) (x : State) : Type
 
 pub record Aparts (s : List ℤ) (o : ℕ) (x : State) : Type 0 where
   pub tuple : 10 < o
+  pub few : o < 14
   pub tag : Tag s (x .at)
   pub place : x .pc + (o - 10) < entries
 

@@ -16,7 +16,7 @@ apart-spec =
     (tie.spec
     (λ c κs. search apart-rules)  -- later-requires
     (λ c κs. search apart-rules)  -- is-wide-requires
-    (λ c κs. (search apart-rules, (search apart-rules, (search apart-rules, (search apart-rules, search apart-rules)))))  -- keep-requires
+    (λ c κs. (search apart-rules, (search apart-rules, (search apart-rules, (search apart-rules, search apart-rules, search apart-rules, search apart-rules)))))  -- keep-requires
     (λ c κs. search apart-rules)  -- element-requires
     (λ c. search apart-rules)  -- add-self
     (λ c κs. search apart-rules)  -- whole-requires
