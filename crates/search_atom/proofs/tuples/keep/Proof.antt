@@ -16,8 +16,7 @@ keep-spec =
     (λ c. search keep-rules)  -- add-put-part-2
     (λ c κs. (search keep-rules, (search keep-rules, (search keep-rules, (search keep-rules, search keep-rules)))))  -- put-part-requires-3
     (λ c.
-    let n = c .before .before .before .before .before .before .before .before .before .before .before .pre .1 .1 .1 in
-    (
+    let n = c .before .before .before .before .before .before .before .before .before .before .before .pre .1 .1 .1 in (
       search keep-rules,
       stored-three _ _ _ _ _ (n .2) (c .before .before .before .before .before .before .before .before .put-part .ensures .1) _ (c .before .before .before .before .before .before .before .if1 .left) (c .before .before .before .before .put-part2 .ensures .1) _ (c .before .before .before .if2 .left) (n .3) (c .put-part3 .ensures .1),
     )))
