@@ -34,7 +34,7 @@ wants (multiset m) = 1
 wants (tupleOf ms) = 2
 
 -- Values of another tag are not equal.
-first-other : (m : Matcher) (v w : Value) → (tagOf v ≡ wants m → ⊥) → equal m v w ≡ false
+pub first-other : (m : Matcher) (v w : Value) → (tagOf v ≡ wants m → ⊥) → equal m v w ≡ false
 unfolding equal
 first-other something v w f = refl
 first-other integer (int x) w f = absurd (f refl)
@@ -50,7 +50,7 @@ first-other (tupleOf ms) (int x) w f = refl
 first-other (tupleOf ms) (collection vs) w f = refl
 first-other (tupleOf ms) (tupled vs) w f = absurd (f refl)
 
-second-other : (m : Matcher) (v w : Value) → (tagOf w ≡ wants m → ⊥) → equal m v w ≡ false
+pub second-other : (m : Matcher) (v w : Value) → (tagOf w ≡ wants m → ⊥) → equal m v w ≡ false
 unfolding equal
 second-other something v w f = refl
 second-other integer (int x) (int y) f = absurd (f refl)

@@ -8,3 +8,4 @@ pub mod Table
 pub mod ByTag
 pub mod Parts
 pub mod Asking
+pub mod Integers

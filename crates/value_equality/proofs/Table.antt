@@ -91,6 +91,16 @@ module _ (mt s : List ℤ) (w : Bool) (t : List Level) (d : ℕ) (l : Level) (g 
     pub going-room : d < 8
     going-room = let q = i .deep in omega (arith, next-deep)
 
+    -- Its question is answered at once, and it stays the level at work.
+    pub going-stay : (r : Bool) → r ≡ questionOf mt s l → (l′ : Level) → l′ ≡ takenOf mt l r → Going mt s w t d l′
+    going-stay r q l′ u = rw u (record {
+      answer = i .answer ∙ ap (folded mt s t d) (sym (taken-comes mt s g l (i .shape h) h n r q));
+      long = i .long;
+      waits = i .waits;
+      shape = taken-open mt s g l (i .shape h) h n r;
+      deep = rw (taken-place mt l r) (i .deep);
+    })
+
     module _ (l′ : Level) (o : Opens mt s (firstOf s l) l′ (questionOf mt s l)) where
       same-last : getD (set t d l) d none ≡ l
       same-last = getD-set-same t d l none (omega (arith, i .long, going-room))
@@ -172,3 +182,7 @@ module _ (mt s : List ℤ) (w : Bool) (t : List Level) (d : ℕ) (l : Level) (g 
       let a : 8 - d ≡ suc (8 - suc d) = let z = going-room mt s w t d l g i h n in omega arith in
       rw (add-one d, a, same-last mt s w t d l g i h n l′ o, below-set s t d l d (omega arith))
       (open-less (below s t d * 5000 + asks s l) (asks s l′) (8 - suc d) (opens-asks mt s (firstOf s l) l′ (questionOf mt s l) g o))
+
+  pub stay-less : 0 < l .x → 0 < l .z → (r : Bool) (l′ : Level) → l′ ≡ takenOf mt l r → toGo s t d l′ < toGo s t d l
+  unfolding toGo
+  stay-less h n r l′ u = rw u (mul-lt-mul-of-pos-right (omega (arith, taken-less mt s g l (i .shape h) h n r)) (worth-pos (8 - d)))

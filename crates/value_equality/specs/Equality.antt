@@ -2,10 +2,11 @@
 use Prim.Native.Nat.{ℕ, _+_}
 use mathlib.Core.Bool.{Bool, true, false, cond}
 use mathlib.Core.List.{List, [], _∷_}
+use lib.Dec.{eqb}
 use lib.ListN.{getD}
 use lib.IntN.{ℤ, pos}
 use Rattle.rules.specs.Numbers.{plus}
-use Rattle.rules.specs.Forms.{Value, Values}
+use Rattle.rules.specs.Forms.{integer, Value, Values}
 use Rattle.rules.specs.Equality.{inOrder, equal, equalParts}
 use Rattle.forms.specs.Pairing.{greedy}
 use Rattle.words.specs.Words.{sameTo}
@@ -51,3 +52,15 @@ firstEqual mt i s a b y = firstIn (equal (matcherAt mt i) (valueAt s a)) (elemen
 unfoldable pub isSum : List ℤ → ℕ → ℤ → ℕ → Bool
 unfolding sameTo
 isSum s a c b = sameTo (plus (getD s (a + 1) (pos 0)) c) (getD s (b + 1) (pos 0))
+
+-- Where integers are compared: two whole values; the first of the marked elements of b that equals the value at e, 64 where none does; and the elements
+-- that are left of two multisets.
+unfoldable pub integersEqual : List ℤ → ℕ → ℕ → Bool
+integersEqual s a b = equal integer (valueAt s a) (valueAt s b)
+
+unfoldable pub firstInteger : List ℤ → ℕ → ℕ → ℕ → ℕ
+unfolding firstIn
+firstInteger s e b y = firstIn (equal integer (valueAt s e)) (elements (valueAt s b)) (positions 64 y)
+
+unfoldable pub integersPaired : List ℤ → ℕ → ℕ → ℕ → ℕ → Bool
+integersPaired s a x b y = cond (eqb x 0) (eqb y 0) (greedy (equal integer) (left s a x) (left s b y))

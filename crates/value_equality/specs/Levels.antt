@@ -88,6 +88,11 @@ pub record Marks (s : List ℤ) (at m : ℕ) : Type 0 where
   pub tag : Tag s at
   pub below : m < 2 ^ countAt s at
 
+-- The same of two collections, while an element of the first is left.
+pub record Both (s : List ℤ) (a x b y : ℕ) : Type 0 where
+  pub firsts : 0 < x → Marks s a x
+  pub seconds : 0 < x → Marks s b y
+
 -- Elements that there are; and but for a multiset's there is one to try.
 pub record Open (s : List ℤ) (l : Level) : Type 0 where
   pub firsts : Marks s (l .a) (l .x)

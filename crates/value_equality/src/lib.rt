@@ -20,8 +20,8 @@ ghost use Rattle.rules.specs.Numbers.{same};
 ghost use Rattle.value_places.specs.Places.{Target, Tag};
 ghost use Rattle.value_places.specs.Tables.{Places};
 ghost use Rattle.value_places.specs.Held.{Held};
-ghost use Rattle.value_equality.specs.Equality.{equalAt, tuplesEqual, isSum};
-ghost use Rattle.value_equality.specs.Levels.{endedOf, outcomeOf, levelOf, onwardOf, settledOf, takenOf, questionOf, firstOf, comesTo, Open, Opens};
+ghost use Rattle.value_equality.specs.Equality.{equalAt, tuplesEqual, isSum, integersEqual, firstInteger, integersPaired};
+ghost use Rattle.value_equality.specs.Levels.{endedOf, outcomeOf, levelOf, onwardOf, settledOf, takenOf, questionOf, firstOf, secondOf, comesTo, Marks, Both, Open, Opens};
 
 // Whether the integer whose tag stands at a, plus c, is the integer at b.
 pub fn is_sum(s: &[i32], a: usize, c: i32, b: usize) -> bool
@@ -219,6 +219,81 @@ fn asked(mt: &[i32], s: &[i32], base: &[u16; 512], places: &[u16; 512], l: Level
     opened(mt, l.at, s, e, x, f, y)
 }
 
+// Two whole values, where integers are compared.
+fn same_integers(s: &[i32], a: usize, b: usize) -> bool
+    requires { ⌜ Target (now s) ⌝ ∗ ⌜ Tag (now s) a ⌝ ∗ ⌜ Tag (now s) b ⌝ }
+    ensures { λ r. ⌜ r ≡ integersEqual (now (s .entry)) a b ⌝ }
+{
+    if number_at(s, a) != 0 {
+        return false;
+    }
+    if number_at(s, b) != 0 {
+        return false;
+    }
+    same_number(s, a, b)
+}
+
+// The level's question, where it is of two integers.
+fn asked_integers(s: &[i32], base: &[u16; 512], places: &[u16; 512], l: Level) -> bool
+    requires { ⌜ Target (now s) ⌝ ∗ ⌜ Places (now s) (now base) (now places) ⌝ ∗ ⌜ Open (now s) l ⌝ ∗ ⌜ (0 < l .x) × (0 < l .z) ⌝ }
+    ensures { λ r. ⌜ r ≡ integersEqual (now (s .entry)) (firstOf (now (s .entry)) l) (secondOf (now (s .entry)) l) ⌝ }
+{
+    let e = element(s, base, places, l.a, lowest(l.x));
+    let f = element(s, base, places, l.b, lowest(l.z));
+    same_integers(s, e, f)
+}
+
+// The first of the marked elements of b that is the integer at e; 64 where none is.
+fn first_integer(
+    s: &[i32],
+    base: &[u16; 512],
+    places: &[u16; 512],
+    e: usize,
+    b: usize,
+    y: u64,
+) -> u32
+    requires { ⌜ Target (now s) ⌝ ∗ ⌜ Places (now s) (now base) (now places) ⌝ ∗ ⌜ Tag (now s) e ⌝ ∗ ⌜ Marks (now s) b y ⌝ }
+    ensures { λ r. ⌜ r ≡ firstInteger (now (s .entry)) e b y ⌝ }
+{
+    let mut z = y;
+    while 0 < z {
+        let k = lowest(z);
+        let f = element(s, base, places, b, k);
+        if same_integers(s, e, f) {
+            return k;
+        }
+        z = rest(z);
+    }
+    64
+}
+
+// Two multisets of integers: each of x with the first equal one of y that is left.
+fn paired_integers(
+    s: &[i32],
+    base: &[u16; 512],
+    places: &[u16; 512],
+    a: usize,
+    am: u64,
+    b: usize,
+    bm: u64,
+) -> bool
+    requires { ⌜ Target (now s) ⌝ ∗ ⌜ Places (now s) (now base) (now places) ⌝ ∗ ⌜ Both (now s) a am b bm ⌝ }
+    ensures { λ r. ⌜ r ≡ integersPaired (now (s .entry)) a am b bm ⌝ }
+{
+    let mut x = am;
+    let mut y = bm;
+    while 0 < x {
+        let e = element(s, base, places, a, lowest(x));
+        let k = first_integer(s, base, places, e, b, y);
+        if k == 64 {
+            return false;
+        }
+        y = without(y, k);
+        x = rest(x);
+    }
+    y == 0
+}
+
 // Two collections or two tuples, of which the elements or parts marked x and y are to be compared, as a level has them.
 fn compared(
     mt: &[i32],
@@ -235,6 +310,12 @@ fn compared(
     requires { ⌜ Target (now s) ⌝ ∗ ⌜ Places (now s) (now base) (now places) ⌝ ∗ ⌜ Tag (now s) a ⌝ ∗ ⌜ (0 < x → Open (now s) (levelOf kind at a x b y)) ⌝ }
     ensures { λ r. ⌜ r ≡ comesTo (now (mt .entry)) (now (s .entry)) (levelOf kind at a x b y) ⌝ }
 {
+    let of = tag_at(mt, at);
+    if kind == 3 {
+        if of == 1 {
+            return paired_integers(s, base, places, a, x, b, y);
+        }
+    }
     let mut l = begun(kind, at, a, x, b, y);
     let mut levels = [l; 8];
     let mut depth: usize = 0;
@@ -248,9 +329,15 @@ fn compared(
             depth -= 1;
             l = taken(mt, levels[depth], yes);
         } else {
-            levels[depth] = l;
-            depth += 1;
-            l = asked(mt, s, base, places, l);
+            let of = tag_at(mt, l.at);
+            if of == 1 {
+                let yes = asked_integers(s, base, places, l);
+                l = taken(mt, l, yes);
+            } else {
+                levels[depth] = l;
+                depth += 1;
+                l = asked(mt, s, base, places, l);
+            }
         }
     }
 }
