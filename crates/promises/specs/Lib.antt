@@ -18,4 +18,5 @@ pub mod Reviewing
 pub mod Matching
 pub mod Found
 pub mod Causes
+pub mod Elsewhere
 pub mod Main
