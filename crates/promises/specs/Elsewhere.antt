@@ -8,7 +8,7 @@ use lib.Dec.{T}
 use lib.IntN.{ℤ}
 use Rattle.rules.specs.Forms.{Matcher, something, integer, list, multiset, tupleOf, Value, int, collection, tupled, Values, empty, _▸_}
 use Rattle.rules.specs.Reading.{entry}
-use Rattle.rules.specs.Fit.{takes}
+use Rattle.rules.specs.Fit.{takes, alike}
 use Rattle.rules.specs.Equality.{Bindings, equal, raised, equalTo, isValue, isEmpty}
 use Rattle.rules.specs.Search.{consHalves, joinHalves}
 
@@ -54,3 +54,7 @@ no-join-of-a-tuple vs = refl
 pub no-tag-3-under-something : takes something 3 ≡ false
 unfolding takes
 no-tag-3-under-something = refl
+
+pub no-shape-without-a-variable : (m : Matcher) → alike m none ≡ false
+unfolding alike
+no-shape-without-a-variable m = refl

@@ -19,4 +19,5 @@ pub mod Matching
 pub mod Found
 pub mod Causes
 pub mod Elsewhere
+pub mod Clauses
 pub mod Main

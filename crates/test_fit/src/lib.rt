@@ -4,6 +4,7 @@ pub mod shapes;
 use matchers::matcher_end;
 use shapes::same_shape;
 use shapes::width_fits;
+use test_forms::PATTERN_WORDS;
 use test_forms::Tested;
 use test_forms::table::Row;
 use test_forms::table::row_of;
@@ -12,6 +13,11 @@ ghost use mathlib.Core.Path.{_≡_};
 ghost use Prim.Native.Nat.{_+_, _≤_, _<_, _^_};
 ghost use lib.ListN.{length, take};
 ghost use Rattle.test_fit.specs.Fitting.{firstOf, valueFitsTag, tupleAt, hereAt, fitOf, pushed};
+
+// Of 256 words, no more patterns wait than this, and no more tags 1 stand than this.
+pub const WAITING: usize = 386;
+
+pub const VARIABLE_TAGS: usize = 128;
 
 // What a tag of the pattern asks under a matcher: it does not fit; or its operands are skipped; or a variable is bound besides; or one part follows,
 // under the tag's own matcher; or two parts follow, the first under this matcher and the second under the tag's own; or so many parts follow, the
@@ -34,11 +40,11 @@ fn first_part(t: u32, i: usize) -> usize
 }
 
 // A tuple of n parts under the matcher i.
-fn tuple_at(m: &[i32], i: usize, n: u32) -> Here
+fn tuple_at(ms: &[i32], i: usize, n: u32) -> Here
     requires { do ⌜ i + 1 < 2 ^ 64 ⌝ }
-    ensures { λ r. ⌜ r ≡ tupleAt (now (m .entry)) i n ⌝ }
+    ensures { λ r. ⌜ r ≡ tupleAt (now (ms .entry)) i n ⌝ }
 {
-    if width_fits(tag_at(m, i + 1), n) {
+    if width_fits(tag_at(ms, i + 1), n) {
         Here::Wide(i + 2, n as usize)
     } else {
         Here::Misfit
@@ -47,30 +53,30 @@ fn tuple_at(m: &[i32], i: usize, n: u32) -> Here
 
 // Whether a value of the variable v, plus c, may stand under the matcher i, where the variables to the left stand under the first `next` matchers of
 // `under`.
-fn value_fits(m: &[i32], i: usize, under: &[usize], next: usize, v: u32, c: u32) -> bool
+fn value_fits(ms: &[i32], i: usize, under: &[usize], next: usize, v: u32, c: u32) -> bool
     requires { do ⌜ next ≤ length (now under) ⌝ }
-    ensures { λ r. ⌜ r ≡ valueFitsTag (now (m .entry)) i (take next (now (under .entry))) v c ⌝ }
+    ensures { λ r. ⌜ r ≡ valueFitsTag (now (ms .entry)) i (take next (now (under .entry))) v c ⌝ }
 {
     let at = v as usize;
     if next <= at {
         return false;
     }
-    if !same_shape(m, i, under[at]) {
+    if !same_shape(ms, i, under[at]) {
         return false;
     }
-    if tag_at(m, i) == 1 {
+    if tag_at(ms, i) == 1 {
         return true;
     }
     c == 0
 }
 
 // The tag at an index of the pattern under the matcher i.
-fn here_at(m: &[i32], i: usize, p: &[i32], at: usize, under: &[usize], next: usize) -> Here
-    requires { do ⌜ (at < length (now p)) × (next ≤ length (now under)) × (next ≤ 128) ⌝ }
-    ensures { λ r. ⌜ r ≡ hereAt (now (m .entry)) i (now (p .entry)) at (take next (now (under .entry))) ⌝ }
+fn here_at(ms: &[i32], i: usize, ps: &[i32], at: usize, under: &[usize], next: usize) -> Here
+    requires { do ⌜ (at < length (now ps)) × (next ≤ length (now under)) × (next ≤ 128) ⌝ }
+    ensures { λ r. ⌜ r ≡ hereAt (now (ms .entry)) i (now (ps .entry)) at (take next (now (under .entry))) ⌝ }
 {
-    let t = tag_at(p, at);
-    match row_of(tag_at(m, i), t) {
+    let t = tag_at(ps, at);
+    match row_of(tag_at(ms, i), t) {
         Row::Unknown => Here::Misfit,
         Row::Known(operands, parts, taken) => {
             if !taken {
@@ -80,7 +86,7 @@ fn here_at(m: &[i32], i: usize, p: &[i32], at: usize, under: &[usize], next: usi
                 return Here::Bind(operands);
             }
             if t == 3 {
-                if value_fits(m, i, under, next, tag_at(p, at + 1), tag_at(p, at + 2)) {
+                if value_fits(ms, i, under, next, tag_at(ps, at + 1), tag_at(ps, at + 2)) {
                     return Here::Leaf(operands);
                 }
                 return Here::Misfit;
@@ -95,7 +101,7 @@ fn here_at(m: &[i32], i: usize, p: &[i32], at: usize, under: &[usize], next: usi
         }
         Row::Wide(taken) => {
             if taken {
-                tuple_at(m, i, tag_at(p, at + 1))
+                tuple_at(ms, i, tag_at(ps, at + 1))
             } else {
                 Here::Misfit
             }
@@ -104,33 +110,33 @@ fn here_at(m: &[i32], i: usize, p: &[i32], at: usize, under: &[usize], next: usi
 }
 
 // k matchers, one after the other, the first at the index i, onto the stack of n, the first on top.
-fn push(m: &[i32], stack: &mut [usize; 386], n: usize, k: usize, i: usize)
+fn push(ms: &[i32], stack: &mut [usize; WAITING], n: usize, k: usize, i: usize)
     requires { do ⌜ (n + k ≤ 386) × (length (now stack) ≡ 386) ⌝ }
-    ensures { λ r. ⌜ now (stack .exit) ≡ pushed (now (m .entry)) (now (stack .entry)) n k i ⌝ }
+    ensures { λ r. ⌜ now (stack .exit) ≡ pushed (now (ms .entry)) (now (stack .entry)) n k i ⌝ }
 {
     let mut left = k;
     let mut e = i;
     while 0 < left {
         left -= 1;
         stack[n + left] = e;
-        e = matcher_end(m, e);
+        e = matcher_end(ms, e);
     }
 }
 
 // Whether the words of a pattern fit the words of a matcher, left to right. On the stack are the matchers of the patterns still to come.
-pub fn walk(m: &[i32], p: &[i32]) -> Tested
-    ensures { λ r. ⌜ r ≡ fitOf (now (m .entry)) (now (p .entry)) ⌝ }
+pub fn walk(ms: &[i32], ps: &[i32]) -> Tested
+    ensures { λ r. ⌜ r ≡ fitOf (now (ms .entry)) (now (ps .entry)) ⌝ }
 {
-    if 256 < p.len() {
-        return Tested::Fault(256);
+    if PATTERN_WORDS < ps.len() {
+        return Tested::Fault(PATTERN_WORDS);
     }
-    let mut stack = [0usize; 386];
+    let mut stack = [0usize; WAITING];
     let mut n: usize = 1;
-    let mut under = [0usize; 128];
+    let mut under = [0usize; VARIABLE_TAGS];
     let mut next: usize = 0;
     let mut skip: u32 = 0;
     let mut at: usize = 0;
-    while at < p.len() {
+    while at < ps.len() {
         if 0 < skip {
             skip -= 1;
             at += 1;
@@ -139,7 +145,7 @@ pub fn walk(m: &[i32], p: &[i32]) -> Tested
         } else {
             n -= 1;
             let i = stack[n];
-            match here_at(m, i, p, at, &under[..], next) {
+            match here_at(ms, i, ps, at, &under[..], next) {
                 Here::Misfit => return Tested::Fault(at),
                 Here::Leaf(operands) => {
                     skip = operands;
@@ -162,7 +168,7 @@ pub fn walk(m: &[i32], p: &[i32]) -> Tested
                     at += 1;
                 }
                 Here::Wide(first, k) => {
-                    push(m, &mut stack, n, k, first);
+                    push(ms, &mut stack, n, k, first);
                     n += k;
                     skip = 1;
                     at += 1;

@@ -1,5 +1,7 @@
 // Matchers of the same shape, for tag 3: list and multiset count alike, something does not occur.
 use matchers::matcher_end;
+use test_forms::LARGEST_WIDTH;
+use test_forms::LEAST_WIDTH;
 use test_forms::between;
 use words::tag_at;
 ghost use mathlib.Core.Path.{_≡_};
@@ -9,7 +11,11 @@ ghost use Rattle.test_fit.specs.Shapes.{widthFits, tagFits, wordFits, wi
 pub fn width_fits(k: u32, n: u32) -> bool
     ensures { λ r. ⌜ r ≡ widthFits k n ⌝ }
 {
-    if k == n { between(2, k, 4) } else { false }
+    if k == n {
+        between(LEAST_WIDTH, k, LARGEST_WIDTH)
+    } else {
+        false
+    }
 }
 
 // Whether two tags are of the same shape, and not something.
@@ -41,16 +47,16 @@ fn width_next(width: bool, x: u32) -> bool
 }
 
 // Whether something does not occur in the matcher i, and the matcher j is of the same shape.
-pub fn same_shape(m: &[i32], i: usize, j: usize) -> bool
-    ensures { λ r. ⌜ r ≡ shapes (now (m .entry)) i j ⌝ }
+pub fn same_shape(ms: &[i32], i: usize, j: usize) -> bool
+    ensures { λ r. ⌜ r ≡ shapes (now (ms .entry)) i j ⌝ }
 {
-    let e = matcher_end(m, i);
+    let e = matcher_end(ms, i);
     let mut a = i;
     let mut b = j;
     let mut width = false;
     while a < e {
-        let x = tag_at(m, a);
-        if !word_fits(width, x, tag_at(m, b)) {
+        let x = tag_at(ms, a);
+        if !word_fits(width, x, tag_at(ms, b)) {
             return false;
         }
         width = width_next(width, x);

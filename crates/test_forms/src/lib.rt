@@ -6,6 +6,17 @@ pub mod table;
 ghost use mathlib.Core.Path.{_≡_};
 ghost use Rattle.test_forms.specs.Ends.{wholeAt, within};
 
+// The limits of a matcher, a pattern and a tuple.
+pub const MATCHER_WORDS: usize = 64;
+
+pub const MATCHER_LEVELS: u32 = 4;
+
+pub const PATTERN_WORDS: usize = 256;
+
+pub const LEAST_WIDTH: u32 = 2;
+
+pub const LARGEST_WIDTH: u32 = 4;
+
 // What a test finds: nothing at fault, or the place of the first word at fault.
 pub enum Tested {
     Passed,

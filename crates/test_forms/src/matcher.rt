@@ -1,5 +1,9 @@
 // Test 1: the words are one whole matcher in the limits. Matchers inside are read by recursion, the levels left falling at each call.
 use super::Ended;
+use super::LARGEST_WIDTH;
+use super::LEAST_WIDTH;
+use super::MATCHER_LEVELS;
+use super::MATCHER_WORDS;
 use super::Tested;
 use super::between;
 use super::whole;
@@ -10,10 +14,10 @@ ghost use Rattle.test_forms.specs.Tests.{tested};
 ghost use Rattle.test_forms.specs.Matchers.{matcherFrom};
 
 // The matcher at an index, in which so many lists, multisets or tuples may stand one inside the other.
-fn matcher_end(s: &[i32], at: usize, left: u32) -> Ended
-    ensures { λ r. ⌜ r ≡ matcherFrom (now (s .entry)) left at ⌝ }
+fn matcher_end(ms: &[i32], at: usize, left: u32) -> Ended
+    ensures { λ r. ⌜ r ≡ matcherFrom (now (ms .entry)) left at ⌝ }
 {
-    let t = tag_at(s, at);
+    let t = tag_at(ms, at);
     if 4 < t {
         return Ended::Bad(at);
     }
@@ -24,15 +28,15 @@ fn matcher_end(s: &[i32], at: usize, left: u32) -> Ended
         return Ended::Bad(at);
     }
     if t < 4 {
-        return matcher_end(s, at + 1, left - 1);
+        return matcher_end(ms, at + 1, left - 1);
     }
-    let mut n = tag_at(s, at + 1);
-    if !between(2, n, 4) {
+    let mut n = tag_at(ms, at + 1);
+    if !between(LEAST_WIDTH, n, LARGEST_WIDTH) {
         return Ended::Bad(at + 1);
     }
     let mut e = at + 2;
     while 0 < n {
-        match matcher_end(s, e, left - 1) {
+        match matcher_end(ms, e, left - 1) {
             Ended::End(x) => {
                 e = x;
                 n -= 1;
@@ -44,11 +48,11 @@ fn matcher_end(s: &[i32], at: usize, left: u32) -> Ended
 }
 
 // Whether the words are one whole matcher.
-pub fn test_matcher(s: &[i32]) -> Tested
-    ensures { λ r. ⌜ r ≡ tested (readMatcher (now (s .entry))) ⌝ }
+pub fn test_matcher(ms: &[i32]) -> Tested
+    ensures { λ r. ⌜ r ≡ tested (readMatcher (now (ms .entry))) ⌝ }
 {
-    if 64 < s.len() {
-        return Tested::Fault(64);
+    if MATCHER_WORDS < ms.len() {
+        return Tested::Fault(MATCHER_WORDS);
     }
-    whole(s, matcher_end(s, 0, 4))
+    whole(ms, matcher_end(ms, 0, MATCHER_LEVELS))
 }

@@ -1,4 +1,7 @@
 // Test 3: the variables of a pattern stand in order.
+use test_forms::LARGEST_WIDTH;
+use test_forms::LEAST_WIDTH;
+use test_forms::PATTERN_WORDS;
 use test_forms::Tested;
 use test_forms::between;
 use test_forms::pattern::test_pattern;
@@ -11,6 +14,9 @@ ghost use Prim.Native.Nat.{_+_, _<_, _^_};
 ghost use Rattle.rules.specs.Reading.{_then_, readPattern};
 ghost use Rattle.rules.specs.Variables.{variables};
 ghost use Rattle.test_variables.specs.Variables.{counted, allowedTag, insideAfter, varsOf};
+
+// At most so many variables.
+pub const VARIABLES: u32 = 16;
 
 // How many variables a pattern has, or the place of the first tag that breaks a rule.
 pub enum Counted {
@@ -28,7 +34,7 @@ fn allowed(t: u32, v: u32, inside: u32, n: u32) -> bool
             if 0 < inside {
                 return false;
             }
-            if v == n { n < 16 } else { false }
+            if v == n { n < VARIABLES } else { false }
         }
         3 => v < n,
         _ => true,
@@ -48,23 +54,23 @@ fn inside_after(t: u32, parts: u32, inside: u32) -> u32
 }
 
 // The variables of a whole pattern.
-pub fn walk(s: &[i32]) -> Counted
-    ensures { λ r. ⌜ r ≡ varsOf (now (s .entry)) ⌝ }
+pub fn walk(ps: &[i32]) -> Counted
+    ensures { λ r. ⌜ r ≡ varsOf (now (ps .entry)) ⌝ }
 {
-    if 256 < s.len() {
-        return Counted::Fault(256);
+    if PATTERN_WORDS < ps.len() {
+        return Counted::Fault(PATTERN_WORDS);
     }
     let mut skip: u32 = 0;
     let mut next: u32 = 0;
     let mut inside: u32 = 0;
     let mut at: usize = 0;
-    while at < s.len() {
+    while at < ps.len() {
         if 0 < skip {
             skip -= 1;
             at += 1;
         } else {
-            let t = tag_at(s, at);
-            let v = tag_at(s, at + 1);
+            let t = tag_at(ps, at);
+            let v = tag_at(ps, at + 1);
             if !allowed(t, v, inside, next) {
                 return Counted::Fault(at);
             }
@@ -79,7 +85,7 @@ pub fn walk(s: &[i32]) -> Counted
                     }
                 }
                 Row::Wide(_) => {
-                    if !between(2, v, 4) {
+                    if !between(LEAST_WIDTH, v, LARGEST_WIDTH) {
                         return Counted::Fault(at + 1);
                     }
                     inside = inside_after(t, v, inside);
@@ -93,11 +99,11 @@ pub fn walk(s: &[i32]) -> Counted
 }
 
 // How many variables the words of a pattern have.
-pub fn count_variables(s: &[i32]) -> Counted
-    ensures { λ r. ⌜ r ≡ counted (readPattern (now (s .entry)) then λ p. variables p true 0 0) ⌝ }
+pub fn count_variables(ps: &[i32]) -> Counted
+    ensures { λ r. ⌜ r ≡ counted (readPattern (now (ps .entry)) then λ p. variables p true 0 0) ⌝ }
 {
-    match test_pattern(s) {
+    match test_pattern(ps) {
         Tested::Fault(i) => Counted::Fault(i),
-        Tested::Passed => walk(s),
+        Tested::Passed => walk(ps),
     }
 }

@@ -35,23 +35,26 @@ pub const TARGET: u32 = 5;
 
 pub const UNFIT: u32 = 6;
 
+// How deep the collections and tuples of a target stand.
+pub const TARGET_LEVELS: u32 = 8;
+
 // Tests 1 to 4, each over its whole slice.
-pub fn rule_refused(m: &[i32], p: &[i32]) -> Judgement
-    ensures { λ r. ⌜ r ≡ judgement (ruleOf (now (m .entry)) (now (p .entry))) ⌝ }
+pub fn rule_refused(ms: &[i32], ps: &[i32]) -> Judgement
+    ensures { λ r. ⌜ r ≡ judgement (ruleOf (now (ms .entry)) (now (ps .entry))) ⌝ }
 {
-    let a = test_matcher(m);
+    let a = test_matcher(ms);
     if let Tested::Fault(i) = a {
         return Judgement::Refused(MATCHER, i);
     }
-    let b = test_pattern(p);
+    let b = test_pattern(ps);
     if let Tested::Fault(i) = b {
         return Judgement::Refused(PATTERN, i);
     }
-    let c = test_variables::walk(p);
+    let c = test_variables::walk(ps);
     if let Counted::Fault(i) = c {
         return Judgement::Refused(VARIABLE, i);
     }
-    let d = test_fit::walk(m, p);
+    let d = test_fit::walk(ms, ps);
     if let Tested::Fault(i) = d {
         return Judgement::Refused(MISFIT, i);
     }
@@ -59,18 +62,18 @@ pub fn rule_refused(m: &[i32], p: &[i32]) -> Judgement
 }
 
 // Tests 5 and 6, each over its whole slice, for a whole matcher; test 1 where it is none.
-pub fn target_refused(m: &[i32], t: &[i32]) -> TargetJudgement
-    ensures { λ r. ⌜ r ≡ targetJudgement (now (t .entry)) (targetUnder (now (m .entry)) (now (t .entry))) ⌝ }
+pub fn target_refused(ms: &[i32], ts: &[i32]) -> TargetJudgement
+    ensures { λ r. ⌜ r ≡ targetJudgement (now (ts .entry)) (targetUnder (now (ms .entry)) (now (ts .entry))) ⌝ }
 {
-    let a = test_matcher(m);
+    let a = test_matcher(ms);
     if let Tested::Fault(i) = a {
         return TargetJudgement::Refused(MATCHER, i, 0);
     }
-    let b = test_target(t);
+    let b = test_target(ts);
     if let Found::Fault(i, c) = b {
         return TargetJudgement::Refused(TARGET, i, c);
     }
-    match fit_end(t, 0, m, 0, 8) {
+    match fit_end(ts, 0, ms, 0, TARGET_LEVELS) {
         Ended::End(_) => TargetJudgement::Accepted,
         Ended::Bad(i) => TargetJudgement::Refused(UNFIT, i, 0),
     }
