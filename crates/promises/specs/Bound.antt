@@ -1,26 +1,28 @@
 -- Review's count bounds the steps, and the product of the factors bounds the rows, where the value fits and no collection has more elements than the cap.
+-- `gone` conses were taken from the collection that stands here, and so many elements are gone from it.
 use Prim.Native.Nat.{ℕ, suc, _+_, _*_, _≤_}
 use native.Mathlib.Omega.{arith}
 use native.Mathlib.Nat.{le-refl, le-trans, mul-le-mul-right}
-use mathlib.Core.Path.{_≡_, refl, sym, ap, _∙_}
+use mathlib.Core.Path.{_≡_, refl, ap, _∙_, subst}
+use mathlib.Core.Logic.{⊎-elim}
 use mathlib.Core.Bool.{Bool, true, false, cond}
-use mathlib.Core.List.{List, [], _∷_, _++_, map, flatMap}
+use mathlib.Core.List.{List, [], _∷_, _++_, map, flatMap, List·Memᴰ·not-nil, List·Memᴰ·cases-cons, List·Memᴰ·eq-of-singleton, Memᴰ·of-map}
 use lib.ListN.{length, length-append, length-map}
 use Rattle.rules.specs.Forms.{Matcher, something, integer, list, multiset, tupleOf, Matchers, noMatchers, _▸ᵐ_}
 use Rattle.rules.specs.Forms.{Pattern, wildcard, nil, variable, constant, value, cons, join, tuple, both, either, never, Patterns, noPatterns, _▸ᵖ_}
 use Rattle.rules.specs.Forms.{Value, int, collection, tupled, Values, empty, _▸_, count}
 use Rattle.rules.specs.Fit.{element, members, isSomething}
-use Rattle.rules.specs.Equality.{Bindings, isConstant, isValue, isEmpty, picks, behind}
+use Rattle.rules.specs.Equality.{Bindings, isConstant, isValue, isEmpty, Pick, picks, behind}
 use Rattle.rules.specs.Search.{cuts, longer, Halves, consHalves, joinHalves, start}
 use Rattle.rules.specs.Ways.{Way}
 use Rattle.rules.specs.Review.{leafSteps, consFactor, factor, factorAll, summed, summedAll, formula}
 use Rattle.forms.specs.Written.{largest, largestOf}
-use Rattle.promises.specs.Parts.{Parts, cons-parts, join-parts, part-largest}
+use Rattle.promises.specs.Parts.{cons-parts, join-parts, part-largest}
 use Rattle.promises.specs.Suited.{Suits, SuitsEach, cons-suits, join-suits, tuple-suits}
 use Rattle.forms.specs.Lists.{Mem, length-flatMap-le}
 use Rattle.rules.specs.Following.{Solution, up, numbered, isMultiset, mark, chain, onSide, combine, just, whenSo, noSolution, solve, solveEach}
 use Rattle.promises.specs.Choices.{in-numbered}
-use Rattle.promises.specs.Trace.{Taken, found, Met, taken, ended, pass, onlyIf, inside, visit, visitEach, met, close, trace}
+use Rattle.promises.specs.Trace.{found, Met, taken, ended, pass, onlyIf, inside, visit, visitEach, met, close, trace}
 
 -- ---- A cons or a join has no more choices than its factor says.
 
@@ -34,18 +36,25 @@ unfolding cuts count
 length-cuts empty = refl
 length-cuts (v ▸ vs) = ap suc (length-map (cuts vs) (longer v) ∙ length-cuts vs)
 
-cons-count : (cap : ℕ) (m : Matcher) (v : Value) → largest v ≤ cap → length (consHalves m v) ≤ consFactor cap m
-unfolding consHalves consFactor largest
-cons-count cap something v h = omega arith
-cons-count cap integer v h = omega arith
-cons-count cap (list m) (int x) h = omega arith
-cons-count cap (list m) (collection empty) h = omega arith
-cons-count cap (list m) (collection (v ▸ vs)) h = omega arith
-cons-count cap (list m) (tupled vs) h = omega arith
-cons-count cap (multiset m) (int x) h = omega arith
-cons-count cap (multiset m) (collection vs) h = simp length-map (omega (arith, length-picks vs))
-cons-count cap (multiset m) (tupled vs) h = omega arith
-cons-count cap (tupleOf ms) v h = omega arith
+-- The elements that are there to take.
+unfoldable pub held : Value → ℕ
+unfolding count
+held (int x) = 0
+held (collection vs) = count vs
+held (tupled vs) = 0
+
+cons-count : (cap gone : ℕ) (m : Matcher) (v : Value) → held v + gone ≤ cap → length (consHalves m v) ≤ consFactor cap gone m
+unfolding consHalves consFactor held
+cons-count cap gone something v h = omega arith
+cons-count cap gone integer v h = omega arith
+cons-count cap gone (list m) (int x) h = omega arith
+cons-count cap gone (list m) (collection empty) h = omega arith
+cons-count cap gone (list m) (collection (v ▸ vs)) h = omega arith
+cons-count cap gone (list m) (tupled vs) h = omega arith
+cons-count cap gone (multiset m) (int x) h = omega arith
+cons-count cap gone (multiset m) (collection vs) h = simp length-map (omega (arith, length-picks vs))
+cons-count cap gone (multiset m) (tupled vs) h = omega arith
+cons-count cap gone (tupleOf ms) v h = omega arith
 
 join-count : (cap : ℕ) (v : Value) → largest v ≤ cap → length (joinHalves v) ≤ suc cap
 unfolding joinHalves largest
@@ -53,48 +62,89 @@ join-count cap (int x) h = omega arith
 join-count cap (collection vs) h = simp length-map (omega (arith, length-cuts vs))
 join-count cap (tupled vs) h = omega arith
 
--- A value that fits, with no collection over the cap; and so a tuple's parts.
-abbrev pub Fine : ℕ → Matcher → Value → Type 0
-Fine cap m v = Suits m v × (largest v ≤ cap)
+-- A cons leaves one element fewer.
+pick-count : (vs : Values) (p : Pick) → Mem p (picks vs) → suc (count (p .others)) ≡ count vs
+unfolding picks behind count
+pick-count empty p i = absurd (List·Memᴰ·not-nil i)
+pick-count (v ▸ vs) p i = ⊎-elim
+    (λ e. ap (λ (q : Pick). suc (count (q .others))) e)
+    (λ n. let r = Memᴰ·of-map (behind v) (picks vs) n in
+    subst (λ (q : Pick). suc (count (q .others)) ≡ suc (count vs)) (r .2) (ap suc (pick-count vs (r .0) (r .1))))
+    (List·Memᴰ·cases-cons i)
+
+cons-held : (m : Matcher) (v : Value) (h : Halves) → Mem h (consHalves m v) → suc (held (h .second)) ≡ held v
+unfolding consHalves held count
+cons-held something v h i = absurd (List·Memᴰ·not-nil i)
+cons-held integer v h i = absurd (List·Memᴰ·not-nil i)
+cons-held (list m) (int x) h i = absurd (List·Memᴰ·not-nil i)
+cons-held (list m) (collection empty) h i = absurd (List·Memᴰ·not-nil i)
+cons-held (list m) (collection (v ▸ vs)) h i = ap (λ (g : Halves). suc (held (g .second))) (List·Memᴰ·eq-of-singleton i)
+cons-held (list m) (tupled vs) h i = absurd (List·Memᴰ·not-nil i)
+cons-held (multiset m) (int x) h i = absurd (List·Memᴰ·not-nil i)
+cons-held (multiset m) (collection vs) h i =
+    let r = Memᴰ·of-map _ (picks vs) i in subst (λ (g : Halves). suc (held (g .second)) ≡ count vs) (r .2) (pick-count vs (r .0) (r .1))
+cons-held (multiset m) (tupled vs) h i = absurd (List·Memᴰ·not-nil i)
+cons-held (tupleOf ms) v h i = absurd (List·Memᴰ·not-nil i)
+
+held-largest : (v : Value) → held v ≤ largest v
+unfolding held largest
+held-largest (int x) = omega arith
+held-largest (collection vs) = omega arith
+held-largest (tupled vs) = omega arith
+
+-- A value that fits, with no collection over the cap, and from which as many elements are gone as conses are gone before; and so a tuple's parts, anew.
+pub record Fine (cap gone : ℕ) (m : Matcher) (v : Value) : Type 0 where
+  pub suits : Suits m v
+  pub small : largest v ≤ cap
+  pub left : held v + gone ≤ cap
 
 abbrev FineEach : ℕ → Matchers → Values → Type 0
 FineEach cap ms vs = SuitsEach ms vs × (largestOf vs ≤ cap)
 
+pub anew : (cap : ℕ) (m : Matcher) (v : Value) → Suits m v → largest v ≤ cap → Fine cap 0 m v
+anew cap m v s l = record { suits = s; small = l; left = omega (arith, held-largest v) }
+
 -- What is taken out of it is so too.
-halves-fine : (cap : ℕ) (m k : Matcher) (v : Value) (h : Halves) → Parts h v → Suits k (h .first) × Suits m (h .second) → largest v ≤ cap
-    → Fine cap k (h .first) × Fine cap m (h .second)
-halves-fine cap m k v h p s l = ((s .0, le-trans (part-largest (p .first)) l), (s .1, le-trans (part-largest (p .second)) l))
+cons-fine : (cap gone : ℕ) (m : Matcher) (v : Value) → Fine cap gone m v → (h : Halves) → Mem h (consHalves m v)
+    → Fine cap 0 (element m) (h .first) × Fine cap (suc gone) m (h .second)
+cons-fine cap gone m v f h i =
+    let p = cons-parts m v h i in
+    let s = cons-suits m v h i (f .suits) in (
+      anew cap (element m) (h .first) (s .0) (le-trans (part-largest (p .first)) (f .small)),
+      record { suits = s .1; small = le-trans (part-largest (p .second)) (f .small); left = omega (arith, cons-held m v h i, f .left) },
+    )
 
-cons-fine : (cap : ℕ) (m : Matcher) (v : Value) → Fine cap m v → (h : Halves) → Mem h (consHalves m v)
-    → Fine cap (element m) (h .first) × Fine cap m (h .second)
-cons-fine cap m v s h i = halves-fine cap m (element m) v h (cons-parts m v h i) (cons-suits m v h i (s .0)) (s .1)
+join-fine : (cap gone : ℕ) (m : Matcher) (v : Value) → Fine cap gone m v → (h : Halves) → Mem h (joinHalves v)
+    → Fine cap 0 m (h .first) × Fine cap 0 m (h .second)
+join-fine cap gone m v f h i =
+    let p = join-parts v h i in
+    let s = join-suits m v h i (f .suits) in (
+      anew cap m (h .first) (s .0) (le-trans (part-largest (p .first)) (f .small)),
+      anew cap m (h .second) (s .1) (le-trans (part-largest (p .second)) (f .small)),
+    )
 
-join-fine : (cap : ℕ) (m : Matcher) (v : Value) → Fine cap m v → (h : Halves) → Mem h (joinHalves v)
-    → Fine cap m (h .first) × Fine cap m (h .second)
-join-fine cap m v s h i = halves-fine cap m m v h (join-parts v h i) (join-suits m v h i (s .0)) (s .1)
-
--- ---- The steps. What an atom costs if what comes after it costs at most `k`.
+-- ---- The steps. What an atom costs if what comes after it costs at cap `k`.
 
 unfoldable mutual
   unfolding leafSteps consFactor element members
 
-  pub horner : ℕ → Pattern → Matcher → ℕ → ℕ
-  horner cap wildcard m k = leafSteps m + k
-  horner cap (variable x) m k = leafSteps m + k
-  horner cap (constant c) m k = 1 + k
-  horner cap (value x c) m k = 1 + k
-  horner cap nil m k = 1 + k
-  horner cap (cons p q) m k = 1 + consFactor cap m * horner cap p (element m) (horner cap q m k)
-  horner cap (join p q) m k = 1 + suc cap * horner cap p m (horner cap q m k)
-  horner cap (tuple ps) m k = 1 + hornerEach cap ps (members m) k
-  horner cap (both p q) m k = 1 + horner cap p m (horner cap q m k)
-  horner cap (either p q) m k = 1 + (horner cap p m k + horner cap q m k)
-  horner cap (never p) m k = 1 + (horner cap p m 1 + k)
+  pub horner : (cap gone : ℕ) → Pattern → Matcher → ℕ → ℕ
+  horner cap gone wildcard m k = leafSteps m + k
+  horner cap gone (variable x) m k = leafSteps m + k
+  horner cap gone (constant c) m k = 1 + k
+  horner cap gone (value x c) m k = 1 + k
+  horner cap gone nil m k = 1 + k
+  horner cap gone (cons p q) m k = 1 + consFactor cap gone m * horner cap 0 p (element m) (horner cap (suc gone) q m k)
+  horner cap gone (join p q) m k = 1 + suc cap * horner cap 0 p m (horner cap 0 q m k)
+  horner cap gone (tuple ps) m k = 1 + hornerEach cap ps (members m) k
+  horner cap gone (both p q) m k = 1 + horner cap gone p m (horner cap gone q m k)
+  horner cap gone (either p q) m k = 1 + (horner cap gone p m k + horner cap gone q m k)
+  horner cap gone (never p) m k = 1 + (horner cap gone p m 1 + k)
 
   pub hornerEach : ℕ → Patterns → Matchers → ℕ → ℕ
   hornerEach cap noPatterns ms k = k
   hornerEach cap (p ▸ᵖ ps) noMatchers k = k
-  hornerEach cap (p ▸ᵖ ps) (m ▸ᵐ ms) k = horner cap p m (hornerEach cap ps ms k)
+  hornerEach cap (p ▸ᵖ ps) (m ▸ᵐ ms) k = horner cap 0 p m (hornerEach cap ps ms k)
 
 leaf-cost : (b : Bool) (ts : List Met) (n : ℕ) → length ts ≤ n
     → suc (length {A = Met} (elim b as (λ _. List Met) [ true ↦ ts | false ↦ pass ∷ ts ])) ≤ cond b 1 2 + n
@@ -119,30 +169,30 @@ inside-cost (ended ∷ ms) ns a n h k = omega arith
 mutual
   unfolding visit horner largest Suits
 
-  pub visit-cost : (cap : ℕ) (p : Pattern) (m : Matcher) (v : Value) (e : Bindings) (k : Bindings → List Met) (n : ℕ)
-      → Fine cap m v → ((d : Bindings) → length (k d) ≤ n) → length (visit p m v e k) ≤ horner cap p m n
-  visit-cost cap wildcard m v e k n s h = leaf-cost (isSomething m) (k e) n (h e)
-  visit-cost cap nil m v e k n s h = test-cost (isEmpty v) (k e) n (h e)
-  visit-cost cap (variable x) m v e k n s h = leaf-cost (isSomething m) (k (e ++ (v ∷ []))) n (h (e ++ (v ∷ [])))
-  visit-cost cap (constant c) m v e k n s h = test-cost (isConstant c v) (k e) n (h e)
-  visit-cost cap (value x c) m v e k n s h = test-cost (isValue m e x c v) (k e) n (h e)
-  visit-cost cap (cons p q) m v e k n s h = both-cost _ (consHalves m v) (consFactor cap m) _ (cons-count cap m v (s .1))
-      (λ g i. let j = cons-fine cap m v s g i in
-      visit-cost cap p (element m) (g .first) e _ _ (j .0) (λ d. visit-cost cap q m (g .second) d k n (j .1) h))
-  visit-cost cap (join p q) m v e k n s h = both-cost _ (joinHalves v) (suc cap) _ (join-count cap v (s .1))
-      (λ g i. let j = join-fine cap m v s g i in
-      visit-cost cap p m (g .first) e _ _ (j .0) (λ d. visit-cost cap q m (g .second) d k n (j .1) h))
-  visit-cost cap (tuple ps) m (int x) e k n s h = omega arith
-  visit-cost cap (tuple ps) m (collection vs) e k n s h = omega arith
-  visit-cost cap (tuple ps) m (tupled vs) e k n s h =
-      omega (arith, visit-each-cost cap ps (members m) vs e k n (tuple-suits m vs (s .0), s .1) h)
-  visit-cost cap (both p q) m v e k n s h = omega (arith, visit-cost cap p m v e (λ d. visit q m v d k) (horner cap q m n) s (λ d. visit-cost cap q m v d k n s h))
-  visit-cost cap (either p q) m v e k n s h =
-      omega (arith, length-append (visit p m v e k) (visit q m v e k), visit-cost cap p m v e k n s h, visit-cost cap q m v e k n s h)
-  visit-cost cap (never p) m v e k n s h = omega (
+  pub visit-cost : (cap gone : ℕ) (p : Pattern) (m : Matcher) (v : Value) (e : Bindings) (k : Bindings → List Met) (n : ℕ)
+      → Fine cap gone m v → ((d : Bindings) → length (k d) ≤ n) → length (visit p m v e k) ≤ horner cap gone p m n
+  visit-cost cap gone wildcard m v e k n s h = leaf-cost (isSomething m) (k e) n (h e)
+  visit-cost cap gone nil m v e k n s h = test-cost (isEmpty v) (k e) n (h e)
+  visit-cost cap gone (variable x) m v e k n s h = leaf-cost (isSomething m) (k (e ++ (v ∷ []))) n (h (e ++ (v ∷ [])))
+  visit-cost cap gone (constant c) m v e k n s h = test-cost (isConstant c v) (k e) n (h e)
+  visit-cost cap gone (value x c) m v e k n s h = test-cost (isValue m e x c v) (k e) n (h e)
+  visit-cost cap gone (cons p q) m v e k n s h = both-cost _ (consHalves m v) (consFactor cap gone m) _ (cons-count cap gone m v (s .left))
+      (λ g i. let j = cons-fine cap gone m v s g i in
+      visit-cost cap 0 p (element m) (g .first) e _ _ (j .0) (λ d. visit-cost cap (suc gone) q m (g .second) d k n (j .1) h))
+  visit-cost cap gone (join p q) m v e k n s h = both-cost _ (joinHalves v) (suc cap) _ (join-count cap v (s .small))
+      (λ g i. let j = join-fine cap gone m v s g i in
+      visit-cost cap 0 p m (g .first) e _ _ (j .0) (λ d. visit-cost cap 0 q m (g .second) d k n (j .1) h))
+  visit-cost cap gone (tuple ps) m (int x) e k n s h = omega arith
+  visit-cost cap gone (tuple ps) m (collection vs) e k n s h = omega arith
+  visit-cost cap gone (tuple ps) m (tupled vs) e k n s h =
+      omega (arith, visit-each-cost cap ps (members m) vs e k n (tuple-suits m vs (s .suits), s .small) h)
+  visit-cost cap gone (both p q) m v e k n s h = omega (arith, visit-cost cap gone p m v e (λ d. visit q m v d k) (horner cap gone q m n) s (λ d. visit-cost cap gone q m v d k n s h))
+  visit-cost cap gone (either p q) m v e k n s h =
+      omega (arith, length-append (visit p m v e k) (visit q m v e k), visit-cost cap gone p m v e k n s h, visit-cost cap gone q m v e k n s h)
+  visit-cost cap gone (never p) m v e k n s h = omega (
     arith,
-    inside-cost (visit p m v e (λ d. ended ∷ [])) (k e) (horner cap p m 1) n
-        (visit-cost cap p m v e (λ d. ended ∷ []) 1 s (λ d. omega arith)) (h e),
+    inside-cost (visit p m v e (λ d. ended ∷ [])) (k e) (horner cap gone p m 1) n
+        (visit-cost cap gone p m v e (λ d. ended ∷ []) 1 s (λ d. omega arith)) (h e),
   )
 
   visit-each-cost : (cap : ℕ) (ps : Patterns) (ms : Matchers) (vs : Values) (e : Bindings) (k : Bindings → List Met) (n : ℕ)
@@ -151,42 +201,42 @@ mutual
   visit-each-cost cap (p ▸ᵖ ps) noMatchers vs e k n s h = h e
   visit-each-cost cap (p ▸ᵖ ps) (m ▸ᵐ ms) empty e k n s h = absurd (s .0)
   visit-each-cost cap (p ▸ᵖ ps) (m ▸ᵐ ms) (v ▸ vs) e k n s h =
-      visit-cost cap p m v e _ _ (s .0 .0, omega (arith, s .1)) (λ d. visit-each-cost cap ps ms vs d k n (s .0 .1, omega (arith, s .1)) h)
+      visit-cost cap 0 p m v e _ _ (anew cap m v (s .0 .0) (omega (arith, s .1))) (λ d. visit-each-cost cap ps ms vs d k n (s .0 .1, omega (arith, s .1)) h)
 
 -- ---- Review's formula is that cost.
 
 mutual
   unfolding horner summed factor
 
-  horner-summed : (cap : ℕ) (p : Pattern) (m : Matcher) (a k : ℕ) → a * horner cap p m k ≡ summed cap p m a + a * factor cap p m * k
-  horner-summed cap wildcard m a k = omega arith
-  horner-summed cap nil m a k = omega arith
-  horner-summed cap (variable x) m a k = omega arith
-  horner-summed cap (constant c) m a k = omega arith
-  horner-summed cap (value x c) m a k = omega arith
-  horner-summed cap (cons p q) m a k = omega (
+  horner-summed : (cap gone : ℕ) (p : Pattern) (m : Matcher) (a k : ℕ) → a * horner cap gone p m k ≡ summed cap gone p m a + a * factor cap gone p m * k
+  horner-summed cap gone wildcard m a k = omega arith
+  horner-summed cap gone nil m a k = omega arith
+  horner-summed cap gone (variable x) m a k = omega arith
+  horner-summed cap gone (constant c) m a k = omega arith
+  horner-summed cap gone (value x c) m a k = omega arith
+  horner-summed cap gone (cons p q) m a k = omega (
     arith,
-    horner-summed cap p (element m) (a * consFactor cap m) (horner cap q m k),
-    horner-summed cap q m (a * consFactor cap m * factor cap p (element m)) k,
+    horner-summed cap 0 p (element m) (a * consFactor cap gone m) (horner cap (suc gone) q m k),
+    horner-summed cap (suc gone) q m (a * consFactor cap gone m * factor cap 0 p (element m)) k,
   )
-  horner-summed cap (join p q) m a k =
-      omega (arith, horner-summed cap p m (a * suc cap) (horner cap q m k), horner-summed cap q m (a * suc cap * factor cap p m) k)
-  horner-summed cap (tuple ps) m a k = omega (arith, horner-summed-each cap ps (members m) a k)
-  horner-summed cap (both p q) m a k =
-      omega (arith, horner-summed cap p m a (horner cap q m k), horner-summed cap q m (a * factor cap p m) k)
-  horner-summed cap (either p q) m a k = omega (arith, horner-summed cap p m a k, horner-summed cap q m a k)
-  horner-summed cap (never p) m a k = omega (arith, horner-summed cap p m a 1)
+  horner-summed cap gone (join p q) m a k =
+      omega (arith, horner-summed cap 0 p m (a * suc cap) (horner cap 0 q m k), horner-summed cap 0 q m (a * suc cap * factor cap 0 p m) k)
+  horner-summed cap gone (tuple ps) m a k = omega (arith, horner-summed-each cap ps (members m) a k)
+  horner-summed cap gone (both p q) m a k =
+      omega (arith, horner-summed cap gone p m a (horner cap gone q m k), horner-summed cap gone q m (a * factor cap gone p m) k)
+  horner-summed cap gone (either p q) m a k = omega (arith, horner-summed cap gone p m a k, horner-summed cap gone q m a k)
+  horner-summed cap gone (never p) m a k = omega (arith, horner-summed cap gone p m a 1)
 
   horner-summed-each : (cap : ℕ) (ps : Patterns) (ms : Matchers) (a k : ℕ)
       → a * hornerEach cap ps ms k ≡ summedAll cap ps ms a + a * factorAll cap ps ms * k
   horner-summed-each cap noPatterns ms a k = omega arith
   horner-summed-each cap (p ▸ᵖ ps) noMatchers a k = omega arith
   horner-summed-each cap (p ▸ᵖ ps) (m ▸ᵐ ms) a k =
-      omega (arith, horner-summed cap p m a (hornerEach cap ps ms k), horner-summed-each cap ps ms (a * factor cap p m) k)
+      omega (arith, horner-summed cap 0 p m a (hornerEach cap ps ms k), horner-summed-each cap ps ms (a * factor cap 0 p m) k)
 
-pub horner-formula : (cap : ℕ) (p : Pattern) (m : Matcher) → horner cap p m 1 ≡ formula cap p m
+pub horner-formula : (cap : ℕ) (p : Pattern) (m : Matcher) → horner cap 0 p m 1 ≡ formula cap p m
 unfolding formula
-horner-formula cap p m = omega (arith, horner-summed cap p m 1 1)
+horner-formula cap p m = omega (arith, horner-summed cap 0 p m 1 1)
 
 close-cost : (ms : List Met) → length (close ms) ≤ length ms
 unfolding close
@@ -194,11 +244,11 @@ close-cost [] = omega arith
 close-cost (taken t ∷ ms) = omega (arith, close-cost ms)
 close-cost (ended ∷ ms) = omega arith
 
--- THE BOUND: the whole search has at most as many states as review says.
-pub steps-bound : (cap : ℕ) (m : Matcher) (p : Pattern) (v : Value) → Fine cap m v → length (trace (start m p v ∷ [])) ≤ formula cap p m
+-- THE BOUND: the whole search has at cap as many states as review says.
+pub steps-bound : (cap : ℕ) (m : Matcher) (p : Pattern) (v : Value) → Fine cap 0 m v → length (trace (start m p v ∷ [])) ≤ formula cap p m
 unfolding trace met start
 steps-bound cap m p v s = rw (← horner-formula cap p m) (le-trans (close-cost (visit p m v [] (λ d. taken (found d) ∷ [])))
-    (visit-cost cap p m v [] (λ d. taken (found d) ∷ []) 1 s (λ d. omega arith)))
+    (visit-cost cap 0 p m v [] (λ d. taken (found d) ∷ []) 1 s (λ d. omega arith)))
 
 -- ---- The rows: the product of all factors bounds them.
 
@@ -229,33 +279,33 @@ when-count false e = omega arith
 mutual
   unfolding solve factor just largest Suits
 
-  pub rows-bound : (cap : ℕ) (p : Pattern) (m : Matcher) (v : Value) (e : Bindings) → Fine cap m v → length (solve p m v e) ≤ factor cap p m
-  rows-bound cap wildcard m v e s = omega arith
-  rows-bound cap nil m v e s = when-count (isEmpty v) e
-  rows-bound cap (variable x) m v e s = omega arith
-  rows-bound cap (constant c) m v e s = when-count (isConstant c v) e
-  rows-bound cap (value x c) m v e s = when-count (isValue m e x c v) e
-  rows-bound cap (cons p q) m v e s =
-      combine-count (isMultiset m) (λ a. solve p (element m) a e) (λ a d. solve q m a d) (consHalves m v) _ _ _ (cons-count cap m v (s .1))
-      (λ h i. rows-bound cap p (element m) (h .first) e (cons-fine cap m v s h i .0))
-      (λ h i d. rows-bound cap q m (h .second) d (cons-fine cap m v s h i .1))
-  rows-bound cap (join p q) m v e s =
-      combine-count true (λ a. solve p m a e) (λ a d. solve q m a d) (joinHalves v) _ _ _ (join-count cap v (s .1))
-      (λ h i. rows-bound cap p m (h .first) e (join-fine cap m v s h i .0))
-      (λ h i d. rows-bound cap q m (h .second) d (join-fine cap m v s h i .1))
-  rows-bound cap (tuple ps) m (int x) e s = omega arith
-  rows-bound cap (tuple ps) m (collection vs) e s = omega arith
-  rows-bound cap (tuple ps) m (tupled vs) e s = omega (arith, rows-bound-each cap ps (members m) vs e (tuple-suits m vs (s .0), s .1))
-  rows-bound cap (both p q) m v e s = chain-count [] (solve p m v e) (λ d. solve q m v d) _ _ (rows-bound cap p m v e s) (λ d. rows-bound cap q m v d s)
-  rows-bound cap (either p q) m v e s = omega (
+  pub rows-bound : (cap gone : ℕ) (p : Pattern) (m : Matcher) (v : Value) (e : Bindings) → Fine cap gone m v → length (solve p m v e) ≤ factor cap gone p m
+  rows-bound cap gone wildcard m v e s = omega arith
+  rows-bound cap gone nil m v e s = when-count (isEmpty v) e
+  rows-bound cap gone (variable x) m v e s = omega arith
+  rows-bound cap gone (constant c) m v e s = when-count (isConstant c v) e
+  rows-bound cap gone (value x c) m v e s = when-count (isValue m e x c v) e
+  rows-bound cap gone (cons p q) m v e s =
+      combine-count (isMultiset m) (λ a. solve p (element m) a e) (λ a d. solve q m a d) (consHalves m v) _ _ _ (cons-count cap gone m v (s .left))
+      (λ h i. rows-bound cap 0 p (element m) (h .first) e (cons-fine cap gone m v s h i .0))
+      (λ h i d. rows-bound cap (suc gone) q m (h .second) d (cons-fine cap gone m v s h i .1))
+  rows-bound cap gone (join p q) m v e s =
+      combine-count true (λ a. solve p m a e) (λ a d. solve q m a d) (joinHalves v) _ _ _ (join-count cap v (s .small))
+      (λ h i. rows-bound cap 0 p m (h .first) e (join-fine cap gone m v s h i .0))
+      (λ h i d. rows-bound cap 0 q m (h .second) d (join-fine cap gone m v s h i .1))
+  rows-bound cap gone (tuple ps) m (int x) e s = omega arith
+  rows-bound cap gone (tuple ps) m (collection vs) e s = omega arith
+  rows-bound cap gone (tuple ps) m (tupled vs) e s = omega (arith, rows-bound-each cap ps (members m) vs e (tuple-suits m vs (s .suits), s .small))
+  rows-bound cap gone (both p q) m v e s = chain-count [] (solve p m v e) (λ d. solve q m v d) _ _ (rows-bound cap gone p m v e s) (λ d. rows-bound cap gone q m v d s)
+  rows-bound cap gone (either p q) m v e s = omega (
     arith,
     length-append (map (onSide 0) (solve p m v e)) (map (onSide 1) (solve q m v e)),
     length-map (solve p m v e) (onSide 0),
     length-map (solve q m v e) (onSide 1),
-    rows-bound cap p m v e s,
-    rows-bound cap q m v e s,
+    rows-bound cap gone p m v e s,
+    rows-bound cap gone q m v e s,
   )
-  rows-bound cap (never p) m v e s = when-count (noSolution (solve p m v e)) e
+  rows-bound cap gone (never p) m v e s = when-count (noSolution (solve p m v e)) e
 
   rows-bound-each : (cap : ℕ) (ps : Patterns) (ms : Matchers) (vs : Values) (e : Bindings) → FineEach cap ms vs
       → length (solveEach ps ms vs e) ≤ factorAll cap ps ms
@@ -263,5 +313,5 @@ mutual
   rows-bound-each cap (p ▸ᵖ ps) noMatchers vs e s = omega arith
   rows-bound-each cap (p ▸ᵖ ps) (m ▸ᵐ ms) empty e s = absurd (s .0)
   rows-bound-each cap (p ▸ᵖ ps) (m ▸ᵐ ms) (v ▸ vs) e s =
-      chain-count [] (solve p m v e) (λ d. solveEach ps ms vs d) _ _ (rows-bound cap p m v e (s .0 .0, omega (arith, s .1)))
+      chain-count [] (solve p m v e) (λ d. solveEach ps ms vs d) _ _ (rows-bound cap 0 p m v e (anew cap m v (s .0 .0) (omega (arith, s .1))))
       (λ d. rows-bound-each cap ps ms vs d (s .0 .1, omega (arith, s .1)))

@@ -13,9 +13,12 @@ pub mod Budget
 pub mod Suited
 pub mod Everybody
 pub mod Bound
+pub mod OldFigure
+pub mod Exact
 pub mod Room
 pub mod Reviewing
 pub mod Matching
+pub mod Reaching
 pub mod Found
 pub mod Causes
 pub mod Elsewhere

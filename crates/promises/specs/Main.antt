@@ -6,16 +6,19 @@
 -- Runs         at every budget and in every room: which states, rows, words, and when 0, 7 and 8
 -- Reviews      review's answers, each exactly when; rules that everybody passes
 -- Bounds       review's figure bounds steps and rows; budget and room that suffice
+-- Reached      review's figure never exceeds the old one, and is reached
 -- Refusals     answers 1 to 6 by the first fault, with its place and cause, or a run
 -- Values       equality, sums; words are read one way
 --
 -- The words that the statements use are defined in Trace (trace, order, seen), Solve (founds), Nots (inner), Listing (Listing), Budget (report, Full,
--- Outcome), Matching (states, ways, rowsOfWays), Reviewing (Review, TooBig, AlwaysTrue, Outside, countOf) and, in the crate forms, in Written (the words,
--- the numbers and the widths of the forms), Faults, Wrong (Wrong, Says) and Pairing (greedy).
+-- Outcome), Matching (states, ways, rowsOfWays), Reviewing (Review, TooBig, AlwaysTrue, Outside, countOf), OldFigure (oldFormula), Exact (Chain),
+-- Reaching (equals) and, in the crate forms, in Written (the words, the numbers and the widths of the forms), Faults, Wrong (Wrong, Says) and Pairing
+-- (greedy).
 pub mod Determined
 pub mod Ways
 pub mod Runs
 pub mod Reviews
 pub mod Bounds
+pub mod Reached
 pub mod Refusals
 pub mod Values

@@ -25,7 +25,7 @@ use Rattle.promises.specs.Listing.{solve-listing}
 use Rattle.promises.specs.Budget.{report, Full, Outcome, done, spent, full}
 use Rattle.promises.specs.Budget.{walk-outcome, walk-full, full-rows, answers-0, answers-7, answers-8, steps-most, first-rows}
 use Rattle.promises.specs.Suited.{Suits, fits-suits}
-use Rattle.promises.specs.Bound.{steps-bound, rows-bound}
+use Rattle.promises.specs.Bound.{Fine, anew, steps-bound, rows-bound}
 use Rattle.forms.specs.Numbering.{variables-found}
 use Rattle.promises.specs.Room.{follows-binds, rows-words}
 use Rattle.forms.specs.ReadTarget.{target-read}
@@ -164,26 +164,29 @@ module _ (ms ps ts : List ℤ) (budget : ℕ) (room : List ℤ) (r : Rule) (v : 
   -- ---- Review's numbers.
 
   module _ (cap : ℕ) (small : largest v ≤ cap) where
+    fine : Fine cap 0 (r .matcher) v
+    fine = anew cap (r .matcher) v suits small
+
     pub steps-bounded : it .steps ≤ countOf cap r
     unfolding carriedOut states countOf
     steps-bounded =
         let q = ap (λ (x : Matched). x .steps) result in
-        omega (arith, steps-most budget (length room) (states r v) ran outcome, steps-bound cap (r .matcher) (r .pattern) v (suits, small))
+        omega (arith, steps-most budget (length room) (states r v) ran outcome, steps-bound cap (r .matcher) (r .pattern) v fine)
 
-    pub rows-bounded : it .rows ≤ factor cap (r .pattern) (r .matcher)
+    pub rows-bounded : it .rows ≤ factor cap 0 (r .pattern) (r .matcher)
     unfolding ways
-    rows-bounded = le-trans (first-ways .0) (rows-bound cap (r .pattern) (r .matcher) v [] (suits, small))
+    rows-bounded = le-trans (first-ways .0) (rows-bound cap 0 (r .pattern) (r .matcher) v [] fine)
 
     pub room-enough : countOf cap r ≤ budget
-        → factor cap (r .pattern) (r .matcher) * variableTags (r .pattern) * length ts ≤ length room → it .answer ≡ 0
+        → factor cap 0 (r .pattern) (r .matcher) * variableTags (r .pattern) * length ts ≤ length room → it .answer ≡ 0
     unfolding states countOf
     room-enough b h = answer-0 .1 (
-      le-trans (steps-bound cap (r .matcher) (r .pattern) v (suits, small)) b,
+      le-trans (steps-bound cap (r .matcher) (r .pattern) v fine) b,
       λ f. let k = full-rows budget (length room) (states r v) f .1 in
-          let w = rows-words cap (r .matcher) (r .pattern) v (suits, small) in
+          let w = rows-words cap (r .matcher) (r .pattern) v fine in
           let l : length ts ≡ size v = ap length (target-read ts v .0 (sane .target .target) .0) ∙ length-words v in
-          let e = ap (λ n. factor cap (r .pattern) (r .matcher) * variableTags (r .pattern) * n) l
-          ∙ mul-assoc (factor cap (r .pattern) (r .matcher)) (variableTags (r .pattern)) (size v) in
+          let e = ap (λ n. factor cap 0 (r .pattern) (r .matcher) * variableTags (r .pattern) * n) l
+          ∙ mul-assoc (factor cap 0 (r .pattern) (r .matcher)) (variableTags (r .pattern)) (size v) in
           omega arith,
     )
 

@@ -212,18 +212,21 @@ everybody ms ps cap r w a v f =
     let b = ap (λ (s : Rule). alwaysTrue (s .pattern)) (sym q) ∙ t .always in
     always-passes (r .pattern) (r .matcher) 0 [] (w .fitting .0) (subst T (sym b) tt) (w .fitting .1) v [] (fits-suits (r .matcher) v 0 f)
 
--- The count of a review that answers 0 is the formula.
+-- The count of a review that answers 0 is the formula, which fits a budget; and the cap is at most 64.
 pub count-is : (ms ps : List ℤ) (c : ℕ) (r : Rule) → WellFormed ms ps r → (review ms ps (pos c)) .answer ≡ 0
-    → (review ms ps (pos c)) .count ≡ countOf c r
+    → ((review ms ps (pos c)) .count ≡ countOf c r) × (countOf c r ≤ 4294967295) × (c ≤ 64)
 unfolding declined
 count-is ms ps c r w a = go (review-judged ms ps (pos c))
   where
     same : (s : Rule) → Telling ms ps s → s ≡ r
     same s u = cc (rule-accepted ms ps s .1 (u .wellFormed), rule-accepted ms ps r .1 w)
 
-    go : Review ms ps (pos c) (review ms ps (pos c)) → (review ms ps (pos c)) .count ≡ countOf c r
+    go : Review ms ps (pos c) (review ms ps (pos c)) → ((review ms ps (pos c)) .count ≡ countOf c r) × (countOf c r ≤ 4294967295) × (c ≤ 64)
     go (turned b i f q) = let k = ap (λ (x : Reviewed). x .answer) q in let l = rule-range f in absurd (omega arith)
     go (always s u b q) = let k = ap (λ (x : Reviewed). x .answer) q in absurd (omega arith)
     go (outside s u o q) = let k = ap (λ (x : Reviewed). x .answer) q in absurd (omega arith)
     go (tooBig s d u e h k q) = let l = ap (λ (x : Reviewed). x .answer) q in absurd (omega arith)
-    go (counts s d u e h k q) = let i : d ≡ c = cc in ap (λ (x : Reviewed). x .count) q ∙ ap₂ countOf i (same s u)
+    go (counts s d u e h k q) =
+        let i : d ≡ c = cc in
+        let j = ap₂ countOf i (same s u) in
+        (ap (λ (x : Reviewed). x .count) q ∙ j, omega arith, omega arith)

@@ -182,9 +182,9 @@ row-words m p v e i =
     (rw zero-add at (follows-row p m v [] (r .0 .way) (r .0 .bound) (size v) (sound p m v [] (r .0) (r .1)) (le-refl (size v))))
 
 -- All rows of the search.
-pub rows-words : (cap : ℕ) (m : Matcher) (p : Pattern) (v : Value) → Fine cap m v
-    → length (rowsOf (trace (start m p v ∷ []))) ≤ factor cap p m * (variableTags p * size v)
+pub rows-words : (cap : ℕ) (m : Matcher) (p : Pattern) (v : Value) → Fine cap 0 m v
+    → length (rowsOf (trace (start m p v ∷ []))) ≤ factor cap 0 p m * (variableTags p * size v)
 unfolding rowsOf
 rows-words cap m p v s = rw (founds-start m p v)
     (le-trans (length-flatMap-le row (variableTags p * size v) (map (λ (t : Solution). t .bound) (solve p m v [])) (row-words m p v))
-    (simp length-map (mul-le-mul-right (variableTags p * size v) (rows-bound cap p m v [] s))))
+    (simp length-map (mul-le-mul-right (variableTags p * size v) (rows-bound cap 0 p m v [] s))))

@@ -2,4 +2,5 @@
 pub mod Costs
 pub mod Counted
 pub mod Pile
+pub mod Turns
 pub mod Sums

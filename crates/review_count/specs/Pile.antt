@@ -1,23 +1,22 @@
--- The products that are kept, in an array up to a depth.
+-- What waits, in two arrays up to a depth.
 use Prim.Native.Nat.{ℕ, zero, suc, _+_, _-_}
-use mathlib.Core.Bool.{cond}
 use mathlib.Core.List.{List, [], _∷_}
-use lib.ListN.{getD, set}
-use Rattle.review_count.specs.Tally.{opens, closes}
+use lib.ListN.{getD}
+use Rattle.review_count.specs.Tally.{Laid, aside}
+use Rattle.review_count.specs.declared.count.Turn.{Turn}
+use Rattle.review_count.specs.declared.count.Turn.the-variants.{Stay, Rest, Anew, Same, Take}
 
-unfoldable pub stackOf : (array : List ℕ) (depth : ℕ) → List ℕ
-stackOf a zero = []
-stackOf a (suc d) = getD a d 0 ∷ stackOf a d
+unfoldable pub waitingAt : (kept takens : List ℕ) (depth : ℕ) → List Laid
+waitingAt k t zero = []
+waitingAt k t (suc d) = aside (getD k d 0) (getD t d 0) ∷ waitingAt k t d
 
--- How deep when the line `op` has taken its product, and when it has kept its own.
-unfoldable pub lowerBy : (op depth : ℕ) → ℕ
-unfolding closes
-lowerBy o d = cond (closes o) (d - 1) d
+unfoldable pub topIn : (array : List ℕ) (depth : ℕ) → ℕ
+topIn a zero = 0
+topIn a (suc d) = getD a d 0
 
-unfoldable pub depthBy : (op depth : ℕ) → ℕ
-unfolding opens lowerBy
-depthBy o d = cond (opens o) (lowerBy o d + 1) (lowerBy o d)
-
-unfoldable pub keptIn : (op earlier depth : ℕ) (array : List ℕ) → List ℕ
-unfolding opens lowerBy
-keptIn o e d a = cond (opens o) (set a (lowerBy o d) e) a
+unfoldable pub depthBy : Turn → (depth : ℕ) → ℕ
+depthBy Stay d = d
+depthBy Rest d = d + 1
+depthBy Anew d = d + 1
+depthBy Same d = d + 1
+depthBy Take d = d - 1

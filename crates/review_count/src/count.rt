@@ -1,15 +1,24 @@
 // Review's count, from the lines of a rule's program.
 use words::ENTRIES;
 ghost use mathlib.Core.Path.{_≡_};
-ghost use Prim.Native.Nat.{_≤_, _<_, _+_};
-ghost use mathlib.Core.List.{[]};
+ghost use Prim.Native.Nat.{_≤_, _<_, _+_, _-_};
 ghost use Rattle.words.specs.Words.{entries};
-ghost use Rattle.review_count.specs.Tally.{stepOf, factorOf, nextOf, reservedAfter, opens, closes, topOf, sumFrom, within};
-ghost use Rattle.review_count.specs.Pile.{stackOf, lowerBy, depthBy, keptIn};
+ghost use Rattle.review_count.specs.Tally.{stepOf, factorOf, nextOf, reservedAfter, turnOf, laidOf, takenOf, lastOf, wholeSum, within};
+ghost use Rattle.review_count.specs.Pile.{topIn, depthBy};
 
 pub enum Tally {
     Count(u64),
     TooBig,
+}
+
+// What a line does with what waits: nothing; it lays aside the rest of a cons, a part that begins anew, or one on the same collection; or the next part
+// is the one that was laid aside last.
+pub enum Turn {
+    Stay,
+    Rest,
+    Anew,
+    Same,
+    Take,
 }
 
 // What a line adds to the count.
@@ -23,28 +32,36 @@ fn step(o: u8, earlier: u64) -> u64
     }
 }
 
-// The factor of a line.
-fn factor(o: u8, cap: u64) -> u64
+// The cap less what is taken, never below 0.
+fn left(taken: u16, cap: u64) -> u64
+    ensures { λ r. ⌜ r ≡ cap - taken ⌝ }
+{
+    let t = taken as u64;
+    if t < cap { cap - t } else { 0 }
+}
+
+// The factor of a line, so many conses being taken from the collection there.
+fn factor(o: u8, taken: u16, cap: u64) -> u64
     requires { ⌜ cap ≤ 64 ⌝ }
-    ensures { λ r. ⌜ r ≡ factorOf cap o ⌝ }
+    ensures { λ r. ⌜ r ≡ factorOf cap taken o ⌝ }
 {
     match o {
-        9 => cap,
+        9 => left(taken, cap),
         10 => cap + 1,
         _ => 1,
     }
 }
 
-// The product of the factors before the next line, `last` being the product kept last.
-fn product(o: u8, earlier: u64, last: u64, cap: u64) -> u64
+// The product of the factors before the next line, `last` being the product that was laid aside with what was taken last.
+fn product(o: u8, earlier: u64, taken: u16, last: u64, cap: u64) -> u64
     requires { ⌜ cap ≤ 64 ⌝ ∗ ⌜ earlier + last ≤ 281474976710656 ⌝ }
-    ensures { λ r. ⌜ r ≡ nextOf cap o earlier last ⌝ }
+    ensures { λ r. ⌜ r ≡ nextOf cap o earlier taken last ⌝ }
 {
     match o {
         17 => last,
         18 => last,
         19 => last + earlier,
-        _ => earlier * factor(o, cap),
+        _ => earlier * factor(o, taken, cap),
     }
 }
 
@@ -59,34 +76,39 @@ fn reserved_after(o: u8) -> u8
     }
 }
 
-// Whether the product before a line is kept.
-fn opens(o: u8) -> bool
-    ensures { λ r. ⌜ r ≡ opens o ⌝ }
+// What a line does with what waits.
+fn turn_of(o: u8) -> Turn
+    ensures { λ r. ⌜ r ≡ turnOf o ⌝ }
 {
     match o {
-        15 => true,
-        16 => true,
-        18 => true,
-        _ => false,
+        0..=1 => Turn::Stay,
+        2..=7 => Turn::Take,
+        8..=9 => Turn::Rest,
+        10..=13 => Turn::Anew,
+        17 => Turn::Take,
+        19 => Turn::Take,
+        _ => Turn::Same,
     }
 }
 
-// Whether the product that is kept last is kept no longer.
-fn closes(o: u8) -> bool
-    ensures { λ r. ⌜ r ≡ closes o ⌝ }
+// How many conses are taken from the collection of the part that is laid aside.
+fn laid(t: Turn, taken: u16) -> u16
+    requires { ⌜ taken < entries ⌝ }
+    ensures { λ r. ⌜ r ≡ laidOf t taken ⌝ }
 {
-    match o {
-        17 => true,
-        18 => true,
-        19 => true,
-        _ => false,
+    match t {
+        Turn::Stay => 0,
+        Turn::Rest => taken + 1,
+        Turn::Anew => 0,
+        Turn::Same => taken,
+        Turn::Take => 0,
     }
 }
 
-// The product that is kept last.
+// The product that was laid aside last.
 fn top(depth: usize, kept: &[u64; ENTRIES]) -> u64
     requires { ⌜ depth < entries ⌝ }
-    ensures { λ r. ⌜ r ≡ topOf (stackOf (now (kept .entry)) depth) ⌝ }
+    ensures { λ r. ⌜ r ≡ topIn (now (kept .entry)) depth ⌝ }
 {
     if depth == 0 {
         return 0;
@@ -94,39 +116,72 @@ fn top(depth: usize, kept: &[u64; ENTRIES]) -> u64
     kept[depth - 1]
 }
 
-// How many products are kept when a line has taken its own.
-fn lowered(o: u8, depth: usize) -> usize
-    ensures { λ r. ⌜ r ≡ lowerBy o depth ⌝ }
-{
-    if closes(o) {
-        if depth == 0 { 0 } else { depth - 1 }
-    } else {
-        depth
-    }
-}
-
-// The products that are kept after a line: how many.
-fn keep(o: u8, earlier: u64, depth: usize, kept: &mut [u64; ENTRIES]) -> usize
+// The number that was laid aside last.
+fn top_taken(depth: usize, takens: &[u16; ENTRIES]) -> u16
     requires { ⌜ depth < entries ⌝ }
-    ensures { λ r. ⌜ r ≡ depthBy o depth ⌝ ∗ ⌜ now (kept .exit) ≡ keptIn o earlier depth (now (kept .entry)) ⌝ }
+    ensures { λ r. ⌜ r ≡ topIn (now (takens .entry)) depth ⌝ }
 {
-    let d = lowered(o, depth);
-    if opens(o) {
-        kept[d] = earlier;
-        return d + 1;
+    if depth == 0 {
+        return 0;
     }
-    d
+    takens[depth - 1]
 }
 
-// The count for a largest collection of `cap` elements. The sum never falls, so the first sum that is too big decides.
+// The product that was laid aside with what the next line takes up.
+fn last_after(t: Turn, depth: usize, kept: &[u64; ENTRIES]) -> u64
+    requires { ⌜ depth < entries ⌝ }
+    ensures { λ r. ⌜ r ≡ lastOf t (topIn (now (kept .entry)) depth) ⌝ }
+{
+    match t {
+        Turn::Stay => 0,
+        Turn::Rest => 0,
+        Turn::Anew => 0,
+        Turn::Same => 0,
+        Turn::Take => top(depth, kept),
+    }
+}
+
+// How many conses are taken from the collection at the next line.
+fn taken_after(t: Turn, taken: u16, depth: usize, takens: &[u16; ENTRIES]) -> u16
+    requires { ⌜ depth < entries ⌝ }
+    ensures { λ r. ⌜ r ≡ takenOf t taken (topIn (now (takens .entry)) depth) ⌝ }
+{
+    match t {
+        Turn::Stay => taken,
+        Turn::Rest => 0,
+        Turn::Anew => 0,
+        Turn::Same => taken,
+        Turn::Take => top_taken(depth, takens),
+    }
+}
+
+// How much waits after a line.
+fn depth_after(t: Turn, depth: usize) -> usize
+    requires { ⌜ depth < entries ⌝ }
+    ensures { λ r. ⌜ r ≡ depthBy t depth ⌝ }
+{
+    match t {
+        Turn::Stay => depth,
+        Turn::Rest => depth + 1,
+        Turn::Anew => depth + 1,
+        Turn::Same => depth + 1,
+        Turn::Take => { if depth == 0 { 0 } else { depth - 1 } }
+    }
+}
+
+// The count for a largest collection of `cap` elements. The sum never falls, so the first sum that is too big decides. `kept` and `takens` are what waits:
+// the product before the line that laid it aside, and how many conses are taken from its collection.
 pub fn tallied(op: &[u8; ENTRIES], cap: u64) -> Tally
     requires { ⌜ cap ≤ 64 ⌝ }
-    ensures { λ r. ⌜ r ≡ within (sumFrom cap (now (op .entry)) 1 [] 0 0 entries) ⌝ }
+    ensures { λ r. ⌜ r ≡ within (wholeSum cap (now (op .entry))) ⌝ }
 {
     let mut kept = [0u64; ENTRIES];
+    let mut takens = [0u16; ENTRIES];
     let mut depth: usize = 0;
     let mut total: u64 = 0;
     let mut earlier: u64 = 1;
+    let mut last: u64 = 0;
+    let mut taken: u16 = 0;
     let mut skip: u8 = 0;
     let mut pc: usize = 0;
     while pc < ENTRIES {
@@ -134,6 +189,9 @@ pub fn tallied(op: &[u8; ENTRIES], cap: u64) -> Tally
         pc += 1;
         if 0 < skip {
             skip -= 1;
+            kept[depth] = 0;
+            takens[depth] = 0;
+            depth += 1;
         } else {
             total += step(o, earlier);
             if 4294967295 < total {
@@ -142,9 +200,13 @@ pub fn tallied(op: &[u8; ENTRIES], cap: u64) -> Tally
             if o == 0 {
                 return Tally::Count(total);
             }
-            let last = top(depth, &kept);
-            depth = keep(o, earlier, depth, &mut kept);
-            earlier = product(o, earlier, last, cap);
+            let t = turn_of(o);
+            kept[depth] = earlier;
+            takens[depth] = laid(t, taken);
+            earlier = product(o, earlier, taken, last, cap);
+            last = last_after(t, depth, &kept);
+            taken = taken_after(t, taken, depth, &takens);
+            depth = depth_after(t, depth);
             skip = reserved_after(o);
         }
     }

@@ -20,5 +20,6 @@ pub mod WorkedSums
 pub mod WorkedChoices
 pub mod WorkedAlways
 pub mod WorkedCauses
+pub mod WorkedCounts
 pub mod WorkedClauses
 pub mod Refusals

@@ -66,9 +66,9 @@ table =
     ∷ matching multisetInteger R units 21 3 ⇒ (8 ∷ 0 ∷ 1 ∷ 21 ∷ 2 ∷ 0 ∷ []) writing two
     ∷ matching multisetInteger R units 20 3 ⇒ (7 ∷ 0 ∷ 1 ∷ 20 ∷ 2 ∷ 0 ∷ []) writing two
     ∷ reviewing multisetInteger R (pos 0) ⇒ (0 ∷ 0 ∷ 1 ∷ []) writing []  -- P13
-    ∷ reviewing multisetInteger R (pos 3) ⇒ (0 ∷ 0 ∷ 46 ∷ []) writing []
-    ∷ reviewing multisetInteger R (pos 64) ⇒ (0 ∷ 0 ∷ 16577 ∷ []) writing []
-    ∷ reviewing multisetInteger four (pos 64) ⇒ (0 ∷ 0 ∷ 84684993 ∷ []) writing []
+    ∷ reviewing multisetInteger R (pos 3) ⇒ (0 ∷ 0 ∷ 34 ∷ []) writing []
+    ∷ reviewing multisetInteger R (pos 64) ⇒ (0 ∷ 0 ∷ 16321 ∷ []) writing []
+    ∷ reviewing multisetInteger four (pos 64) ⇒ (0 ∷ 0 ∷ 77007361 ∷ []) writing []
     ∷ reviewing multisetInteger five (pos 64) ⇒ (10 ∷ 0 ∷ 0 ∷ []) writing []
     ∷ []
 

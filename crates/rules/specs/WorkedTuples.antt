@@ -36,7 +36,7 @@ table =
     ∷ matching (nums (4 ∷ 2 ∷ 1 ∷ 1 ∷ [])) (nums (1 ∷ 0 ∷ [])) (unit 7 9) 1000 64 ⇒ (0 ∷ 0 ∷ 1 ∷ 3 ∷ 6 ∷ 0 ∷ []) writing unit 7 9  -- two steps for a variable
     ∷ matching multisetUnits (nums (5 ∷ 1 ∷ 0 ∷ 5 ∷ 3 ∷ 0 ∷ 0 ∷ 0 ∷ [])) (nums (1 ∷ 2 ∷ []) ++ unit 3 3 ++ unit 3 3) 1000 64 ⇒ (0 ∷ 0 ∷ 2 ∷ 15 ∷ 12 ∷ 0 ∷ [])
     writing (unit 3 3 ++ unit 3 3)  -- tuples equal part by part
-    ∷ reviewing multisetUnits neighbours (pos 3) ⇒ (0 ∷ 0 ∷ 73 ∷ []) writing []
+    ∷ reviewing multisetUnits neighbours (pos 3) ⇒ (0 ∷ 0 ∷ 55 ∷ []) writing []
     ∷ []
 
 -- THE CLAIM: each line's numbers and words are what the definitions compute.

@@ -4,7 +4,7 @@ use native.Mathlib.Omega.{arith}
 use native.Mathlib.Decide.{decLe}
 use mathlib.Core.Path.{_≡_, refl, sym, ap, _∙_}
 use mathlib.Core.Bool.{Bool, true, false, cond}
-use mathlib.Core.List.{List, []}
+use mathlib.Core.List.{List}
 use lib.Dec.{ltb, leb}
 use lib.ListN.{length, replicate}
 use lib.IntN.{ℤ, pos, negsuc}
@@ -26,7 +26,7 @@ use Rattle.review_count.specs.Plain.{plain-is}
 use Rattle.tests.specs.Judgements.{judgement}
 use Rattle.tests.specs.declared.Judgement.{Judgement}
 use Rattle.tests.specs.declared.Judgement.the-variants.{Accepted, Refused}
-use Rattle.review_count.specs.Tally.{sumFrom, within}
+use Rattle.review_count.specs.Tally.{wholeSum, within}
 use Rattle.services.specs.Reviews.{Sound, sound, countedBy, reviewed}
 use Rattle.review_count.specs.declared.count.Tally.{Tally}
 use Rattle.review_count.specs.declared.count.Tally.the-variants.{Count, TooBig}
@@ -54,17 +54,17 @@ abbrev done : ℕ → paper.Reviewed
 done n = record { answer = 0; place = 0; count = n }
 
 by-limit : ℤ → List ℕ → Bool → paper.Reviewed
-by-limit cap ops b = cond b (declined 9 0) (counted (sumFrom (tagZ cap) ops 1 [] 0 0 entries))
+by-limit cap ops b = cond b (declined 9 0) (counted (wholeSum (tagZ cap) ops))
 
 pub cap-outside : (cap : ℤ) (m : ℕ) (ops : List ℕ) → m ≡ tagZ cap → 64 < m → declined 9 0 ≡ countedBy cap ops
 unfolding by-limit countedBy
 cap-outside cap m ops e h = let k : 64 < tagZ cap = omega arith in sym (ap (by-limit cap ops) (lt-ltb 64 (tagZ cap) k))
 
-inside : (cap : ℤ) (m : ℕ) (ops : List ℕ) → m ≡ tagZ cap → m ≤ 64 → counted (sumFrom m ops 1 [] 0 0 entries) ≡ countedBy cap ops
+inside : (cap : ℤ) (m : ℕ) (ops : List ℕ) → m ≡ tagZ cap → m ≤ 64 → counted (wholeSum m ops) ≡ countedBy cap ops
 unfolding by-limit countedBy
 inside cap m ops e h =
     let k : tagZ cap ≤ 64 = omega arith in
-    ap (λ n. counted (sumFrom n ops 1 [] 0 0 entries)) e ∙ sym (ap (by-limit cap ops) (le-ltb 64 (tagZ cap) k))
+    ap (λ n. counted (wholeSum n ops)) e ∙ sym (ap (by-limit cap ops) (le-ltb 64 (tagZ cap) k))
 
 count-told : (f n : ℕ) → Count n ≡ within f → done n ≡ counted f
 unfolding within counted
@@ -85,15 +85,15 @@ big-told f e = go (ltb f (2 ^ 32)) e
     go false e = refl
 
 -- w is m as a wide number, and x what the count is found to be.
-pub count-given : (cap : ℤ) (m w : ℕ) (ops : List ℕ) (x : Tally) (n : ℕ) → m ≡ tagZ cap → m ≤ 64 → w ≡ m → x ≡ within (sumFrom w ops 1 [] 0 0 entries) → x ≡ Count n
+pub count-given : (cap : ℤ) (m w : ℕ) (ops : List ℕ) (x : Tally) (n : ℕ) → m ≡ tagZ cap → m ≤ 64 → w ≡ m → x ≡ within (wholeSum w ops) → x ≡ Count n
     → done n ≡ countedBy cap ops
 count-given cap m w ops x n e h k q c =
-    count-told (sumFrom m ops 1 [] 0 0 entries) n (sym c ∙ q ∙ ap (λ i. within (sumFrom i ops 1 [] 0 0 entries)) k) ∙ inside cap m ops e h
+    count-told (wholeSum m ops) n (sym c ∙ q ∙ ap (λ i. within (wholeSum i ops)) k) ∙ inside cap m ops e h
 
-pub too-big-given : (cap : ℤ) (m w : ℕ) (ops : List ℕ) (x : Tally) → m ≡ tagZ cap → m ≤ 64 → w ≡ m → x ≡ within (sumFrom w ops 1 [] 0 0 entries) → x ≡ TooBig
+pub too-big-given : (cap : ℤ) (m w : ℕ) (ops : List ℕ) (x : Tally) → m ≡ tagZ cap → m ≤ 64 → w ≡ m → x ≡ within (wholeSum w ops) → x ≡ TooBig
     → declined 10 0 ≡ countedBy cap ops
 too-big-given cap m w ops x e h k q c =
-    big-told (sumFrom m ops 1 [] 0 0 entries) (sym c ∙ q ∙ ap (λ i. within (sumFrom i ops 1 [] 0 0 entries)) k) ∙ inside cap m ops e h
+    big-told (wholeSum m ops) (sym c ∙ q ∙ ap (λ i. within (wholeSum i ops)) k) ∙ inside cap m ops e h
 
 -- ---- Test 11, over the lines that the compiler leaves.
 
@@ -101,7 +101,7 @@ by-cap : (r : Rule) (n : ℕ) → Bool → paper.Reviewed
 by-cap r n b = elim b [ true ↦ counted (formula n (r .pattern) (r .matcher)) | false ↦ declined 9 0 ]
 
 -- Where the sum is the formula, tests 9 and 10 are those of the rule.
-capped-by : (cap : ℤ) (r : Rule) (ops : List ℕ) → ((m : ℕ) → sumFrom m ops 1 [] 0 0 entries ≡ formula m (r .pattern) (r .matcher)) → countedBy cap ops ≡ capped cap r
+capped-by : (cap : ℤ) (r : Rule) (ops : List ℕ) → ((m : ℕ) → wholeSum m ops ≡ formula m (r .pattern) (r .matcher)) → countedBy cap ops ≡ capped cap r
 unfolding countedBy capped by-cap
 capped-by (negsuc n) r ops f = refl
 capped-by (pos n) r ops f = go (decLe n 64)

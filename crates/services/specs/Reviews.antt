@@ -6,8 +6,8 @@ use lib.Dec.{ltb}
 use lib.IntN.{ℤ}
 use Rattle.rules.specs.Services.{Judged, accepted, Rule}
 use Rattle.rules.specs.Services as paper
-use Rattle.words.specs.Words.{tagZ, entries}
-use Rattle.review_count.specs.Tally.{sumFrom}
+use Rattle.words.specs.Words.{tagZ}
+use Rattle.review_count.specs.Tally.{wholeSum}
 use Rattle.services.specs.declared.review.Reviewed.{Reviewed}
 
 -- Document 01's three numbers.
@@ -20,5 +20,5 @@ pub data Sound : Judged Rule → Type 0 where
 
 -- Tests 9 and 10: the count is the sum over the lines of a rule's program.
 unfoldable pub countedBy : ℤ → (ops : List ℕ) → paper.Reviewed
-unfolding paper.declined paper.counted sumFrom
-countedBy cap ops = cond (ltb 64 (tagZ cap)) (paper.declined 9 0) (paper.counted (sumFrom (tagZ cap) ops 1 [] 0 0 entries))
+unfolding paper.declined paper.counted wholeSum
+countedBy cap ops = cond (ltb 64 (tagZ cap)) (paper.declined 9 0) (paper.counted (wholeSum (tagZ cap) ops))

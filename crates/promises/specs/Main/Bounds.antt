@@ -1,4 +1,4 @@
--- Document 01, section 6: review's formula bounds every run, and with it as budget and room enough match answers 0.
+-- Document 01, section 6, with document 02, No. 12: review's formula bounds every run, and with it as budget and room enough match answers 0.
 use Prim.Native.Nat.{ℕ, _*_, _≤_}
 use mathlib.Core.Path.{_≡_, sym}
 use mathlib.Core.Bool.{true}
@@ -33,12 +33,12 @@ module _ (ms ps ts : List ℤ) (budget : ℕ) (room : List ℤ) (r : Rule) (v : 
   pub steps-at-most : (match ms ps ts budget room) .steps ≤ countOf cap r
   steps-at-most = steps-bounded ms ps ts budget room r v (sane-exactly ms ps ts r v .0 (rule, target)) cap small
 
-  pub rows-at-most : (match ms ps ts budget room) .rows ≤ factor cap (r .pattern) (r .matcher)
+  pub rows-at-most : (match ms ps ts budget room) .rows ≤ factor cap 0 (r .pattern) (r .matcher)
   rows-at-most = rows-bounded ms ps ts budget room r v (sane-exactly ms ps ts r v .0 (rule, target)) cap small
 
   -- ---- Room enough: with the count as budget, and (product of factors) × (variables) × (target words) words of room, match answers 0.
 
-  pub enough : countOf cap r ≤ budget → factor cap (r .pattern) (r .matcher) * variableTags (r .pattern) * length ts ≤ length room
+  pub enough : countOf cap r ≤ budget → factor cap 0 (r .pattern) (r .matcher) * variableTags (r .pattern) * length ts ≤ length room
       → (match ms ps ts budget room) .answer ≡ 0
   enough = room-enough ms ps ts budget room r v (sane-exactly ms ps ts r v .0 (rule, target)) cap small
 
@@ -48,5 +48,5 @@ module _ (ms ps ts : List ℤ) (budget : ℕ) (room : List ℤ) (r : Rule) (v : 
   steps-reviewed a = subst (λ n. (match ms ps ts budget room) .steps ≤ n) (sym (count-is-formula ms ps cap r rule a)) steps-at-most
 
   pub enough-reviewed : (review ms ps (pos cap)) .answer ≡ 0 → (review ms ps (pos cap)) .count ≤ budget
-      → factor cap (r .pattern) (r .matcher) * variableTags (r .pattern) * length ts ≤ length room → (match ms ps ts budget room) .answer ≡ 0
+      → factor cap 0 (r .pattern) (r .matcher) * variableTags (r .pattern) * length ts ≤ length room → (match ms ps ts budget room) .answer ≡ 0
   enough-reviewed a b = enough (subst (λ n. n ≤ budget) (count-is-formula ms ps cap r rule a) b)

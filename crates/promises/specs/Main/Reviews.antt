@@ -39,7 +39,7 @@ always-true-exactly = answer-11
 
 pub count-is-formula : (ms ps : List ℤ) (cap : ℕ) (r : Rule) → ruleOf ms ps ≡ accepted r → (review ms ps (pos cap)) .answer ≡ 0
     → (review ms ps (pos cap)) .count ≡ countOf cap r
-count-is-formula ms ps cap r e a = count-is ms ps cap r (rule-accepted ms ps r .0 e) a
+count-is-formula ms ps cap r e a = count-is ms ps cap r (rule-accepted ms ps r .0 e) a .0
 
 -- For a rule that is not always true and a cap from 0 to 64 review gives the formula, wherever it is at most 4,294,967,295.
 pub formula-given : (ms ps : List ℤ) (cap : ℕ) (r : Rule) → ruleOf ms ps ≡ accepted r → alwaysTrue (r .pattern) ≡ false → cap ≤ 64

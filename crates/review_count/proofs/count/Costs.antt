@@ -1,10 +1,10 @@
--- Review's formula along a program: what a line adds to the count, and which products are kept after it. Assumes nothing.
+-- Review's formula along a program: what a line adds to the count, and what waits after it. Assumes nothing.
 use Prim.Native.Nat.{ℕ, zero, suc, _+_, _-_, _*_, _≤_, _<_}
 use native.Mathlib.Omega.{arith}
 use native.Mathlib.Nat.{mul-one, mul-assoc, mul-add}
 use native.Mathlib.Numerals.{add-one}
 use native.Mathlib.Decide.{ℕ-discrete}
-use mathlib.Core.Path.{_≡_, refl, sym, ap, _∙_}
+use mathlib.Core.Path.{_≡_, refl, sym, ap, _∙_, subst}
 use mathlib.Core.Bool.{Bool, true, false, cond}
 use mathlib.Core.List.{List, [], _∷_, _++_}
 use borrow.Author.Tests.{ne-eqb}
@@ -19,26 +19,29 @@ use Rattle.program_rules.specs.Points.{loose-wildcard, loose-variable, Instr, s
 use Rattle.program_rules.specs.Points.{Item, item, orElse, endOr, stop, Point, point, elsePlace, endPlace, cutting, finish, reserve, beyond, beside, reserved, firstOf, othersOf, items, parted}
 use Rattle.program_rules.specs.Points.{Follows, strips, drops, binds, tests, splits, aparts, keeps, chooses, denies, cuts, elses, closes, reserves, ends, after-end}
 use Rattle.program_rules.specs.Program.{followOf}
-use Rattle.review_count.specs.Tally.{stepOf, factorOf, nextOf, reservedAfter, topOf, restOf, keptOf, sumFrom}
+use Rattle.review_count.specs.Tally.{stepOf, factorOf, nextOf, reservedAfter, Laid, aside, topProduct, topTaken, restOf, turnOf, laidOf, takenOf, lastOf, waitingOf}
+use Rattle.review_count.specs.Tally.{Along, along, onward, reserving, sumFrom}
 
--- The count of what is still to do after the product e, the end included; ss are the products that are kept.
-unfoldable pub countLater : (most : ℕ) → List Item → (e : ℕ) (ss : List ℕ) → ℕ
-unfolding summed factor topOf restOf
-countLater most [] e ss = e
-countLater most (item p m c ∷ ts) e ss = summed most p m e + countLater most ts (e * factor most p m) ss
-countLater most (orElse q m ∷ ts) e ss = summed most q m (topOf ss) + countLater most ts (e + topOf ss * factor most q m) (restOf ss)
-countLater most (endOr ∷ ts) e ss = countLater most ts (topOf ss + e) (restOf ss)
-countLater most (stop j ∷ ts) e ss = e + countLater most ts (topOf ss) (restOf ss)
+-- The count of what is still to do after the product e, the end included; w is what waits, an entry for each item.
+unfoldable pub countLater : (most : ℕ) → List Item → (e : ℕ) (w : List Laid) → ℕ
+unfolding summed factor topProduct topTaken restOf
+countLater most [] e w = e
+countLater most (item p m c ∷ ts) e w = summed most (topTaken w) p m e + countLater most ts (e * factor most (topTaken w) p m) (restOf w)
+countLater most (orElse q m ∷ ts) e w =
+    summed most (topTaken w) q m (topProduct w) + countLater most ts (e + topProduct w * factor most (topTaken w) q m) (restOf w)
+countLater most (endOr ∷ ts) e w = countLater most ts (topProduct w + e) (restOf w)
+countLater most (stop j ∷ ts) e w = e + countLater most ts (topProduct w) (restOf w)
 
-unfoldable pub countAt : (most : ℕ) → Point → (e : ℕ) (ss : List ℕ) → ℕ
-unfolding summed factor countLater
-countAt most (point ms p m k ts) e ss = summed most p m e + countLater most ts (e * factor most p m) ss
-countAt most (elsePlace ms q m ts) e ss = countLater most (orElse q m ∷ ts) e ss
-countAt most (endPlace ms ts) e ss = countLater most (endOr ∷ ts) e ss
-countAt most (cutting ms j ts) e ss = countLater most (stop j ∷ ts) e ss
-countAt most (finish ms) e ss = e
-countAt most (reserve P) e ss = countAt most P e ss
-countAt most beyond e ss = e
+-- At a marker the entry on top is the one that was taken up last.
+unfoldable pub countAt : (most : ℕ) → Point → Along → ℕ
+unfolding summed factor countLater reserving
+countAt most (point ms p m k ts) s = summed most (s .taken) p m (s .earlier) + countLater most ts (s .earlier * factor most (s .taken) p m) (s .waiting)
+countAt most (elsePlace ms q m ts) s = countLater most (orElse q m ∷ ts) (s .earlier) (aside (s .last) (s .taken) ∷ s .waiting)
+countAt most (endPlace ms ts) s = countLater most (endOr ∷ ts) (s .earlier) (aside (s .last) (s .taken) ∷ s .waiting)
+countAt most (cutting ms j ts) s = countLater most (stop j ∷ ts) (s .earlier) (aside (s .last) (s .taken) ∷ s .waiting)
+countAt most (finish ms) s = s .earlier
+countAt most (reserve P) s = countAt most P (reserving s)
+countAt most beyond s = s .earlier
 
 -- So many places are reserved before the next one where a state stands.
 pub data Reserves : ℕ → Point → Type 0 where
@@ -71,13 +74,15 @@ numberBy (deny f t) = 16
 numberBy (cutAt j) = 17
 numberBy (end n) = 0
 
-count-beside : (most : ℕ) (ms : List Matcher) (ts : List Item) (e : ℕ) (ss : List ℕ) → countAt most (beside ms ts) e ss ≡ countLater most ts e ss
-unfolding countAt beside countLater
-count-beside most ms [] e ss = refl
-count-beside most ms (item p m c ∷ ts) e ss = refl
-count-beside most ms (orElse q m ∷ ts) e ss = refl
-count-beside most ms (endOr ∷ ts) e ss = refl
-count-beside most ms (stop j ∷ ts) e ss = refl
+-- Where a line has taken up the entry on top.
+count-beside : (most : ℕ) (ms : List Matcher) (ts : List Item) (e : ℕ) (w : List Laid)
+    → countAt most (beside ms ts) (along e (topTaken w) (topProduct w) (restOf w)) ≡ countLater most ts e w
+unfolding countAt beside countLater topTaken topProduct restOf
+count-beside most ms [] e w = refl
+count-beside most ms (item p m c ∷ ts) e w = refl
+count-beside most ms (orElse q m ∷ ts) e w = refl
+count-beside most ms (endOr ∷ ts) e w = refl
+count-beside most ms (stop j ∷ ts) e w = refl
 
 none-beside : (ms : List Matcher) (ts : List Item) → Reserves 0 (beside ms ts)
 unfolding beside
@@ -87,43 +92,52 @@ none-beside ms (orElse q m ∷ ts) = none-else
 none-beside ms (endOr ∷ ts) = none-close
 none-beside ms (stop j ∷ ts) = none-cut
 
-count-reserved : (most n : ℕ) (P : Point) (e : ℕ) (ss : List ℕ) → countAt most (reserved n P) e ss ≡ countAt most P e ss
-unfolding countAt reserved
-count-reserved most zero P e ss = refl
-count-reserved most (suc n) P e ss = count-reserved most n P e ss
+-- What waits after so many places that are reserved.
+unfoldable zeros : ℕ → List Laid → List Laid
+zeros zero w = w
+zeros (suc n) w = zeros n (aside 0 0 ∷ w)
+
+count-reserved : (most n : ℕ) (P : Point) (e t l : ℕ) (w : List Laid)
+    → countAt most (reserved n P) (along e t l w) ≡ countAt most P (along e t l (zeros n w))
+unfolding countAt reserved zeros reserving
+count-reserved most zero P e t l w = refl
+count-reserved most (suc n) P e t l w = count-reserved most n P e t l (aside 0 0 ∷ w)
 
 reserved-so : (n : ℕ) {P : Point} → Reserves 0 P → Reserves n (reserved n P)
 unfolding reserved
 reserved-so zero h = h
 reserved-so (suc n) h = one-more (reserved-so n h)
 
+-- So many entries from which nothing is taken, on top of w.
+data Anew : ℕ → List Laid → List Laid → Type 0 where
+  anew-none : {w : List Laid} → Anew 0 w w
+  anew-more : {n x : ℕ} {v w : List Laid} → Anew n v w → Anew (suc n) (aside x 0 ∷ v) w
+
+anew-zeros : (n k : ℕ) {v w : List Laid} → Anew k v w → Anew (n + k) (zeros n v) w
+unfolding zeros
+anew-zeros zero k {v} {w} h = let e : k ≡ 0 + k = omega arith in subst (λ i. Anew i v w) e h
+anew-zeros (suc n) k {v} {w} h =
+    let e : n + suc k ≡ suc n + k = omega arith in subst (λ i. Anew i (zeros n (aside 0 0 ∷ v)) w) e (anew-zeros n (suc k) (anew-more h))
+
 -- The parts of a tuple, as many as the matchers.
-count-parts : (most : ℕ) (ps : Patterns) (ks : Matchers) (c : ℕ) (ts : List Item) (e : ℕ) (ss : List ℕ) → countᵖ ps ≡ countᵐ ks
-    → countLater most (items ps ks c ts) e ss ≡ summedAll most ps ks e + countLater most ts (e * factorAll most ps ks) ss
-unfolding countLater summedAll factorAll items firstOf othersOf countᵖ countᵐ
-count-parts most noPatterns ks c ts e ss h = ap (λ x. countLater most ts x ss) (sym (mul-one e)) ∙ omega arith
-count-parts most (p ▸ᵖ ps) noMatchers c ts e ss h = absurd (omega arith)
-count-parts most (p ▸ᵖ ps) (k ▸ᵐ ks) c ts e ss h =
-    let a = count-parts most ps ks (suc c) ts (e * factor most p k) ss (omega arith) in
-    let b = ap (λ x. countLater most ts x ss) (mul-assoc e (factor most p k) (factorAll most ps ks)) in
+count-parts : (most : ℕ) (ps : Patterns) (ks : Matchers) (c : ℕ) (ts : List Item) (e : ℕ) {v w : List Laid} → countᵖ ps ≡ countᵐ ks → Anew (countᵖ ps) v w
+    → countLater most (items ps ks c ts) e v ≡ summedAll most ps ks e + countLater most ts (e * factorAll most ps ks) w
+unfolding countLater summedAll factorAll items firstOf othersOf countᵖ countᵐ topTaken restOf
+count-parts most noPatterns ks c ts e {w = w} h anew-none = ap (λ x. countLater most ts x w) (sym (mul-one e)) ∙ omega arith
+count-parts most (p ▸ᵖ ps) noMatchers c ts e h n = absurd (omega arith)
+count-parts most (p ▸ᵖ ps) (k ▸ᵐ ks) c ts e {w = w} h (anew-more n) =
+    let a = count-parts most ps ks (suc c) ts (e * factor most 0 p k) (omega arith) n in
+    let b = ap (λ x. countLater most ts x w) (mul-assoc e (factor most 0 p k) (factorAll most ps ks)) in
     omega arith
 
 -- ---- What the numbers of the lines say.
 
-unfoldable pub Plain : ℕ → ℕ → Type 0
-unfolding stepOf nextOf keptOf reservedAfter
-Plain most o = (e : ℕ) (s : ℕ) (ss : List ℕ) → (stepOf o e ≡ e) × (nextOf most o e s ≡ e) × (keptOf o e ss ≡ ss) × (reservedAfter o ≡ 0)
-
-value-plain : (most : ℕ) (b : Bool) → Plain most (cond b 5 6)
-unfolding Plain stepOf nextOf factorOf keptOf reservedAfter
-value-plain most true e s ss = (refl, mul-one e, refl, refl)
-value-plain most false e s ss = (refl, mul-one e, refl, refl)
-
-test-plain : (most : ℕ) (t : Test) (f to : ℕ) → Plain most (numberBy (test t f to))
-unfolding Plain stepOf nextOf factorOf keptOf reservedAfter numberBy
-test-plain most (asConstant c) f to e s ss = (refl, mul-one e, refl, refl)
-test-plain most (asValue m x c) f to e s ss = value-plain most (isInteger m) e s ss
-test-plain most (asNil m) f to e s ss = (refl, mul-one e, refl, refl)
+-- A value, which is a test: a step, and what waits on top is taken up.
+value-plain : (most : ℕ) (b : Bool) (e t l : ℕ) (w : List Laid)
+    → (stepOf (cond b 5 6) e ≡ e) × (onward most (cond b 5 6) (along e t l w) ≡ along (e * 1) (topTaken w) (topProduct w) (restOf w)) × (reservedAfter (cond b 5 6) ≡ 0)
+unfolding stepOf onward nextOf factorOf turnOf takenOf lastOf waitingOf reservedAfter
+value-plain most true e t l w = (refl, refl, refl)
+value-plain most false e t l w = (refl, refl, refl)
 
 few : (n : ℕ) → n ≤ 2 → reservedAfter (11 + n) ≡ n
 unfolding reservedAfter
@@ -132,114 +146,116 @@ few (suc zero) h = refl
 few (suc (suc zero)) h = refl
 few (suc (suc (suc n))) h = absurd (omega arith)
 
-tuple-plain : (most n e s : ℕ) (ss : List ℕ) → n ≤ 2 → (stepOf (11 + n) e ≡ e) × (nextOf most (11 + n) e s ≡ e) × (keptOf (11 + n) e ss ≡ ss)
-unfolding stepOf nextOf factorOf keptOf
-tuple-plain most zero e s ss h = (refl, mul-one e, refl)
-tuple-plain most (suc zero) e s ss h = (refl, mul-one e, refl)
-tuple-plain most (suc (suc zero)) e s ss h = (refl, mul-one e, refl)
-tuple-plain most (suc (suc (suc n))) e s ss h = absurd (omega arith)
+tuple-plain : (most n e t l : ℕ) (w : List Laid) → n ≤ 2
+    → (stepOf (11 + n) e ≡ e) × (onward most (11 + n) (along e t l w) ≡ along (e * 1) 0 0 (aside e 0 ∷ w))
+unfolding stepOf onward nextOf factorOf turnOf takenOf lastOf waitingOf laidOf
+tuple-plain most zero e t l w h = (refl, refl)
+tuple-plain most (suc zero) e t l w h = (refl, refl)
+tuple-plain most (suc (suc zero)) e t l w h = (refl, refl)
+tuple-plain most (suc (suc (suc n))) e t l w h = absurd (omega arith)
 
 -- ---- A line adds its step, and its product stands before what follows.
 
 -- What the line of i makes of the count at P.
-abbrev Adds : (most pc : ℕ) → Instr → Point → ℕ → List ℕ → Type 0
-Adds most pc i P e ss = countAt most P e ss
-    ≡ stepOf (numberBy i) e + countAt most (followOf pc P) (nextOf most (numberBy i) e (topOf ss)) (keptOf (numberBy i) e ss)
+abbrev Adds : (most pc : ℕ) → Instr → Point → Along → Type 0
+Adds most pc i P s = countAt most P s ≡ stepOf (numberBy i) (s .earlier) + countAt most (followOf pc P) (onward most (numberBy i) s)
 
-leaf-adds : (most : ℕ) (ms : List Matcher) (ts : List Item) (e : ℕ) (ss : List ℕ) (n : ℕ) → n ≡ e
-    → n + countLater most ts (e * 1) ss ≡ e + countAt most (beside ms ts) (e * 1) ss
-leaf-adds most ms ts e ss n h = let a = count-beside most ms ts (e * 1) ss in omega arith
+leaf-adds : (most : ℕ) (ms : List Matcher) (ts : List Item) (e : ℕ) (w : List Laid) (n : ℕ) → n ≡ e
+    → n + countLater most ts (e * 1) w ≡ e + countAt most (beside ms ts) (along (e * 1) (topTaken w) (topProduct w) (restOf w))
+leaf-adds most ms ts e w n h = let a = count-beside most ms ts (e * 1) w in omega arith
 
 -- The first of two steps.
-strip-adds : (most : ℕ) (ts : List Item) (e : ℕ) (ss : List ℕ) → 2 * e + countLater most ts (e * 1) ss ≡ e + (1 * (e * 1) + countLater most ts (e * 1 * 1) ss)
-strip-adds most ts e ss = rw (mul-one (e * 1), mul-one e) (omega arith)
+strip-adds : (most : ℕ) (ts : List Item) (e : ℕ) (w : List Laid) → 2 * e + countLater most ts (e * 1) w ≡ e + (1 * (e * 1) + countLater most ts (e * 1 * 1) w)
+strip-adds most ts e w = rw (mul-one (e * 1), mul-one e) (omega arith)
 
--- A factor f of the tag itself, and then the first part and the second.
-two-parts : (most f : ℕ) (p q : Pattern) (m k : Matcher) (ts : List Item) (c e : ℕ) (ss : List ℕ)
-    → e + summed most p k (e * f) + summed most q m (e * f * factor most p k) + countLater most ts (e * (f * (factor most p k * factor most q m))) ss
-    ≡ e + (summed most p k (e * f) + countLater most (item q m c ∷ ts) (e * f * factor most p k) ss)
-unfolding countLater
-two-parts most f p q m k ts c e ss =
-    let a = ap (λ x. countLater most ts x ss) (sym (mul-assoc e f (factor most p k * factor most q m)) ∙ sym (mul-assoc (e * f) (factor most p k) (factor most q m))) in
+-- A factor f of the tag itself, and then the first part, from which nothing is taken, and the second, from which u are.
+two-parts : (most f u : ℕ) (p q : Pattern) (m k : Matcher) (ts : List Item) (c e : ℕ) (w : List Laid)
+    → e + summed most 0 p k (e * f) + summed most u q m (e * f * factor most 0 p k) + countLater most ts (e * (f * (factor most 0 p k * factor most u q m))) w
+    ≡ e + (summed most 0 p k (e * f) + countLater most (item q m c ∷ ts) (e * f * factor most 0 p k) (aside e u ∷ w))
+unfolding countLater topTaken restOf
+two-parts most f u p q m k ts c e w =
+    let a = ap (λ x. countLater most ts x w) (sym (mul-assoc e f (factor most 0 p k * factor most u q m)) ∙ sym (mul-assoc (e * f) (factor most 0 p k) (factor most u q m))) in
     omega arith
 
-and-parts : (most : ℕ) (p q : Pattern) (m : Matcher) (ts : List Item) (c e : ℕ) (ss : List ℕ)
-    → e + summed most p m e + summed most q m (e * factor most p m) + countLater most ts (e * (factor most p m * factor most q m)) ss
-    ≡ e + (summed most p m e + countLater most (item q m c ∷ ts) (e * factor most p m) ss)
-unfolding countLater
-and-parts most p q m ts c e ss =
-    let a = ap (λ x. countLater most ts x ss) (sym (mul-assoc e (factor most p m) (factor most q m))) in
-    omega arith
-
--- After the first side of an or, and after a search inside a not.
-or-sides : (most : ℕ) (p q : Pattern) (m : Matcher) (ts : List Item) (e : ℕ) (ss : List ℕ)
-    → e + summed most p m e + summed most q m e + countLater most ts (e * (factor most p m + factor most q m)) ss
-    ≡ e + (summed most p m (e * 1) + countLater most (orElse q m ∷ ts) (e * 1 * factor most p m) (e ∷ ss))
-unfolding countLater topOf restOf
-or-sides most p q m ts e ss =
-    let a = ap (λ x. countLater most ts x ss) (mul-add e (factor most p m) (factor most q m)) in
+and-parts : (most t : ℕ) (p q : Pattern) (m : Matcher) (ts : List Item) (c e : ℕ) (w : List Laid)
+    → e + summed most t p m e + summed most t q m (e * factor most t p m) + countLater most ts (e * (factor most t p m * factor most t q m)) w
+    ≡ e + (summed most t p m (e * 1) + countLater most (item q m c ∷ ts) (e * 1 * factor most t p m) (aside e t ∷ w))
+unfolding countLater topTaken restOf
+and-parts most t p q m ts c e w =
+    let a = ap (λ x. countLater most ts x w) (sym (mul-assoc e (factor most t p m) (factor most t q m))) in
     rw (mul-one e) (omega arith)
 
-not-inside : (most : ℕ) (p : Pattern) (m : Matcher) (ts : List Item) (j e : ℕ) (ss : List ℕ)
-    → e + (summed most p m e + e * factor most p m) + countLater most ts (e * 1) ss
-    ≡ e + (summed most p m (e * 1) + countLater most (stop j ∷ ts) (e * 1 * factor most p m) (e ∷ ss))
-unfolding countLater topOf restOf
-not-inside most p m ts j e ss = rw (mul-one e) (omega arith)
+-- After the first side of an or, and after a search inside a not.
+or-sides : (most t : ℕ) (p q : Pattern) (m : Matcher) (ts : List Item) (e : ℕ) (w : List Laid)
+    → e + summed most t p m e + summed most t q m e + countLater most ts (e * (factor most t p m + factor most t q m)) w
+    ≡ e + (summed most t p m (e * 1) + countLater most (orElse q m ∷ ts) (e * 1 * factor most t p m) (aside e t ∷ w))
+unfolding countLater topTaken topProduct restOf
+or-sides most t p q m ts e w =
+    let a = ap (λ x. countLater most ts x w) (mul-add e (factor most t p m) (factor most t q m)) in
+    rw (mul-one e) (omega arith)
+
+not-inside : (most t : ℕ) (p : Pattern) (m : Matcher) (ts : List Item) (j e : ℕ) (w : List Laid)
+    → e + (summed most t p m e + e * factor most t p m) + countLater most ts (e * 1) w
+    ≡ e + (summed most t p m (e * 1) + countLater most (stop j ∷ ts) (e * 1 * factor most t p m) (aside e t ∷ w))
+unfolding countLater topProduct restOf
+not-inside most t p m ts j e w = rw (mul-one e) (omega arith)
 
 -- Between the sides of an or.
-else-side : (most : ℕ) (q : Pattern) (m : Matcher) (ts : List Item) (e : ℕ) (ss : List ℕ)
-    → countLater most (orElse q m ∷ ts) e ss ≡ 0 + (summed most q m (topOf ss) + countLater most (endOr ∷ ts) (topOf ss * factor most q m) (e ∷ restOf ss))
-unfolding countLater topOf restOf
-else-side most q m ts e ss = omega arith
+else-side : (most t l : ℕ) (q : Pattern) (m : Matcher) (ts : List Item) (e : ℕ) (w : List Laid)
+    → countLater most (orElse q m ∷ ts) e (aside l t ∷ w) ≡ 0 + (summed most t q m l + countLater most (endOr ∷ ts) (l * factor most t q m) (aside e t ∷ w))
+unfolding countLater topTaken topProduct restOf
+else-side most t l q m ts e w = omega arith
 
-tuple-adds : (most pc : ℕ) (p q : Pattern) (ps : Patterns) (m k : Matcher) (ks : Matchers) (ms : List Matcher) (ts : List Item) (e : ℕ) (ss : List ℕ) → countᵖ ps ≡ countᵐ ks
-    → e + summedAll most (p ▸ᵖ q ▸ᵖ ps) (m ▸ᵐ k ▸ᵐ ks) e + countLater most ts (e * factorAll most (p ▸ᵖ q ▸ᵖ ps) (m ▸ᵐ k ▸ᵐ ks)) ss
-    ≡ e + countAt most (reserved (countᵖ ps) (point ms p m m (item q k pc ∷ items ps ks (suc pc) ts))) e ss
+tuple-adds : (most pc : ℕ) (p q : Pattern) (ps : Patterns) (m k : Matcher) (ks : Matchers) (ms : List Matcher) (ts : List Item) (e : ℕ) (w : List Laid) → countᵖ ps ≡ countᵐ ks
+    → e + summedAll most (p ▸ᵖ q ▸ᵖ ps) (m ▸ᵐ k ▸ᵐ ks) e + countLater most ts (e * factorAll most (p ▸ᵖ q ▸ᵖ ps) (m ▸ᵐ k ▸ᵐ ks)) w
+    ≡ e + countAt most (reserved (countᵖ ps) (point ms p m m (item q k pc ∷ items ps ks (suc pc) ts))) (along (e * 1) 0 0 (aside e 0 ∷ w))
 unfolding countAt countLater items firstOf othersOf countᵖ countᵐ summedAll factorAll
-tuple-adds most pc p q ps m k ks ms ts e ss h =
-    let a = count-reserved most (countᵖ ps) (point ms p m m (item q k pc ∷ items ps ks (suc pc) ts)) e ss in
-    let b = count-parts most (q ▸ᵖ ps) (k ▸ᵐ ks) pc ts (e * factor most p m) ss (omega arith) in
-    let c = ap (λ x. countLater most ts x ss) (mul-assoc e (factor most p m) (factorAll most (q ▸ᵖ ps) (k ▸ᵐ ks))) in
-    omega arith
+tuple-adds most pc p q ps m k ks ms ts e w h =
+    let a = count-reserved most (countᵖ ps) (point ms p m m (item q k pc ∷ items ps ks (suc pc) ts)) e 0 0 (aside e 0 ∷ w) in
+    let i : countᵖ ps + 1 ≡ suc (countᵖ ps) = omega arith in
+    let n = subst (λ x. Anew x (zeros (countᵖ ps) (aside e 0 ∷ w)) w) i (anew-zeros (countᵖ ps) 1 (anew-more anew-none)) in
+    let b = count-parts most (q ▸ᵖ ps) (k ▸ᵐ ks) pc ts (e * factor most 0 p m) (omega arith) n in
+    let c = ap (λ x. countLater most ts x w) (mul-assoc e (factor most 0 p m) (factorAll most (q ▸ᵖ ps) (k ▸ᵐ ks))) in
+    rw (mul-one e) (omega arith)
 
 module _ (most pc : ℕ) where
-  pub costs : {points : ℕ → Point} {i : Instr} {P : Point} (e : ℕ) (ss : List ℕ) → eqb (numberBy i) 0 ≡ false → Reserves 0 P → Follows points pc i P → Adds most pc i P e ss
-  unfolding Plain countAt followOf numberBy stepOf nextOf factorOf keptOf topOf restOf summed factor leafSteps consFactor element members whole over firstBy tested testBy isSomething parted items firstOf othersOf countᵖ
-  costs e ss x n (strips {m = m} {ts = ts} loose-wildcard h l) = rw (h, followOf) (strip-adds most ts e ss)
-  costs e ss x n (strips {m = m} {ts = ts} loose-variable h l) = rw (h, followOf) (strip-adds most ts e ss)
-  costs e ss x n (drops {ms = ms} {ts = ts} l h) = leaf-adds most ms ts e ss (1 * e) (omega arith)
-  costs e ss x n (binds {ms = ms} {m = m} {ts = ts} l h) = leaf-adds most (ms ++ (m ∷ [])) ts e ss (1 * e) (omega arith)
-  costs e ss x n (tests {ms = ms} {ts = ts} {to} (asConstant c) s l h) = leaf-adds most ms ts e ss e refl
-  costs e ss x n (tests {ms = ms} {ts = ts} {to} (asValue m v c) s l h) =
-      let a = value-plain most (isInteger m) e (topOf ss) ss in
-      let b = count-beside most ms ts e ss in
-      rw (a .0, a .1, a .2, mul-one e) (omega arith)
-  costs e ss x n (tests {ms = ms} {ts = ts} {to} (asNil m) s l h) = leaf-adds most ms ts e ss e refl
-  costs e ss x n (splits {ts = ts} (listCons m) p q h) = two-parts most 1 p q (list m) m ts pc e ss
-  costs e ss x n (splits {ts = ts} (multisetCons m) p q h) = two-parts most most p q (multiset m) m ts pc e ss
-  costs e ss x n (splits {ts = ts} (joins m) p q h) = rw (add-one most) (two-parts most (suc most) p q (list m) (list m) ts pc e ss)
-  costs e ss x n (aparts {ms = ms} {ts = ts} p q ps m k ks h l t) =
-      let a = tuple-plain most (countᵖ ps) e (topOf ss) ss l in
+  pub costs : {points : ℕ → Point} {i : Instr} {P : Point} (e t l : ℕ) (w : List Laid) → eqb (numberBy i) 0 ≡ false → Reserves 0 P → Follows points pc i P
+      → Adds most pc i P (along e t l w)
+  unfolding countAt followOf numberBy stepOf onward nextOf factorOf turnOf laidOf takenOf lastOf waitingOf topTaken topProduct restOf summed factor leafSteps consFactor element members whole over firstBy tested testBy isSomething parted items firstOf othersOf countᵖ
+  costs e t l w x n (strips {m = m} {ts = ts} loose-wildcard h b) = rw (h, followOf) (strip-adds most ts e w)
+  costs e t l w x n (strips {m = m} {ts = ts} loose-variable h b) = rw (h, followOf) (strip-adds most ts e w)
+  costs e t l w x n (drops {ms = ms} {ts = ts} b h) = leaf-adds most ms ts e w (1 * e) (omega arith)
+  costs e t l w x n (binds {ms = ms} {m = m} {ts = ts} b h) = leaf-adds most (ms ++ (m ∷ [])) ts e w (1 * e) (omega arith)
+  costs e t l w x n (tests {ms = ms} {ts = ts} {to} (asConstant c) s b h) = leaf-adds most ms ts e w e refl
+  costs e t l w x n (tests {ms = ms} {ts = ts} {to} (asValue m v c) s b h) =
+      let a = value-plain most (isInteger m) e t l w in
+      rw (a .0, a .1) (leaf-adds most ms ts e w e refl)
+  costs e t l w x n (tests {ms = ms} {ts = ts} {to} (asNil m) s b h) = leaf-adds most ms ts e w e refl
+  costs e t l w x n (splits {ts = ts} (listCons m) p q h) = rw (add-one t) (two-parts most 1 (suc t) p q (list m) m ts pc e w)
+  costs e t l w x n (splits {ts = ts} (multisetCons m) p q h) = rw (add-one t) (two-parts most (most - t) (suc t) p q (multiset m) m ts pc e w)
+  costs e t l w x n (splits {ts = ts} (joins m) p q h) = rw (add-one most) (two-parts most (suc most) 0 p q (list m) (list m) ts pc e w)
+  costs e t l w x n (aparts {ms = ms} {ts = ts} p q ps m k ks h b d) =
+      let a = tuple-plain most (countᵖ ps) e t l w b in
       let z : suc (suc (countᵖ ps)) - 2 ≡ countᵖ ps = omega arith in
-      rw (a .0, a .1, a .2, z) (tuple-adds most pc p q ps m k ks ms ts e ss h)
-  costs e ss x n (keeps {m = m} {ts = ts} p q h) = rw (mul-one e) (and-parts most p q m ts pc e ss)
-  costs e ss x n (chooses {m = m} {ts = ts} p q l h g) = or-sides most p q m ts e ss
-  costs e ss x n (denies {m = m} {ts = ts} p l h g) = not-inside most p m ts pc e ss
-  costs e ss x n (cuts {ms = ms} {ts = ts}) = let a = count-beside most ms ts (topOf ss) (restOf ss) in omega arith
-  costs e ss x n (elses {q = q} {m = m} {ts = ts}) = else-side most q m ts e ss
-  costs e ss x n (closes {ms = ms} {ts = ts}) = let a = count-beside most ms ts (topOf ss + e) (restOf ss) in omega arith
-  costs e ss x n ends = let z : _≡_ {A = ℕ} 0 1 = cc in absurd (omega arith)
-  costs e ss x n after-end = let z : _≡_ {A = ℕ} 0 1 = cc in absurd (omega arith)
+      rw (a .0, a .1, z) (tuple-adds most pc p q ps m k ks ms ts e w h)
+  costs e t l w x n (keeps {m = m} {ts = ts} p q h) = and-parts most t p q m ts pc e w
+  costs e t l w x n (chooses {m = m} {ts = ts} p q b h g) = or-sides most t p q m ts e w
+  costs e t l w x n (denies {m = m} {ts = ts} p b h g) = not-inside most t p m ts pc e w
+  costs e t l w x n (cuts {ms = ms} {ts = ts}) = let a = count-beside most ms ts l w in omega arith
+  costs e t l w x n (elses {q = q} {m = m} {ts = ts}) = else-side most t l q m ts e w
+  costs e t l w x n (closes {ms = ms} {ts = ts}) = let a = count-beside most ms ts (l + e) w in omega arith
+  costs e t l w x n ends = let z : _≡_ {A = ℕ} 0 1 = cc in absurd (omega arith)
+  costs e t l w x n after-end = let z : _≡_ {A = ℕ} 0 1 = cc in absurd (omega arith)
 
   pub reserves-after : {points : ℕ → Point} {i : Instr} {P : Point} → eqb (numberBy i) 0 ≡ false → Reserves 0 P → Follows points pc i P
       → Reserves (reservedAfter (numberBy i)) (followOf pc P)
-  unfolding followOf numberBy reservedAfter element members whole over firstBy tested testBy isSomething parted firstOf othersOf countᵖ Plain
+  unfolding followOf numberBy reservedAfter element members whole over firstBy tested testBy isSomething parted firstOf othersOf countᵖ
   reserves-after x n (strips loose-wildcard h l) = rw (h, followOf) none-point
   reserves-after x n (strips loose-variable h l) = rw (h, followOf) none-point
   reserves-after x n (drops {ms = ms} {ts = ts} l h) = none-beside ms ts
   reserves-after x n (binds {ms = ms} {m = m} {ts = ts} l h) = none-beside (ms ++ (m ∷ [])) ts
   reserves-after x n (tests {ms = ms} {ts = ts} (asConstant c) s l h) = none-beside ms ts
-  reserves-after x n (tests {ms = ms} {ts = ts} (asValue m v c) s l h) = rw (value-plain most (isInteger m) 0 0 [] .3) (none-beside ms ts)
+  reserves-after x n (tests {ms = ms} {ts = ts} (asValue m v c) s l h) = rw (value-plain most (isInteger m) 0 0 0 [] .2) (none-beside ms ts)
   reserves-after x n (tests {ms = ms} {ts = ts} (asNil m) s l h) = none-beside ms ts
   reserves-after x n (splits (listCons m) p q h) = none-point
   reserves-after x n (splits (multisetCons m) p q h) = none-point
@@ -256,43 +272,43 @@ module _ (most pc : ℕ) where
 
   -- A place that is reserved adds nothing.
   pub passed : {points : ℕ → Point} {i : Instr} {P : Point} {n : ℕ} → Reserves (suc n) P → Follows points pc i P
-      → (eqb (numberBy i) 0 ≡ false) × Reserves n (followOf pc P) × ((e : ℕ) (ss : List ℕ) → countAt most P e ss ≡ countAt most (followOf pc P) e ss)
+      → (eqb (numberBy i) 0 ≡ false) × Reserves n (followOf pc P) × ((s : Along) → countAt most P s ≡ countAt most (followOf pc P) (reserving s))
   unfolding countAt followOf numberBy
-  passed (one-more h) reserves = (refl, h, λ e ss. refl)
+  passed (one-more h) reserves = (refl, h, λ s. refl)
 
   -- At the end the product of all factors is left.
-  pub last : {points : ℕ → Point} {i : Instr} {P : Point} (e : ℕ) (ss : List ℕ) → numberBy i ≡ 0 → Follows points pc i P → countAt most P e ss ≡ e
+  pub last : {points : ℕ → Point} {i : Instr} {P : Point} (s : Along) → numberBy i ≡ 0 → Follows points pc i P → countAt most P s ≡ s .earlier
   unfolding countAt numberBy
-  last e ss x (strips l h t) = absurd (omega arith)
-  last e ss x (drops l h) = absurd (omega arith)
-  last e ss x (binds l h) = absurd (omega arith)
-  last e ss x (tests (asConstant c) s l h) = absurd (omega arith)
-  last e ss x (tests (asValue m v c) s l h) = absurd (some-test (isInteger m) x)
+  last a x (strips l h t) = absurd (omega arith)
+  last a x (drops l h) = absurd (omega arith)
+  last a x (binds l h) = absurd (omega arith)
+  last a x (tests (asConstant c) s l h) = absurd (omega arith)
+  last a x (tests (asValue m v c) s l h) = absurd (some-test (isInteger m) x)
     where
       some-test : (b : Bool) → _≡_ {A = ℕ} (cond b 5 6) 0 → ⊥
       some-test true e = omega arith
       some-test false e = omega arith
-  last e ss x (tests (asNil m) s l h) = absurd (omega arith)
-  last e ss x (splits (listCons m) p q h) = absurd (omega arith)
-  last e ss x (splits (multisetCons m) p q h) = absurd (omega arith)
-  last e ss x (splits (joins m) p q h) = absurd (omega arith)
-  last e ss x (aparts p q ps m k ks h l t) = absurd (omega arith)
-  last e ss x (keeps p q h) = absurd (omega arith)
-  last e ss x (chooses p q l h g) = absurd (omega arith)
-  last e ss x (denies p l h g) = absurd (omega arith)
-  last e ss x cuts = absurd (omega arith)
-  last e ss x elses = absurd (omega arith)
-  last e ss x closes = absurd (omega arith)
-  last e ss x reserves = absurd (omega arith)
-  last e ss x ends = refl
-  last e ss x after-end = refl
+  last a x (tests (asNil m) s l h) = absurd (omega arith)
+  last a x (splits (listCons m) p q h) = absurd (omega arith)
+  last a x (splits (multisetCons m) p q h) = absurd (omega arith)
+  last a x (splits (joins m) p q h) = absurd (omega arith)
+  last a x (aparts p q ps m k ks h l t) = absurd (omega arith)
+  last a x (keeps p q h) = absurd (omega arith)
+  last a x (chooses p q l h g) = absurd (omega arith)
+  last a x (denies p l h g) = absurd (omega arith)
+  last a x cuts = absurd (omega arith)
+  last a x elses = absurd (omega arith)
+  last a x closes = absurd (omega arith)
+  last a x reserves = absurd (omega arith)
+  last a x ends = refl
+  last a x after-end = refl
 
 -- The sum over lines that mean a program, up to its end, is the count of what is to do.
 module _ (most : ℕ) (ops : List ℕ) (code : ℕ → Instr) (points : ℕ → Point) (follows : (pc : ℕ) → Follows points pc (code pc) (points pc))
     (after : (pc : ℕ) → points (suc pc) ≡ followOf pc (points pc)) (N : ℕ) (stops : numberBy (code N) ≡ 0)
     (numbers : (pc : ℕ) → pc ≤ N → getD ops pc 0 ≡ numberBy (code pc)) where
-  abbrev Sums : ℕ → ℕ → ℕ → ℕ → List ℕ → Type 0
-  Sums left skip pc e ss = sumFrom most ops e ss skip pc left ≡ countAt most (points pc) e ss
+  abbrev Sums : ℕ → ℕ → ℕ → Along → Type 0
+  Sums left skip pc s = sumFrom most ops s skip pc left ≡ countAt most (points pc) s
 
   before-end : (pc : ℕ) → pc ≤ N → (numberBy (code pc) ≡ 0 → ⊥) → pc + 1 ≤ N
   before-end pc h q = other (λ z. q (ap (λ i. numberBy (code i)) z ∙ stops))
@@ -303,29 +319,29 @@ module _ (most : ℕ) (ops : List ℕ) (code : ℕ → Instr) (points : ℕ → 
   next : (pc : ℕ) → points (pc + 1) ≡ followOf pc (points pc)
   next pc = ap points (add-one pc) ∙ after pc
 
-  one-line : (left pc e : ℕ) (ss : List ℕ) (o : ℕ) → o ≡ numberBy (code pc) → pc ≤ N → Reserves 0 (points pc)
-      → (pc + 1 ≤ N → Reserves (reservedAfter o) (points (pc + 1)) → Sums left (reservedAfter o) (pc + 1) (nextOf most o e (topOf ss)) (keptOf o e ss))
-      → stepOf o e + cond (eqb o 0) 0 (sumFrom most ops (nextOf most o e (topOf ss)) (keptOf o e ss) (reservedAfter o) (pc + 1) left) ≡ countAt most (points pc) e ss
+  one-line : (left pc : ℕ) (s : Along) (o : ℕ) → o ≡ numberBy (code pc) → pc ≤ N → Reserves 0 (points pc)
+      → (pc + 1 ≤ N → Reserves (reservedAfter o) (points (pc + 1)) → Sums left (reservedAfter o) (pc + 1) (onward most o s))
+      → stepOf o (s .earlier) + cond (eqb o 0) 0 (sumFrom most ops (onward most o s) (reservedAfter o) (pc + 1) left) ≡ countAt most (points pc) s
   unfolding stepOf
-  one-line left pc e ss o x h n again = go (ℕ-discrete o 0)
+  one-line left pc s o x h n again = go (ℕ-discrete o 0)
     where
-      go : Dec (o ≡ 0) → stepOf o e + cond (eqb o 0) 0 (sumFrom most ops (nextOf most o e (topOf ss)) (keptOf o e ss) (reservedAfter o) (pc + 1) left) ≡ countAt most (points pc) e ss
-      go (yes q) = let l = last most pc e ss (sym x ∙ q) (follows pc) in rw q (omega arith)
+      go : Dec (o ≡ 0) → stepOf o (s .earlier) + cond (eqb o 0) 0 (sumFrom most ops (onward most o s) (reservedAfter o) (pc + 1) left) ≡ countAt most (points pc) s
+      go (yes q) = let l = last most pc s (sym x ∙ q) (follows pc) in rw q (omega arith)
       go (no q) =
           let ne : numberBy (code pc) ≡ 0 → ⊥ = λ z. q (x ∙ z) in
           let b : eqb (numberBy (code pc)) 0 ≡ false = ne-eqb (numberBy (code pc)) 0 ne in
           let r : Reserves (reservedAfter o) (points (pc + 1)) = rw (x, next pc) (reserves-after most pc b n (follows pc)) in
           let a = again (before-end pc h ne) r in
-          rw (ne-eqb o 0 q, a, next pc, x) (sym (costs most pc e ss b n (follows pc)))
+          rw (ne-eqb o 0 q, a, next pc, x) (sym (costs most pc (s .earlier) (s .taken) (s .last) (s .waiting) b n (follows pc)))
 
-  pub sum-is : (left skip pc e : ℕ) (ss : List ℕ) → pc ≤ N → N < pc + left → Reserves skip (points pc) → Sums left skip pc e ss
+  pub sum-is : (left skip pc : ℕ) (s : Along) → pc ≤ N → N < pc + left → Reserves skip (points pc) → Sums left skip pc s
   unfolding sumFrom
-  sum-is zero skip pc e ss h k n = absurd (omega arith)
-  sum-is (suc left) (suc skip) pc e ss h k n =
+  sum-is zero skip pc s h k n = absurd (omega arith)
+  sum-is (suc left) (suc skip) pc s h k n =
       let p = passed most pc n (follows pc) in
       let r : Reserves skip (points (pc + 1)) = rw (next pc) (p .1) in
       let ne : numberBy (code pc) ≡ 0 → ⊥ = λ z. let b = p .0 in let y : _≡_ {A = ℕ} 0 1 = cc (ap (λ i. eqb i 0) z) in omega arith in
-      sum-is left skip (pc + 1) e ss (before-end pc h ne) (omega arith) r ∙ rw (next pc) (sym (p .2 e ss))
-  sum-is (suc left) zero pc e ss h k n =
-      one-line left pc e ss (getD ops pc 0) (numbers pc h) h n
-      (λ lt r. sum-is left (reservedAfter (getD ops pc 0)) (pc + 1) (nextOf most (getD ops pc 0) e (topOf ss)) (keptOf (getD ops pc 0) e ss) lt (omega arith) r)
+      sum-is left skip (pc + 1) (reserving s) (before-end pc h ne) (omega arith) r ∙ rw (next pc) (sym (p .2 s))
+  sum-is (suc left) zero pc s h k n =
+      one-line left pc s (getD ops pc 0) (numbers pc h) h n
+      (λ lt r. sum-is left (reservedAfter (getD ops pc 0)) (pc + 1) (onward most (getD ops pc 0) s) lt (omega arith) r)

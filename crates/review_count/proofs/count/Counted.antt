@@ -20,7 +20,7 @@ use Rattle.program_rules.specs.Meaning.{means-keep, means-choice, means-deny, m
 use Rattle.program_rules.specs.Numbered.{Numbered, numbered-at}
 use Rattle.program_rules.specs.Accepted.{one-finish, follows}
 use Rattle.program_rules.specs.Columns.{lineIn, Holds}
-use Rattle.review_count.specs.Tally.{sumFrom}
+use Rattle.review_count.specs.Tally.{along, wholeSum}
 use Rattle.words.specs.Words.{entries}
 use Rattle.review_count.proofs.count.Costs.{numberBy, countAt, countLater, none-point, sum-is}
 
@@ -51,8 +51,8 @@ unfolding instrOf numberBy
 last-ends pc P n h = let f = one-finish P n h in rw (f .1)
 
 pub counted-is : (ms ps : List ℤ) (r : Rule) (vars : ℕ) (t : Columns) (to : List ℕ) (most : ℕ) → ruleOf ms ps ≡ accepted r → Holds ms r vars t to
-    → sumFrom most (t .op) 1 [] 0 0 entries ≡ formula most (r .pattern) (r .matcher)
-unfolding formula pointAt countAt countLater program lineIn
+    → wholeSum most (t .op) ≡ formula most (r .pattern) (r .matcher)
+unfolding wholeSum formula pointAt countAt countLater program lineIn
 counted-is ms ps r vars t to most a h =
     let w = rule-accepted ms ps r .0 a in
     let m = r .matcher in
@@ -61,5 +61,5 @@ counted-is ms ps r vars t to most a h =
     let b = h .last in
     sum-is most (t .op) (program m p) (pointAt m p) (follows ms ps r w) (λ pc. refl) N
     (last-ends N (pointAt m p N) (numbered-at m p 0 (w .numbered .0) (w .numbered .1) N) (in-range m p N ∙ omega arith))
-    (λ pc l. number-means (h .means pc l)) entries 0 0 1 [] (omega arith) (omega arith) none-point
-    ∙ ap (λ x. summed most p m 1 + x) (one-mul (factor most p m))
+    (λ pc l. number-means (h .means pc l)) entries 0 0 (along 1 0 0 []) (omega arith) (omega arith) none-point
+    ∙ ap (λ x. summed most 0 p m 1 + x) (one-mul (factor most 0 p m))

@@ -1,82 +1,119 @@
--- The products that are kept, in their array: what a line makes of them, and how large they are. Assumes nothing.
+-- What waits, in its arrays: what a line makes of it, and how large its numbers are. Assumes nothing.
 use Prim.Native.Nat.{ℕ, zero, suc, _+_, _-_, _*_, _≤_, _<_}
 use native.Mathlib.Omega.{arith}
 use native.Mathlib.Nat.{mul-le-mul-left}
 use native.Mathlib.Numerals.{add-one}
 use native.Mathlib.Decide.{ℕ-discrete}
-use mathlib.Core.Path.{_≡_, refl, ap, _∙_}
+use mathlib.Core.Path.{_≡_, refl}
 use mathlib.Core.Bool.{Bool, true, false, cond}
 use mathlib.Core.List.{List, [], _∷_}
 use borrow.Author.Tests.{ne-eqb}
 use lib.Dec.{eqb}
-use lib.ListN.{length, set, length-set}
+use lib.ListN.{length, set}
 use lib.Seq.{getD-set-same, getD-set-other}
-use Rattle.review_count.specs.Tally.{stepOf, factorOf, nextOf, opens, closes, topOf, restOf, keptOf}
-use Rattle.review_count.specs.Pile.{stackOf, lowerBy, depthBy, keptIn}
+use Rattle.review_count.specs.Tally.{stepOf, factorOf, nextOf, Laid, aside, topProduct, topTaken, restOf, turnOf, laidOf, takenOf, lastOf, waitingOf}
+use Rattle.review_count.specs.Pile.{waitingAt, topIn, depthBy}
+use Rattle.review_count.specs.declared.count.Turn.{Turn}
+use Rattle.review_count.specs.declared.count.Turn.the-variants.{Stay, Rest, Anew, Same, Take}
 
--- ---- The array.
+-- ---- The arrays.
+
+pub top-product : (k t : List ℕ) (d : ℕ) → topProduct (waitingAt k t d) ≡ topIn k d
+unfolding topProduct waitingAt topIn
+top-product k t zero = refl
+top-product k t (suc d) = refl
+
+pub top-taken : (k t : List ℕ) (d : ℕ) → topTaken (waitingAt k t d) ≡ topIn t d
+unfolding topTaken waitingAt topIn
+top-taken k t zero = refl
+top-taken k t (suc d) = refl
 
 -- A store at or above the top is not seen.
-stack-set : (a : List ℕ) (i v d : ℕ) → d ≤ i → stackOf (set a i v) d ≡ stackOf a d
-unfolding stackOf
-stack-set a i v zero h = refl
-stack-set a i v (suc d) h = rw (getD-set-other a i d v 0 (λ e. omega arith), stack-set a i v d (omega arith))
+pub top-above : (a : List ℕ) (d v : ℕ) → topIn (set a d v) d ≡ topIn a d
+unfolding topIn
+top-above a zero v = refl
+top-above a (suc d) v = getD-set-other a (suc d) d v 0 (λ e. omega arith)
 
-stack-push : (a : List ℕ) (d v : ℕ) → d < length a → stackOf (set a d v) (d + 1) ≡ v ∷ stackOf a d
-unfolding stackOf
-stack-push a d v h = rw (add-one d, getD-set-same a d v 0 h, stack-set a d v d (omega arith))
+above : (k t : List ℕ) (i v u d : ℕ) → d ≤ i → waitingAt (set k i v) (set t i u) d ≡ waitingAt k t d
+unfolding waitingAt
+above k t i v u zero h = refl
+above k t i v u (suc d) h =
+    rw (getD-set-other k i d v 0 (λ e. omega arith), getD-set-other t i d u 0 (λ e. omega arith), above k t i v u d (omega arith))
 
-stack-lower : (a : List ℕ) (c : Bool) (d : ℕ) → stackOf a (cond c (d - 1) d) ≡ cond c (restOf (stackOf a d)) (stackOf a d)
-unfolding stackOf restOf
-stack-lower a false d = refl
-stack-lower a true zero = refl
-stack-lower a true (suc d) = let e : suc d - 1 ≡ d = omega arith in rw e
+pub push : (k t : List ℕ) (d v u : ℕ) → d < length k → d < length t → waitingAt (set k d v) (set t d u) (d + 1) ≡ aside v u ∷ waitingAt k t d
+unfolding waitingAt
+push k t d v u h i = rw (add-one d, getD-set-same k d v 0 h, getD-set-same t d u 0 i, above k t d v u d (omega arith))
 
-lower-le : (c : Bool) (d : ℕ) → cond c (d - 1) d ≤ d
-lower-le true d = omega arith
-lower-le false d = omega arith
+pub waits-after : (r : Turn) (k t : List ℕ) (d v u : ℕ) → d < length k → d < length t
+    → waitingAt (set k d v) (set t d u) (depthBy r d) ≡ waitingOf r (aside v u) (waitingAt k t d)
+unfolding depthBy waitingOf restOf waitingAt
+waits-after Stay k t d v u h i = above k t d v u d (omega arith)
+waits-after Rest k t d v u h i = push k t d v u h i
+waits-after Anew k t d v u h i = push k t d v u h i
+waits-after Same k t d v u h i = push k t d v u h i
+waits-after Take k t zero v u h i = refl
+waits-after Take k t (suc d) v u h i = let e : suc d - 1 ≡ d = omega arith in rw e (above k t (suc d) v u d (omega arith))
 
-both : (a : List ℕ) (b c : Bool) (d v : ℕ) → d < length a
-    → stackOf (cond b (set a (cond c (d - 1) d) v) a) (cond b (cond c (d - 1) d + 1) (cond c (d - 1) d))
-    ≡ cond b (v ∷ cond c (restOf (stackOf a d)) (stackOf a d)) (cond c (restOf (stackOf a d)) (stackOf a d))
-both a true c d v h = let l = lower-le c d in stack-push a (cond c (d - 1) d) v (omega arith) ∙ ap (λ ss. v ∷ ss) (stack-lower a c d)
-both a false c d v h = stack-lower a c d
+pub depth-le : (r : Turn) (d : ℕ) → depthBy r d ≤ d + 1
+unfolding depthBy
+depth-le Stay d = omega arith
+depth-le Rest d = omega arith
+depth-le Anew d = omega arith
+depth-le Same d = omega arith
+depth-le Take d = omega arith
 
-pub stack-kept : (a : List ℕ) (o d v : ℕ) → d < length a → stackOf (keptIn o v d a) (depthBy o d) ≡ keptOf o v (stackOf a d)
-unfolding keptIn depthBy keptOf lowerBy
-stack-kept a o d v h = both a (opens o) (closes o) d v h
+-- ---- The numbers of conses taken grow by at most 1 with a line.
 
-long : (a : List ℕ) (b : Bool) (i v : ℕ) → length (cond b (set a i v) a) ≡ length a
-long a true i v = length-set a i v
-long a false i v = refl
+unfoldable pub UpTo : ℕ → List Laid → Type 0
+UpTo n [] = Unit {0}
+UpTo n (x ∷ w) = (x .taken ≤ n) × UpTo n w
 
-pub kept-long : (a : List ℕ) (o d v : ℕ) → length (keptIn o v d a) ≡ length a
-unfolding keptIn
-kept-long a o d v = long a (opens o) (lowerBy o d) v
+pub up-more : (n : ℕ) (w : List Laid) → UpTo n w → UpTo (n + 1) w
+unfolding UpTo
+up-more n [] h = tt
+up-more n (x ∷ w) h = (omega (arith, h .0), up-more n w (h .1))
 
-deep : (b : Bool) (l d : ℕ) → l ≤ d → cond b (l + 1) l ≤ d + 1
-deep true l d h = omega arith
-deep false l d h = omega arith
+up-rest : (n : ℕ) (w : List Laid) → UpTo n w → UpTo n (restOf w)
+unfolding UpTo restOf
+up-rest n [] h = tt
+up-rest n (x ∷ w) h = h .1
 
-pub depth-le : (o d : ℕ) → depthBy o d ≤ d + 1
-unfolding depthBy lowerBy
-depth-le o d = deep (opens o) (lowerBy o d) d (lower-le (closes o) d)
+up-top : (n : ℕ) (w : List Laid) → UpTo n w → topTaken w ≤ n
+unfolding UpTo topTaken
+up-top n [] h = omega arith
+up-top n (x ∷ w) h = h .0
 
--- ---- The products: all together they grow by at most 65 * 2^32 with a line, since a product that is multiplied or kept was added to the count.
+pub taken-le : (r : Turn) (n t : ℕ) (w : List Laid) → t ≤ n → UpTo n w → takenOf r t (topTaken w) ≤ n
+unfolding takenOf
+taken-le Stay n t w h u = h
+taken-le Rest n t w h u = omega arith
+taken-le Anew n t w h u = omega arith
+taken-le Same n t w h u = h
+taken-le Take n t w h u = up-top n w u
 
-unfoldable pub sumOf : List ℕ → ℕ
+pub waiting-le : (r : Turn) (n e t : ℕ) (w : List Laid) → t ≤ n → UpTo n w → UpTo (n + 1) (waitingOf r (aside e (laidOf r t)) w)
+unfolding waitingOf laidOf UpTo
+waiting-le Stay n e t w h u = up-more n w u
+waiting-le Rest n e t w h u = (omega arith, up-more n w u)
+waiting-le Anew n e t w h u = (omega arith, up-more n w u)
+waiting-le Same n e t w h u = (omega arith, up-more n w u)
+waiting-le Take n e t w h u = up-more n (restOf w) (up-rest n w u)
+
+-- ---- The products: all together they grow by at most 65 * 2^32 with a line, since a product that is multiplied or laid aside was added to the count.
+
+unfoldable pub sumOf : List Laid → ℕ
 sumOf [] = 0
-sumOf (s ∷ ss) = s + sumOf ss
+sumOf (x ∷ w) = x .product + sumOf w
 
-pub top-le : (ss : List ℕ) → topOf ss ≤ sumOf ss
-unfolding topOf sumOf
+pub top-le : (w : List Laid) → topProduct w ≤ sumOf w
+unfolding topProduct sumOf
 top-le [] = omega arith
-top-le (s ∷ ss) = omega arith
+top-le (x ∷ w) = omega arith
 
-top-rest : (ss : List ℕ) → topOf ss + sumOf (restOf ss) ≡ sumOf ss
-unfolding topOf restOf sumOf
+top-rest : (w : List Laid) → topProduct w + sumOf (restOf w) ≡ sumOf w
+unfolding topProduct restOf sumOf
 top-rest [] = refl
-top-rest (s ∷ ss) = refl
+top-rest (x ∷ w) = refl
 
 cond-le : (b : Bool) (x y n : ℕ) → x ≤ n → y ≤ n → cond b x y ≤ n
 cond-le true x y n p q = p
@@ -86,47 +123,46 @@ pub step-le : (o e : ℕ) → stepOf o e ≤ e
 unfolding stepOf
 step-le o e = cond-le (eqb o 18) 0 _ e (omega arith) (cond-le (eqb o 19) 0 e e (omega arith) (omega arith))
 
-pub factor-le : (most o : ℕ) → most ≤ 64 → factorOf most o ≤ 65
+pub factor-le : (most t o : ℕ) → most ≤ 64 → factorOf most t o ≤ 65
 unfolding factorOf
-factor-le most o h = cond-le (eqb o 9) most _ 65 (omega arith) (cond-le (eqb o 10) (most + 1) 1 65 (omega arith) (omega arith))
+factor-le most t o h = cond-le (eqb o 9) (most - t) _ 65 (omega arith) (cond-le (eqb o 10) (most + 1) 1 65 (omega arith) (omega arith))
 
-module _ (most e : ℕ) (ss : List ℕ) (h : most ≤ 64) where
+-- What is laid aside is the product before the line.
+kept-le : (r : Turn) (e u : ℕ) (w : List Laid) → lastOf r (topProduct w) + sumOf (waitingOf r (aside e u) w) ≤ e + sumOf w
+unfolding lastOf waitingOf sumOf
+kept-le Stay e u w = omega arith
+kept-le Rest e u w = omega arith
+kept-le Anew e u w = omega arith
+kept-le Same e u w = omega arith
+kept-le Take e u w = omega (arith, top-rest w)
+
+module _ (most e t l u : ℕ) (w : List Laid) (h : most ≤ 64) where
   abbrev Grows : ℕ → Type 0
-  Grows o = nextOf most o e (topOf ss) + sumOf (keptOf o e ss) ≤ e + sumOf ss + 279172874240
+  Grows o = nextOf most o e t l + (lastOf (turnOf o) (topProduct w) + sumOf (waitingOf (turnOf o) (aside e u) w)) ≤ e + (l + sumOf w) + 279172874240
 
-  other : (o : ℕ) → (o ≡ 15 → ⊥) → (o ≡ 16 → ⊥) → (o ≡ 17 → ⊥) → (o ≡ 18 → ⊥) → (o ≡ 19 → ⊥) → stepOf o e ≤ 4294967295 → Grows o
-  unfolding stepOf nextOf keptOf opens closes
-  other o a b c d f k =
-      let x = ne-eqb o 15 a in
-      let y = ne-eqb o 16 b in
-      let z = ne-eqb o 17 c in
-      let u = ne-eqb o 18 d in
-      let v = ne-eqb o 19 f in
-      let l : e ≤ 4294967295 = rw (u, v) at k in
-      let i = factor-le most o h in
-      let j : e * factorOf most o ≤ e * 65 = mul-le-mul-left e i in
-      rw (x, y, z, u, v) (omega arith)
+  other : (o : ℕ) → (o ≡ 17 → ⊥) → (o ≡ 18 → ⊥) → (o ≡ 19 → ⊥) → stepOf o e ≤ 4294967295 → Grows o
+  unfolding stepOf nextOf
+  other o a b c k =
+      let x = ne-eqb o 17 a in
+      let y = ne-eqb o 18 b in
+      let z = ne-eqb o 19 c in
+      let m : e ≤ 4294967295 = rw (y, z) at k in
+      let j : e * factorOf most t o ≤ e * 65 = mul-le-mul-left e (factor-le most t o h) in
+      let g = kept-le (turnOf o) e u w in
+      rw (x, y, z) (omega arith)
 
   pub grows : (o : ℕ) → stepOf o e ≤ 4294967295 → Grows o
-  unfolding stepOf nextOf factorOf keptOf opens closes sumOf
-  grows o k = by15 (ℕ-discrete o 15)
+  unfolding nextOf turnOf lastOf waitingOf
+  grows o k = by17 (ℕ-discrete o 17)
     where
-      by19 : (o ≡ 15 → ⊥) → (o ≡ 16 → ⊥) → (o ≡ 17 → ⊥) → (o ≡ 18 → ⊥) → Dec (o ≡ 19) → Grows o
-      by19 a b c d (yes q) = let t = top-rest ss in rw q (omega arith)
-      by19 a b c d (no f) = other o a b c d f k
+      by19 : (o ≡ 17 → ⊥) → (o ≡ 18 → ⊥) → Dec (o ≡ 19) → Grows o
+      by19 a b (yes q) = let g = top-rest w in rw q (omega arith)
+      by19 a b (no c) = other o a b c k
 
-      by18 : (o ≡ 15 → ⊥) → (o ≡ 16 → ⊥) → (o ≡ 17 → ⊥) → Dec (o ≡ 18) → Grows o
-      by18 a b c (yes q) = let t = top-rest ss in rw q (omega arith)
-      by18 a b c (no d) = by19 a b c d (ℕ-discrete o 19)
+      by18 : (o ≡ 17 → ⊥) → Dec (o ≡ 18) → Grows o
+      by18 a (yes q) = let g = kept-le (turnOf 18) e u w in rw q (omega arith)
+      by18 a (no b) = by19 a b (ℕ-discrete o 19)
 
-      by17 : (o ≡ 15 → ⊥) → (o ≡ 16 → ⊥) → Dec (o ≡ 17) → Grows o
-      by17 a b (yes q) = let t = top-rest ss in rw q (omega arith)
-      by17 a b (no c) = by18 a b c (ℕ-discrete o 18)
-
-      by16 : (o ≡ 15 → ⊥) → Dec (o ≡ 16) → Grows o
-      by16 a (yes q) = let l : e ≤ 4294967295 = rw q at k in rw q (omega arith)
-      by16 a (no b) = by17 a b (ℕ-discrete o 17)
-
-      by15 : Dec (o ≡ 15) → Grows o
-      by15 (yes q) = let l : e ≤ 4294967295 = rw q at k in rw q (omega arith)
-      by15 (no a) = by16 a (ℕ-discrete o 16)
+      by17 : Dec (o ≡ 17) → Grows o
+      by17 (yes q) = let g = kept-le (turnOf 17) e u w in rw q (omega arith)
+      by17 (no a) = by18 a (ℕ-discrete o 18)

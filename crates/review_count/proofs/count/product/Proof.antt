@@ -18,7 +18,7 @@ unfolding nextOf
 returns-3 c = rw (c .match .keys3)
 
 returns-4 : tie.Need-returns-4
-returns-4 c = let r = c .before .match .rest in next-factor _ _ _ _ _ (r .0 .0 .1) (r .0 .1) (r .1) (c .factor .ensures)
+returns-4 c = let r = c .before .match .rest in next-factor _ _ _ _ _ _ (r .0 .0 .1) (r .0 .1) (r .1) (c .factor .ensures)
 
 pub product-spec : {M : Type 1} → statement M
 product-spec = tie.close (tie.spec (λ c. search needs) (λ c κs. search needs) (λ c. search (factor-fits, needs)) returns returns-2 returns-3 returns-4)

@@ -1,20 +1,30 @@
 -- `review_count::count::tallied` meets its contract. Assumes nothing.
 use Prim.Native.Nat.{_-_}
-use mathlib.Core.List.{[]}
 use Rattle.words.specs.Words.{entries}
-use Rattle.review_count.specs.Tally.{sumFrom}
+use Rattle.review_count.specs.Tally.{wholeSum}
 use Rattle.review_count.proofs.count.Sums.{Here, rules}
 use Rattle.review_count.proofs.count.tallied.Statement.{statement}
 use Rattle.review_count.proofs.count.tallied.Tie as tie
 
 abbrev Inv-loop : tie.InvT-loop
-Inv-loop op cap kept₀ depth₀ total₀ earlier₀ skip₀ pc₀ kept depth total earlier skip pc = Here (sumFrom cap op 1 [] 0 0 entries) cap op kept depth total earlier skip pc
+Inv-loop op cap kept₀ takens₀ depth₀ total₀ earlier₀ last₀ taken₀ skip₀ pc₀ kept takens depth total earlier last taken skip pc =
+    Here (wholeSum cap op) cap op kept takens depth total earlier last taken skip pc
 
 abbrev μ-loop : tie.MeasureT-loop
-μ-loop op cap kept₀ depth₀ total₀ earlier₀ skip₀ pc₀ kept depth total earlier skip pc = entries - pc
+μ-loop op cap kept₀ takens₀ depth₀ total₀ earlier₀ last₀ taken₀ skip₀ pc₀ kept takens depth total earlier last taken skip pc =
+    entries - pc
 
 pub tallied-spec : {M : Type 1} → statement M
-tallied-spec = tie.close (tie.spec Inv-loop μ-loop
+tallied-spec =
+    tie.close
+    (tie.spec
+    Inv-loop
+    μ-loop
+    (λ c. search rules)
+    (λ c. search rules)
+    (λ c. search rules)
+    (λ c. search rules)
+    (λ c. search rules)
     (λ c. search rules)
     (λ c. search rules)
     (λ c. search rules)
@@ -25,6 +35,13 @@ tallied-spec = tie.close (tie.spec Inv-loop μ-loop
     (λ c. search rules)
     (λ c. search rules)
     (λ c. search rules)
+    (λ c κs. search rules)
+    (λ c. search rules)
+    (λ c. search rules)
+    (λ c κs. search rules)
+    (λ c. search rules)
+    (λ c. search rules)
+    (λ c κs. search rules)
     (λ c κs. search rules)
     (λ c κs. search rules)
     (λ c κs. search rules)
