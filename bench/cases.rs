@@ -111,6 +111,13 @@ fn published_block(services: &Services, block: &[&str], count: &mut Count) {
     count.see("published", input.as_bytes(), &expected, &got);
 }
 
+/// A review file with what the services answer in place of what it expects.
+pub fn recounted(services: &Services, path: &str) -> Vec<u8> {
+    let bytes = std::fs::read(path).unwrap_or_else(|e| panic!("{path}: {e}"));
+    let each = |(input, _): (Vec<u8>, String)| [&input[..], b"=\n", review(services, &input).as_bytes(), b"--\n"].concat();
+    blocks(&bytes).into_iter().flat_map(each).collect()
+}
+
 pub fn file(services: &Services, path: &str, count: &mut Count) {
     let bytes = std::fs::read(path).unwrap_or_else(|e| panic!("{path}: {e}"));
     match Path::new(path).file_name().and_then(|name| name.to_str()) {

@@ -138,6 +138,14 @@ fn number(words: &[String], at: usize) -> u64 {
     words.get(at).and_then(|word| word.parse().ok()).unwrap_or_else(|| panic!("a number is missing: {words:?}"))
 }
 
+/// Writes what the plain program counts into review files.
+fn recount(paths: &[String]) -> bool {
+    for path in paths {
+        std::fs::write(path, cases::recounted(&REFERENCE, path)).unwrap();
+    }
+    true
+}
+
 fn main() {
     let words: Vec<String> = std::env::args().skip(1).collect();
     let good = match words.first().map(String::as_str) {
@@ -146,7 +154,8 @@ fn main() {
         Some("rules") => list_rules(),
         Some("speed") if words.len() == 4 => run_speed(&words[1], number(&words, 2), &words[3]),
         Some("stack") => run_stack(),
-        _ => panic!("bench cases FILE.. | compare N SEED | rules | speed CASE ROUNDS WHO | stack"),
+        Some("recount") => recount(&words[1..]),
+        _ => panic!("bench cases FILE.. | compare N SEED | rules | speed CASE ROUNDS WHO | stack | recount FILE.."),
     };
     std::process::exit(if good { 0 } else { 1 });
 }

@@ -492,30 +492,31 @@ impl std::ops::Mul for Capped {
     }
 }
 
-/// Section 6 on the tree: the count of a part without its closing product, and its factor.
-fn weight(p: &Pattern, m: &Matcher, cap: Capped) -> (Capped, Capped) {
+/// Section 6 on the tree: the count of a part without its closing product, and its factor. Its collection has at most `left` elements where a cons may take
+/// one, and `cap` before any was taken.
+fn weight(p: &Pattern, m: &Matcher, cap: u64, left: u64) -> (Capped, Capped) {
     let one = Capped(1);
-    let parts = |factor: Capped, parts: &[(&Pattern, &Matcher)]| {
-        let after = |(count, factor): (Capped, Capped), &(p, m): &(&Pattern, &Matcher)| {
-            let (inner, times) = weight(p, m, cap);
+    let parts = |factor: u64, parts: &[(&Pattern, &Matcher, u64)]| {
+        let after = |(count, factor): (Capped, Capped), &(p, m, left): &(&Pattern, &Matcher, u64)| {
+            let (inner, times) = weight(p, m, cap, left);
             (count + factor * inner, factor * times)
         };
-        parts.iter().fold((one, factor), after)
+        parts.iter().fold((one, Capped(factor.into())), after)
     };
     match (&p.form, m) {
         (Form::Wildcard, Matcher::Something) | (Form::Variable(_), Matcher::Something) => (one, one),
         (Form::Wildcard, _) | (Form::Variable(_), _) => (one + one, one),
-        (Form::Cons(a, b), Matcher::Multiset(inner)) => parts(cap, &[(a, inner), (b, m)]),
-        (Form::Cons(a, b), Matcher::List(inner)) => parts(one, &[(a, inner), (b, m)]),
-        (Form::Join(a, b), _) => parts(cap + one, &[(a, m), (b, m)]),
-        (Form::Tuple(ps), Matcher::Tuple(ms)) => parts(one, &ps.iter().zip(ms).collect::<Vec<_>>()),
-        (Form::And(a, b), _) => parts(one, &[(a, m), (b, m)]),
+        (Form::Cons(a, b), Matcher::Multiset(inner)) => parts(left, &[(a, inner, cap), (b, m, left.saturating_sub(1))]),
+        (Form::Cons(a, b), Matcher::List(inner)) => parts(1, &[(a, inner, cap), (b, m, cap)]),
+        (Form::Join(a, b), _) => parts(cap + 1, &[(a, m, cap), (b, m, cap)]),
+        (Form::Tuple(ps), Matcher::Tuple(ms)) => parts(1, &ps.iter().zip(ms).map(|(p, m)| (p, m, cap)).collect::<Vec<_>>()),
+        (Form::And(a, b), _) => parts(1, &[(a, m, left), (b, m, left)]),
         (Form::Or(a, b), _) => {
-            let ((first, f), (second, g)) = (weight(a, m, cap), weight(b, m, cap));
+            let ((first, f), (second, g)) = (weight(a, m, cap, left), weight(b, m, cap, left));
             (one + first + second, f + g)
         }
         (Form::Not(a), _) => {
-            let (count, factor) = weight(a, m, cap);
+            let (count, factor) = weight(a, m, cap, left);
             (one + count + factor, one)
         }
         _ => (one, one),
@@ -543,7 +544,7 @@ pub fn review(matcher: &[i32], pattern: &[i32], cap: i32) -> Reviewed {
     if !(0..=64).contains(&cap) {
         return [9, 0, 0];
     }
-    let (count, factor) = weight(&p, &m, Capped(cap as u128));
+    let (count, factor) = weight(&p, &m, cap as u64, cap as u64);
     match count + factor {
         Capped(whole) if whole <= u128::from(u32::MAX) => [0, 0, whole as u64],
         _ => [10, 0, 0],

@@ -779,7 +779,7 @@ pub fn match_words(matcher: &[i32], pattern: &[i32], target: &[i32], budget: u32
     })
 }
 
-/// Section 6's sum and product, as far as a walk of the pattern has come. Each is exact or at its largest number; so 0 times what is too large is 0.
+/// Section 6's sum and product with No. 12's factors, as far as a walk of the pattern has come. Each is exact or at its largest number; so 0 times what is too large is 0.
 struct Weighing<'a> {
     matcher: &'a [i32],
     matcher_ends: &'a MatcherEnds,
@@ -790,37 +790,41 @@ struct Weighing<'a> {
 }
 
 impl Weighing<'_> {
-    /// Weighs the part at `at` under the matcher at `m`; gives where the part ends.
-    fn part(&mut self, at: usize, m: usize) -> usize {
+    /// Weighs the part at `at` under the matcher at `m`, which stands in the rest of so many conses; gives where the part ends.
+    fn part(&mut self, at: usize, m: usize, taken: u64) -> usize {
         let (tag, under) = (self.pattern[at], self.matcher[m]);
         let steps = if tag <= VARIABLE && under != SOMETHING { 2 } else { 1 };
         self.sum = self.sum.saturating_add(self.product.saturating_mul(steps));
         let factor = match (tag, under) {
             (JOIN, _) => self.cap + 1,
-            (CONS, MULTISET) => self.cap,
+            (CONS, MULTISET) => self.cap.saturating_sub(taken),
             _ => 1,
         };
         self.product = self.product.saturating_mul(factor);
         match tag {
             CONS => {
-                let middle = self.part(at + 1, m + 1);
-                self.part(middle, m)
+                let middle = self.part(at + 1, m + 1, 0);
+                self.part(middle, m, taken + 1)
             }
-            JOIN | AND => {
-                let middle = self.part(at + 1, m);
-                self.part(middle, m)
+            JOIN => {
+                let middle = self.part(at + 1, m, 0);
+                self.part(middle, m, 0)
+            }
+            AND => {
+                let middle = self.part(at + 1, m, taken);
+                self.part(middle, m, taken)
             }
             OR => {
                 let earlier = self.product;
-                let middle = self.part(at + 1, m);
+                let middle = self.part(at + 1, m, taken);
                 let first = std::mem::replace(&mut self.product, earlier);
-                let end = self.part(middle, m);
+                let end = self.part(middle, m, taken);
                 self.product = self.product.saturating_add(first);
                 end
             }
             NOT => {
                 let earlier = self.product;
-                let end = self.part(at + 1, m);
+                let end = self.part(at + 1, m, taken);
                 self.sum = self.sum.saturating_add(self.product);
                 self.product = earlier;
                 end
@@ -828,7 +832,7 @@ impl Weighing<'_> {
             TUPLE => {
                 let (mut end, mut m) = (at + 2, m + 2);
                 for _ in 0..self.pattern[at + 1] {
-                    end = self.part(end, m);
+                    end = self.part(end, m, 0);
                     m = self.matcher_ends[m] as usize;
                 }
                 end
@@ -863,7 +867,7 @@ pub fn review(matcher: &[i32], pattern: &[i32], cap: i32) -> Reviewed {
     }
     let matcher_ends = &rule.matcher_ends;
     let mut weighing = Weighing { matcher, matcher_ends, pattern, cap: cap as u64, sum: 0, product: 1 };
-    weighing.part(0, 0);
+    weighing.part(0, 0, 0);
     let count = weighing.sum.saturating_add(weighing.product);
     if count > u32::MAX as u64 {
         return [10, 0, 0];
