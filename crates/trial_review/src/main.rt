@@ -1,0 +1,108 @@
+// Asks review about the rule on standard input and says the answer in words: line 1 is the matcher, line 2 the pattern, line 4 begins with the cap.
+use libc::STDIN_FILENO;
+use libc::STDOUT_FILENO;
+use services::review::review;
+use text_ask::question::Asked;
+use text_ask::question::read_input;
+use words::of_bits;
+ghost use mathlib.Core.Path.{_≡_};
+ghost use Prim.Native.Nat.{_<_, _≤_};
+ghost use lib.ListN.{length};
+
+fn say(text: &[u8]) {
+    io::write_all(STDOUT_FILENO, text);
+}
+
+// A text and the place of which it speaks.
+fn say_place(text: &[u8], place: usize) {
+    say(text);
+    io::print_decimal(STDOUT_FILENO, place as u64);
+    say(b"\n");
+}
+
+// A cap and the count for it, or what is said in its stead.
+fn say_cap(cap: u32, count: u64, text: &[u8]) {
+    say(b"cap ");
+    io::print_decimal(STDOUT_FILENO, cap as u64);
+    say(b": ");
+    if 0 < count {
+        say(b"at most ");
+        io::print_decimal(STDOUT_FILENO, count);
+    }
+    say(text);
+}
+
+// What an answer of review means.
+fn say_answer(cap: u32, answer: u32, place: usize, count: u64) {
+    match answer {
+        0 => say_cap(cap, count, b" steps\n"),
+        1 => say_place(
+            b"refused, answer 1: line 1 is not one whole matcher; see its place ",
+            place,
+        ),
+        2 => say_place(
+            b"refused, answer 2: line 2 is not one whole pattern; see its place ",
+            place,
+        ),
+        3 => say_place(
+            b"refused, answer 3: a variable out of order, or inside an or or a not; see line 2, place ",
+            place,
+        ),
+        4 => say_place(
+            b"refused, answer 4: the pattern does not fit the matcher; see line 2, place ",
+            place,
+        ),
+        9 => say_cap(
+            cap,
+            0,
+            b"refused, answer 9: a cap is a number from 0 to 64\n",
+        ),
+        10 => say_cap(cap, 0, b"refused, answer 10: more than 4294967295 steps\n"),
+        _ => say(b"refused, answer 11: the rule is always true, every player has this badge\n"),
+    }
+}
+
+fn say_review(m: &[i32], p: &[i32], cap: u32) {
+    let r = review(m, p, of_bits(cap));
+    say_answer(cap, r.answer, r.place, r.count);
+}
+
+fn table() -> [i32; 2000]
+    ensures { λ r. ⌜ 2000 ≡ length r ⌝ }
+{
+    [0; 2000]
+}
+
+// How many words of a table a line has.
+fn words_of(n: usize) -> usize
+    ensures { λ r. ⌜ r ≤ 2000 ⌝ }
+{
+    if 2000 < n { 2000 } else { n }
+}
+
+fn answer(input: &[u8]) {
+    let mut m = table();
+    let mut p = table();
+    let mut t = table();
+    match read_input(input, &mut m, &mut p, &mut t) {
+        Asked::Other => say(b"unreadable\n"),
+        Asked::Of {
+            matcher,
+            pattern,
+            target,
+            budget,
+            room,
+        } => {
+            let i = words_of(matcher);
+            let j = words_of(pattern);
+            say_review(&m[..i], &p[..j], budget);
+        }
+    }
+}
+
+fn main() {
+    // One byte more than is read, so that longer input is seen.
+    let mut input = [0u8; 32769];
+    let n = io::read_full(STDIN_FILENO, &mut input);
+    answer(&input[..n]);
+}
