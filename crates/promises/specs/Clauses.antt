@@ -31,6 +31,9 @@ table =
     ∷ refuses (1 ∷ []) (9 ∷ 0 ∷ 4 ∷ []) [] 4 2  -- an or's second side
     ∷ refuses (2 ∷ 4 ∷ 2 ∷ 1 ∷ 1 ∷ []) (0 ∷ []) (1 ∷ 2 ∷ 2 ∷ 2 ∷ 0 ∷ 1 ∷ 0 ∷ 1 ∷ 0 ∷ 5 ∷ []) 6 8  -- an element behind a tuple
     ∷ reviewing (nums (3 ∷ 1 ∷ [])) (nums (5 ∷ 4 ∷ 0 ∷ [])) (pos 3) ⇒ (4 ∷ 1 ∷ 0 ∷ []) writing []  -- review tells it too
+    -- what is taken along a rest, in an or and an and there
+    ∷ reviewing (nums (3 ∷ 1 ∷ [])) (nums (5 ∷ 0 ∷ 9 ∷ 5 ∷ 0 ∷ 0 ∷ 5 ∷ 0 ∷ 0 ∷ [])) (pos 3) ⇒ (0 ∷ 0 ∷ 76 ∷ []) writing []  -- 1 + 6 + 3 + 27 + 27 + 12
+    ∷ reviewing (nums (3 ∷ 1 ∷ [])) (nums (5 ∷ 0 ∷ 8 ∷ 5 ∷ 0 ∷ 0 ∷ 5 ∷ 0 ∷ 0 ∷ [])) (pos 3) ⇒ (0 ∷ 0 ∷ 103 ∷ []) writing []
     -- values that do not fit
     ∷ refuses (2 ∷ 1 ∷ []) (0 ∷ []) (0 ∷ 7 ∷ []) 6 0
     ∷ refuses (3 ∷ 1 ∷ []) (0 ∷ []) (2 ∷ 2 ∷ 0 ∷ 1 ∷ 0 ∷ 2 ∷ []) 6 0
