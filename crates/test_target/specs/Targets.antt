@@ -40,6 +40,12 @@ unfoldable pub plainAt : List ℤ → ℕ → Bool
 unfolding tagAt
 plainAt s at = cond (eqb (tagAt s at) 0) (ltb (at + 1) (length s)) false
 
+-- How many do from there on, at most n.
+unfoldable pub plainRun : List ℤ → (n at : ℕ) → ℕ
+unfolding plainAt
+plainRun s zero at = 0
+plainRun s (suc n) at = cond (plainAt s at) (suc (plainRun s n (at + 2))) 0
+
 -- The value at an index, in which `depth` collections or tuples may stand one inside the other.
 unfoldable pub valueFrom : List ℤ → (depth at : ℕ) → Ended
 unfolding endOf target

@@ -5,7 +5,7 @@ use words::tag_at;
 ghost use mathlib.Core.Path.{_≡_};
 ghost use Rattle.rules.specs.Reading.{readTarget};
 ghost use Rattle.rules.specs.Causes.{causeOf};
-ghost use Rattle.test_target.specs.Targets.{causeAt, countCause, countFits, found, plainAt, valueFrom, valuedFrom, wholeValue};
+ghost use Rattle.test_target.specs.Targets.{causeAt, countCause, countFits, found, plainAt, plainRun, valueFrom, valuedFrom, wholeValue};
 
 // Where a value ends, or the place and the cause of the first word at fault.
 pub enum Valued {
@@ -63,6 +63,23 @@ pub fn plain_at(s: &[i32], at: usize) -> bool
     } else {
         false
     }
+}
+
+// How many integers stand whole from an index on, one after the other, at most n.
+pub fn plain_run(s: &[i32], at: usize, n: u32) -> u32
+    ensures { λ r. ⌜ r ≡ plainRun (now (s .entry)) n at ⌝ }
+{
+    let mut end = at;
+    let mut i: u32 = 0;
+    while i < n {
+        if plain_at(s, end) {
+            end += 2;
+            i += 1;
+        } else {
+            return i;
+        }
+    }
+    i
 }
 
 // The value at an index, in which so many collections or tuples may stand one inside the other.

@@ -1,11 +1,11 @@
 -- Test 6 by the tags that were read, as the code asks it. Assumes nothing.
-use mathlib.Core.Path.{_≡_, refl, sym, _∙_}
+use mathlib.Core.Path.{_≡_, refl, sym, _∙_, ap}
 use mathlib.Core.Bool.{Bool, true, false, not, cond}
 use mathlib.Core.List.{List}
-use Prim.Native.Nat.{ℕ, zero, suc, _+_, _-_, _^_, _<_, _≤_}
+use Prim.Native.Nat.{ℕ, zero, suc, _+_, _-_, _*_, _^_, _<_, _≤_}
 use native.Mathlib.Omega.{arith}
 use borrow.Author.Needs.{needs}
-use borrow.Author.Tests.{lt-ltb, le-ltb, ltb-false, ne-eqb, eqb-true, not-true, not-false}
+use borrow.Author.Tests.{lt-ltb, le-ltb, ltb-false, eq-eqb, ne-eqb, eqb-true, not-true, not-false}
 use mir.Syntax.{w64}
 use mir.Val.{Fits}
 use lib.Dec.{eqb, ltb}
@@ -16,10 +16,10 @@ use Rattle.words.proofs.Signed as signed
 use Rattle.test_forms.specs.Ends.{onward, within}
 use Rattle.matchers.specs.Places.{matcherEnd}
 use Rattle.test_fit.specs.Shapes.{widthFits}
-use Rattle.test_target.specs.Targets.{plainAt, valueFrom}
+use Rattle.test_target.specs.Targets.{plainAt, plainRun, valueFrom}
 use Rattle.test_target.proofs.Values.{integer}
-use Rattle.test_target.proofs.Steps.{plain-words}
-use Rattle.test_unfit.specs.Unfit.{opensAt, underTag, membersOf, nextMember, numberFits, byMembers, inEach, insideFrom, fitFrom}
+use Rattle.test_target.proofs.Steps.{plain-words, run-most, run-within}
+use Rattle.test_unfit.specs.Unfit.{opensAt, underTag, membersOf, nextMember, numberFits, fitRun, underInteger, byMembers, inEach, insideFrom, fitFrom}
 use Rattle.test_forms.specs.declared.Ended.{Ended}
 use Rattle.test_forms.specs.declared.Ended.the-variants.{End, Bad}
 use Rattle.test_unfit.specs.declared.Members.{Members}
@@ -124,6 +124,42 @@ module _ (s m : List ℤ) (at j k : ℕ) (e : k ≡ tagAt m j) where
 
 pub ruleset number-rules = (number-there, number-other, needs)
 
+module _ (s : List ℤ) (at t d : ℕ) where
+  pub under-number : (r : Ended) → t ≡ 0 → r ≡ valueFrom s d at → r ≡ underInteger s at t d
+  unfolding underInteger
+  under-number r h q = q ∙ rw h
+
+  pub under-other : (t ≡ 0 → ⊥) → Bad at ≡ underInteger s at t d
+  unfolding underInteger
+  under-other h = rw (ne-eqb t 0 h)
+
+pub ruleset under-rules = (under-number, under-other, needs)
+
+-- A run of them.
+module _ (s m : List ℤ) (at n k j t : ℕ) (e : t ≡ tagAt m j) where
+  pub run-there : (k ≡ 4 → ⊥) → t ≡ 1 → (r : ℕ) → r ≡ plainRun s n at → r ≡ fitRun s at n m k j
+  unfolding fitRun
+  run-there f h r q = q ∙ rw (ne-eqb k 4 f, ← e, h)
+
+  pub run-other : (k ≡ 4 → ⊥) → (t ≡ 1 → ⊥) → 0 ≡ fitRun s at n m k j
+  unfolding fitRun
+  run-other f h = rw (ne-eqb k 4 f, ← e, ne-eqb t 1 h)
+
+pub run-tuple : (s m : List ℤ) (at n k j : ℕ) → k ≡ 4 → 0 ≡ fitRun s at n m k j
+unfolding fitRun
+run-tuple s m at n k j h = rw h
+
+pub ruleset run-rules = (run-there, run-other, run-tuple, needs)
+
+by-run : (s m : List ℤ) (at n k j : ℕ) (P : ℕ → Type 0) → P 0 → ((k ≡ 4 → ⊥) → tagAt m j ≡ 1 → P (plainRun s n at)) → P (fitRun s at n m k j)
+unfolding fitRun
+by-run s m at n k j P z f = go (eqb k 4) refl (eqb (tagAt m j) 1) refl
+  where
+    go : (b : Bool) → eqb k 4 ≡ b → (c : Bool) → eqb (tagAt m j) 1 ≡ c → P (cond b 0 (cond c (plainRun s n at) 0))
+    go true p c q = z
+    go false p true q = f (λ y. let u : false ≡ true = sym p ∙ eq-eqb k 4 y in let w : _≡_ {A = ℕ} 0 1 = cc in absurd (omega arith)) (eqb-true (tagAt m j) 1 q)
+    go false p false q = z
+
 number-words : (s m : List ℤ) (at j : ℕ) → numberFits s at m j ≡ true → (tagAt m j ≡ 1) × (plainAt s at ≡ true)
 unfolding numberFits
 number-words s m at j = go (eqb (tagAt m j) 1) refl
@@ -149,13 +185,13 @@ module _ (s m : List ℤ) (i at k d : ℕ) (e : k ≡ tagAt m i) where
   ret-something r h x = x ∙ sym (by-tags s m d i at ∙ rw (← e, h))
 
   module _ (t : ℕ) (q : t ≡ tagAt s at) where
-    pub ret-integer : (r : Ended) → k ≡ 1 → t ≡ 0 → r ≡ valueFrom s d at → r ≡ fitFrom s m d i at
+    ret-integer : (r : Ended) → k ≡ 1 → t ≡ 0 → r ≡ valueFrom s d at → r ≡ fitFrom s m d i at
     unfolding underTag
     ret-integer r h y x = x ∙ sym (by-tags s m d i at ∙ rw (← e, h, ← q, y))
 
-    pub ret-no-integer : k ≡ 1 → (t ≡ 0 → ⊥) → Bad at ≡ fitFrom s m d i at
-    unfolding underTag
-    ret-no-integer h y = sym (by-tags s m d i at ∙ rw (← e, h, ← q, ne-eqb t 0 y))
+    pub ret-under : (r : Ended) → k ≡ 1 → r ≡ underInteger s at t d → r ≡ fitFrom s m d i at
+    unfolding underTag underInteger
+    ret-under r h x = x ∙ sym (by-tags s m d i at ∙ rw (← e, h, ← q))
 
     module _ (f : k ≡ 0 → ⊥) (g : k ≡ 1 → ⊥) (b : Bool) (h : b ≡ opensAt k t) where
       pub ret-closed : not b ≡ true → Bad at ≡ fitFrom s m d i at
@@ -193,6 +229,56 @@ number-end s m at j d h =
     let a = number-words s m at j h in
     let b = plain-words s at (a .1) in
     ret-integer s m j at (tagAt m j) d refl (tagAt s at) refl (End (at + 2)) (a .0) (b .0) (sym (integer s at (tagAt s at) refl d (b .0) ∙ rw (lt-ltb (at + 1) (length s) (b .1))))
+
+-- ---- The elements that fit at once.
+
+pass-none : (f : ℕ → ℕ → Ended) (next : ℕ → ℕ) (n j e : ℕ) → inEach f next n j e ≡ inEach f next (n - 0) j (e + 2 * 0)
+pass-none f next n j e =
+    let x : n ≡ n - 0 = omega arith in
+    let y : e ≡ e + 2 * 0 = omega arith in
+    ap (λ c. inEach f next c j e) x ∙ ap (λ t. inEach f next (n - 0) j t) y
+
+module _ (s m : List ℤ) (d k j : ℕ) (f : k ≡ 4 → ⊥) (h : tagAt m j ≡ 1) where
+  same-next : nextMember m k j ≡ j
+  unfolding nextMember
+  same-next = rw (ne-eqb k 4 f)
+
+  plain-fits : (e : ℕ) → plainAt s e ≡ true → numberFits s e m j ≡ true
+  unfolding numberFits
+  plain-fits e p = rw (eq-eqb (tagAt m j) 1 h) p
+
+  one-on : (n e : ℕ) → plainAt s e ≡ true → inEach (fitFrom s m d) (nextMember m k) (suc n) j e ≡ inEach (fitFrom s m d) (nextMember m k) n j (e + 2)
+  unfolding inEach onward
+  one-on n e p = rw (← number-end s m e j d (plain-fits e p), same-next)
+
+  pass-run : (n e : ℕ) → inEach (fitFrom s m d) (nextMember m k) n j e ≡ inEach (fitFrom s m d) (nextMember m k) (n - plainRun s n e) j (e + 2 * plainRun s n e)
+  unfolding plainRun
+  pass-run zero e = let z : e ≡ e + 2 * 0 = omega arith in ap (λ x. inEach (fitFrom s m d) (nextMember m k) 0 j x) z
+  pass-run (suc n) e = go (plainAt s e) refl (pass-run n (e + 2))
+    where
+      go : (b : Bool) → plainAt s e ≡ b
+          → inEach (fitFrom s m d) (nextMember m k) n j (e + 2) ≡ inEach (fitFrom s m d) (nextMember m k) (n - plainRun s n (e + 2)) j (e + 2 + 2 * plainRun s n (e + 2))
+          → inEach (fitFrom s m d) (nextMember m k) (suc n) j e
+          ≡ inEach (fitFrom s m d) (nextMember m k) (suc n - cond b (suc (plainRun s n (e + 2))) 0) j (e + 2 * cond b (suc (plainRun s n (e + 2))) 0)
+      go true p r =
+          let x : n - plainRun s n (e + 2) ≡ suc n - suc (plainRun s n (e + 2)) = omega arith in
+          let y : e + 2 + 2 * plainRun s n (e + 2) ≡ e + 2 * suc (plainRun s n (e + 2)) = omega arith in
+          one-on n e p ∙ r
+          ∙ ap (λ c. inEach (fitFrom s m d) (nextMember m k) c j (e + 2 + 2 * plainRun s n (e + 2))) x
+          ∙ ap (λ t. inEach (fitFrom s m d) (nextMember m k) (suc n - suc (plainRun s n (e + 2))) j t) y
+      go false p r = pass-none (fitFrom s m d) (nextMember m k) (suc n) j e
+
+module _ (s m : List ℤ) (k j n e r : ℕ) (q : r ≡ fitRun s e n m k j) where
+  run-passed : (d : ℕ) → inEach (fitFrom s m d) (nextMember m k) n j e ≡ inEach (fitFrom s m d) (nextMember m k) (n - r) j (e + 2 * r)
+  run-passed d = rw q (by-run s m e n k j (λ c. inEach (fitFrom s m d) (nextMember m k) n j e ≡ inEach (fitFrom s m d) (nextMember m k) (n - c) j (e + 2 * c))
+      (pass-none (fitFrom s m d) (nextMember m k) n j e)
+      (λ f h. pass-run s m d k j f h n e))
+
+  pub run-few : r ≤ n
+  run-few = rw q (by-run s m e n k j (λ c. c ≤ n) (omega arith) (λ f h. run-most s n e))
+
+  run-in : e < 2 ^ 64 → length s < 2 ^ 64 → e + 2 * r < 2 ^ 64
+  run-in a l = rw q (by-run s m e n k j (λ c. e + 2 * c < 2 ^ 64) (omega arith) (λ f h. run-within s n e a l))
 
 -- ---- The elements or parts; v is what they are to give.
 
@@ -244,4 +330,13 @@ next-2 s m at i k n j e a w x l = let o = members-most m i k n j (sym w ∙ x) i
 pub number-next : (s m : List ℤ) (e j : ℕ) (b : Bool) → b ≡ numberFits s e m j → b ≡ true → length s < 2 ^ 64 → Fits w64 (e + 2)
 number-next s m e j b q w l = let x = plain-words s e (number-words s m e j (sym q ∙ w) .1) .1 in record { fits = omega arith }
 
-pub ruleset rules = (ret-something, ret-integer, ret-no-integer, ret-closed, ret-deep, ret-unfit, loop-in, loop-out, loop-turn, loop-number, loop-bad, next-i, next-at, next-2, number-next, depth-pos, depth-less, needs)
+pub behind-fits : (s m : List ℤ) (at i k n j r : ℕ) → n ≡ tagAt s (at + 1) → (a : Members) → a ≡ membersOf m i k n → a ≡ From j → r ≡ fitRun s (at + 2) n m k j → length s < 2 ^ 64
+    → at + 2 + 2 * r < 18446744073709551616
+behind-fits s m at i k n j r e a w x q l = run-in s m k j n (at + 2) r q (next-2 s m at i k n j e a w x l .fits) l
+
+-- After those that fit at once.
+pub loop-run : (s m : List ℤ) (d k j n e r e′ : ℕ) (v : Ended) → v ≡ inEach (fitFrom s m d) (nextMember m k) n j e → r ≡ fitRun s e n m k j → e′ ≡ e + 2 * r
+    → v ≡ inEach (fitFrom s m d) (nextMember m k) (n - r) j e′
+loop-run s m d k j n e r e′ v x q p = x ∙ run-passed s m k j n e r q d ∙ rw p
+
+pub ruleset rules = (ret-something, ret-under, ret-closed, ret-deep, ret-unfit, loop-in, loop-out, loop-turn, loop-number, loop-bad, next-i, next-at, next-2, number-next, run-few, behind-fits, depth-pos, depth-less, needs)

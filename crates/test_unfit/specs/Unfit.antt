@@ -8,7 +8,7 @@ use Rattle.words.specs.Words.{tagAt}
 use Rattle.test_forms.specs.Ends.{onward, within}
 use Rattle.matchers.specs.Places.{matcherEnd}
 use Rattle.test_fit.specs.Shapes.{widthFits}
-use Rattle.test_target.specs.Targets.{plainAt, valueFrom}
+use Rattle.test_target.specs.Targets.{plainAt, plainRun, valueFrom}
 use Rattle.test_forms.specs.declared.Ended.{Ended}
 use Rattle.test_forms.specs.declared.Ended.the-variants.{End, Bad}
 use Rattle.test_unfit.specs.declared.Members.{Members}
@@ -37,6 +37,16 @@ nextMember m k j = cond (eqb k 4) (matcherEnd m j) j
 unfoldable pub numberFits : (s : List ℤ) → ℕ → (m : List ℤ) → ℕ → Bool
 unfolding plainAt tagAt
 numberFits s at m j = cond (eqb (tagAt m j) 1) (plainAt s at) false
+
+-- A value with the tag t under integer.
+unfoldable pub underInteger : (s : List ℤ) → (at t depth : ℕ) → Ended
+unfolding valueFrom
+underInteger s at t depth = cond (eqb t 0) (valueFrom s depth at) (Bad at)
+
+-- How many of n members from an index on fit at once: integers of a collection under integer.
+unfoldable pub fitRun : (s : List ℤ) → (at n : ℕ) → (m : List ℤ) → (k j : ℕ) → ℕ
+unfolding plainRun tagAt
+fitRun s at n m k j = cond (eqb k 4) 0 (cond (eqb (tagAt m j) 1) (plainRun s n at) 0)
 
 unfoldable pub byMembers : Members → Ended → (ℕ → Ended) → Ended
 byMembers Unfit z k = z

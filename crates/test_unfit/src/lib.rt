@@ -4,11 +4,12 @@ use test_fit::shapes::width_fits;
 use test_forms::Ended;
 use test_forms::between;
 use test_target::plain_at;
+use test_target::plain_run;
 use test_target::value_end;
 use words::tag_at;
 ghost use mathlib.Core.Path.{_≡_};
-ghost use Prim.Native.Nat.{_+_, _<_, _^_};
-ghost use Rattle.test_unfit.specs.Unfit.{opensAt, membersOf, nextMember, numberFits, fitFrom};
+ghost use Prim.Native.Nat.{_+_, _*_, _<_, _^_};
+ghost use Rattle.test_unfit.specs.Unfit.{opensAt, membersOf, nextMember, numberFits, fitRun, underInteger, fitFrom};
 
 // The matcher of the first element or part of a value; or no such value fits.
 pub enum Members {
@@ -62,6 +63,36 @@ fn number_fits(s: &[i32], at: usize, m: &[i32], j: usize) -> bool
     }
 }
 
+// A value with the tag t under integer.
+fn under_integer(s: &[i32], at: usize, t: u32, depth: u32) -> Ended
+    ensures { λ r. ⌜ r ≡ underInteger (now (s .entry)) at t depth ⌝ }
+{
+    if t == 0 {
+        value_end(s, at, depth)
+    } else {
+        Ended::Bad(at)
+    }
+}
+
+// How many of n members fit at once: a collection's integers under integer.
+fn fit_run(s: &[i32], at: usize, n: u32, m: &[i32], k: u32, j: usize) -> u32
+    ensures { λ r. ⌜ r ≡ fitRun (now (s .entry)) at n (now (m .entry)) k j ⌝ }
+{
+    if k == 4 {
+        return 0;
+    }
+    let t = tag_at(m, j);
+    if t == 1 { plain_run(s, at, n) } else { 0 }
+}
+
+// The index behind so many integers.
+fn behind(at: usize, n: u32) -> usize
+    requires { ⌜ at + 2 * n < 2 ^ 64 ⌝ }
+    ensures { λ r. ⌜ r ≡ at + 2 * n ⌝ }
+{
+    at + 2 * (n as usize)
+}
+
 // Where the value at an index of `s` ends, if it fits the matcher at the index i of `m`; else the place of the tag that does not.
 pub fn fit_end(s: &[i32], at: usize, m: &[i32], i: usize, depth: u32) -> Ended
     ensures { λ r. ⌜ r ≡ fitFrom (now (s .entry)) (now (m .entry)) depth i at ⌝ }
@@ -72,10 +103,7 @@ pub fn fit_end(s: &[i32], at: usize, m: &[i32], i: usize, depth: u32) -> Ended
     }
     let t = tag_at(s, at);
     if k == 1 {
-        if t == 0 {
-            return value_end(s, at, depth);
-        }
-        return Ended::Bad(at);
+        return under_integer(s, at, t, depth);
     }
     if !opens(k, t) {
         return Ended::Bad(at);
@@ -83,12 +111,14 @@ pub fn fit_end(s: &[i32], at: usize, m: &[i32], i: usize, depth: u32) -> Ended
     if depth == 0 {
         return Ended::Bad(at);
     }
-    let mut left = tag_at(s, at + 1);
-    let mut j = match members_of(m, i, k, left) {
+    let n = tag_at(s, at + 1);
+    let mut j = match members_of(m, i, k, n) {
         Members::Unfit => return Ended::Bad(at),
         Members::From(first) => first,
     };
-    let mut e = at + 2;
+    let run = fit_run(s, at + 2, n, m, k, j);
+    let mut e = behind(at + 2, run);
+    let mut left = n - run;
     while 0 < left {
         if number_fits(s, e, m, j) {
             e += 2;

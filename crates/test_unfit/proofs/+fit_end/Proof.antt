@@ -4,7 +4,7 @@ use mathlib.Core.Path.{_≡_}
 use borrow.Fn.Kinds.{In}
 use borrow.Fn.PlainCycle.{Measures, is, falls, and}
 use Rattle.test_unfit.specs.Unfit.{nextMember, inEach, fitFrom}
-use Rattle.test_unfit.proofs.Steps.{rules, loop-in}
+use Rattle.test_unfit.proofs.Steps.{rules, loop-in, loop-run, loop-number, loop-turn, loop-bad, loop-out}
 use Rattle.test_unfit.proofs.fit_end.Reads as fit-end
 use Rattle.test_unfit.proofs.fit_end.Kinds as fit-end-kinds
 use Rattle.test_unfit.proofs.+fit_end.Lts-fit_end as fit-end-lts
@@ -14,6 +14,9 @@ use Rattle.test_unfit.proofs.opens.Reads as opens-reads
 use Rattle.test_unfit.proofs.members_of.Reads as members-of-reads
 use Rattle.test_unfit.proofs.next_member.Reads as next-member-reads
 use Rattle.test_unfit.proofs.number_fits.Reads as number-fits-reads
+use Rattle.test_unfit.proofs.under_integer.Reads as under-integer-reads
+use Rattle.test_unfit.proofs.fit_run.Reads as fit-run-reads
+use Rattle.test_unfit.proofs.behind.Reads as behind-reads
 use Rattle.test_unfit.proofs.+fit_end.{statement}
 use Rattle.test_unfit.proofs.+fit_end.Tie.{close}
 
@@ -27,10 +30,10 @@ abbrev fit-end-below : ℕ → In 2 fit-end-kinds.ps
 fit-end-below t = and 2 fit-end-kinds.ps (falls 2 fit-end-kinds.ps _<_ μ-fit-end t) fit-end.Pre
 
 abbrev Inv-loop : fit-end-lts.InvT-loop
-Inv-loop s at m i depth k t left₀ j₀ e₀ left j e = fitFrom s m depth i at ≡ inEach (fitFrom s m (depth - 1)) (nextMember m k) left j e
+Inv-loop s at m i depth k t n j₀ run e₀ left₀ j e left = fitFrom s m depth i at ≡ inEach (fitFrom s m (depth - 1)) (nextMember m k) left j e
 
 abbrev μ-loop : fit-end-lts.MeasureT-loop
-μ-loop s at m i depth k t left₀ j₀ e₀ left j e = left
+μ-loop s at m i depth k t n j₀ run e₀ left₀ j e left = left
 
 pub +fit-end-spec : {M : Type 1} → statement M
 +fit-end-spec = close μ-fit-end λ t. fit-end-lts.spec (
@@ -38,10 +41,16 @@ pub +fit-end-spec : {M : Type 1} → statement M
   tag-at-reads.Learnt,
   value-end-reads.Asked,
   value-end-reads.Learnt,
+  under-integer-reads.Asked,
+  under-integer-reads.Learnt,
   opens-reads.Asked,
   opens-reads.Learnt,
   members-of-reads.Asked,
   members-of-reads.Learnt,
+  fit-run-reads.Asked,
+  fit-run-reads.Learnt,
+  behind-reads.Asked,
+  behind-reads.Learnt,
   number-fits-reads.Asked,
   number-fits-reads.Learnt,
   next-member-reads.Asked,
@@ -49,37 +58,40 @@ pub +fit-end-spec : {M : Type 1} → statement M
   fit-end-below t,
   fit-end.Post,
 ) (fit-end-at t) fit-end.Post Inv-loop μ-loop
-    (λ c. search rules)
-    (λ c. search rules)
-    (λ c. search rules)
-    (λ c. search rules)
-    (λ c. search rules)
-    (λ c. search rules)
-    (λ c. search rules)
-    (λ c. search rules)
-    (λ c. search rules)
-    (λ c. search rules)
-    (λ c. search rules)
-    (λ c. search rules)
-    (λ c. search rules)
-    (λ c. search rules)
-    (λ c. search rules)
-    (λ c. search rules)
-    (λ c. search rules)
-    (λ c. loop-in _ _ _ _ _ _ (c .before .before .before .before .before .before .before .before .before .before .before .tag-at .ensures) _ (c .before .before .before .before .before .before .before .before .before .tag-at2 .ensures) (c .before .before .before .before .before .before .before .before .before .before .if1 .left) (c .before .before .before .before .before .before .before .before .if2 .left) _ (c .before .before .before .before .before .before .before .opens .ensures) (c .before .before .before .before .before .before .if4 .left) (c .before .before .before .before .before .if5 .left) _ (c .before .before .before .before .tag-at3 .ensures) _ (c .before .before .before .members-of .ensures) _ (c .before .first .given .1))
-    (λ c. search rules)
-    (λ c. search rules)
-    (λ c. search rules)
-    (λ c. search rules)
-    (λ c. search rules)
-    (λ c. search rules)
-    (λ c. search rules)
-    (λ c. search rules)
-    (λ c. search rules)
-    (λ c. search rules)
-    (λ c. search rules)
-    (λ c. search rules)
-    (λ c. search rules)
-    (λ c. search rules)
-    (λ c. search rules)
-    (λ c. search rules)
+    (λ c. search rules)  -- tag-at-requires
+    (λ c. search rules)  -- value-end-requires
+    (λ c. search rules)  -- returns
+    (λ c. search rules)  -- tag-at-requires-2
+    (λ c. search rules)  -- under-integer-requires
+    (λ c. search rules)  -- returns-2
+    (λ c. search rules)  -- opens-requires
+    (λ c. search rules)  -- returns-3
+    (λ c. search rules)  -- returns-4
+    (λ c. search rules)  -- add-tag-at
+    (λ c. search rules)  -- tag-at-requires-3
+    (λ c. search rules)  -- members-of-requires
+    (λ c. search rules)  -- enum-told
+    (λ c. search rules)  -- returns-5
+    (λ c. search rules)  -- enum-known-first
+    (λ c. search rules)  -- add-fit-run
+    (λ c. search rules)  -- fit-run-requires
+    (λ c. search rules)  -- add-behind
+    (λ c. search rules)  -- behind-requires
+    (λ c. search rules)  -- sub-left
+    (λ c. loop-run _ _ _ _ _ _ _ _ _ _ (loop-in _ _ _ _ _ _ (c .before .before .before .before .before .before .before .before .before .before .before .before .before .tag-at .ensures) _ (c .before .before .before .before .before .before .before .before .before .before .before .tag-at2 .ensures) (c .before .before .before .before .before .before .before .before .before .before .before .before .if1 .left) (c .before .before .before .before .before .before .before .before .before .before .if2 .left) _ (c .before .before .before .before .before .before .before .before .before .opens .ensures) (c .before .before .before .before .before .before .before .before .if3 .left) (c .before .before .before .before .before .before .before .if4 .left) _ (c .before .before .before .before .before .before .tag-at3 .ensures) _ (c .before .before .before .before .before .members-of .ensures) _ (c .before .before .before .first .given .1)) (c .before .fit-run .ensures) (c .behind .ensures))  -- loop-holds
+    (λ c. search rules)  -- number-fits-requires
+    (λ c. search rules)  -- add-e
+    (λ c. search rules)  -- next-member-requires
+    (λ c. search rules)  -- sub-left-2
+    (λ c. search rules)  -- loop-less
+    (λ c. loop-number _ _ _ _ _ _ _ _ (c .before .before .before .before .loop .inv) (c .before .before .before .loop-test .taken) _ (c .before .before .number-fits .ensures) (c .before .if5 .taken) _ (c .next-member .ensures))  -- loop-again
+    (λ c. search rules)  -- sub-fit-end
+    (λ c. search rules)  -- fit-end-requires
+    (λ c. search rules)  -- enum-known-x
+    (λ c. search rules)  -- next-member-requires-2
+    (λ c. search rules)  -- sub-left-3
+    (λ c. search rules)  -- loop-less-2
+    (λ c. loop-turn _ _ _ _ _ _ _ _ (c .before .before .before .before .before .before .before .before .loop .inv) (c .before .before .before .before .before .before .before .loop-test .taken) _ (c .before .before .before .before .fit-end .ensures) _ (c .before .before .x .given .1) _ (c .next-member2 .ensures))  -- loop-again-2
+    (λ c. search rules)  -- enum-known-p
+    (λ c. loop-bad _ _ _ _ _ _ _ _ (c .before .before .before .before .before .before .before .loop .inv) (c .before .before .before .before .before .before .loop-test .taken) _ (c .before .before .before .fit-end .ensures) _ (c .before .p .given .1))  -- returns-6
+    (λ c. loop-out _ _ _ _ _ _ _ _ (c .before .loop .inv) (c .loop-test .left))  -- returns-7
