@@ -20,7 +20,7 @@ use Rattle.search.specs.Run.{env}
 use Rattle.search.specs.Valid.{Fine}
 use Rattle.search.specs.Searched.{Searched}
 use Rattle.search.proofs.Accepted.{accepted-target, accepted-some, accepted-fine, accepted-match}
-use Rattle.tests.specs.Judgements.{judgement, targetJudgement, targetUnder}
+use Rattle.tests.specs.Judgements.{judgement, targetJudgement, targetUnder, Whole}
 use Rattle.tests.specs.declared.Judgement.{Judgement}
 use Rattle.tests.specs.declared.Judgement.the-variants.{Accepted, Refused}
 use Rattle.tests.specs.declared.TargetJudgement.{TargetJudgement}
@@ -58,6 +58,10 @@ target-refused ts (refused b k) x a i c p q =
 under : (ms ps ts : List ℤ) (r : Rule) → ruleOf ms ps ≡ accepted r → targetUnder ms ts ≡ targetOf (r .matcher) ts
 unfolding targetUnder test
 under ms ps ts r e = let m = rule-accepted ms ps r .0 e .matcher in rw m
+
+-- Test 1 has passed.
+pub rule-whole : (ms ps : List ℤ) (x : Judgement) → x ≡ judgement (ruleOf ms ps) → x ≡ Accepted → Whole ms
+rule-whole ms ps x p q = let r = was-accepted (ruleOf ms ps) x p q in record { matcher = r .0 .matcher; is = rule-accepted ms ps (r .0) .0 (r .1) .matcher }
 
 -- ---- The answers 1 to 6.
 

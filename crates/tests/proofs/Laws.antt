@@ -25,7 +25,7 @@ use Rattle.test_variables.specs.declared.Counted.{Counted}
 use Rattle.test_variables.specs.declared.Counted.the-variants as counts
 use Rattle.test_forms.specs.declared.Ended.{Ended}
 use Rattle.test_forms.specs.declared.Ended.the-variants.{End, Bad}
-use Rattle.tests.specs.Judgements.{judgement, targetJudgement, targetUnder}
+use Rattle.tests.specs.Judgements.{judgement, targetJudgement, targetUnder, Whole}
 use Rattle.tests.specs.declared.Judgement.the-variants.{Accepted, Refused}
 use Rattle.tests.specs.declared.TargetJudgement.the-variants as targets
 use Rattle.test_forms.proofs.After.{after}
@@ -114,29 +114,21 @@ unfolding found
 found-fault (ok v) n i c e = let z : _≡_ {A = ℕ} 0 1 = cc in absurd (omega arith)
 found-fault (fault j) n i c e = let q : j ≡ i = cc in let r : c ≡ n = cc in (ap fault q, r)
 
-module _ (ms ts : List ℤ) (a : Tested) (ea : a ≡ tested (readMatcher ms)) where
-  pub ret-none : (i : ℕ) → a ≡ Fault i → targets.Refused 1 i 0 ≡ targetJudgement ts (targetUnder ms ts)
-  unfolding targetUnder test targetJudgement causeIn
-  ret-none i f = rw (failed (readMatcher ms) i (sym f ∙ ea))
+module _ (ms ts : List ℤ) (w : Whole ms) (b : Found) (eb : b ≡ found (readTarget ts) (causeOf ts)) where
+  pub ret-target : (i c : ℕ) → b ≡ finds.Fault i c → targets.Refused 5 i c ≡ targetJudgement ts (targetUnder ms ts)
+  unfolding targetUnder targetOf test targetJudgement causeIn
+  ret-target i c f = let t = found-fault (readTarget ts) (causeOf ts) i c (sym f ∙ eb) in rw (w .is, t .0, t .1)
 
-  module _ (fa : a ≡ Passed) (b : Found) (eb : b ≡ found (readTarget ts) (causeOf ts)) where
-    pub ret-target : (i c : ℕ) → b ≡ finds.Fault i c → targets.Refused 5 i c ≡ targetJudgement ts (targetUnder ms ts)
+  module _ (fb : b ≡ finds.Passed) (c : Ended) (ec : c ≡ fitFrom ts ms 8 0 0) where
+    t : (v : Value) × (readTarget ts ≡ ok v)
+    t = found-all (readTarget ts) (causeOf ts) (sym fb ∙ eb)
+
+    pub ret-unfit : (i : ℕ) → c ≡ Bad i → targets.Refused 6 i 0 ≡ targetJudgement ts (targetUnder ms ts)
     unfolding targetUnder targetOf test targetJudgement causeIn
-    ret-target i c f = let t = found-fault (readTarget ts) (causeOf ts) i c (sym f ∙ eb) in rw (passed (readMatcher ms) (sym fa ∙ ea) .1, t .0, t .1)
+    ret-unfit i f = rw (w .is, t .1, unended (fitsValue (w .matcher) (t .0) 0) (0 + size (t .0)) i (sym f ∙ ec ∙ unfit.of-target ms ts (w .matcher) (t .0) (w .is) (t .1)))
 
-    module _ (fb : b ≡ finds.Passed) (c : Ended) (ec : c ≡ fitFrom ts ms 8 0 0) where
-      k : (k : Matcher) × (readMatcher ms ≡ ok k)
-      k = passed (readMatcher ms) (sym fa ∙ ea)
+    pub ret-fit : (e : ℕ) → c ≡ End e → targets.Accepted ≡ targetJudgement ts (targetUnder ms ts)
+    unfolding targetUnder targetOf test targetJudgement
+    ret-fit e f = rw (w .is, t .1, ended (fitsValue (w .matcher) (t .0) 0) (0 + size (t .0)) e (sym f ∙ ec ∙ unfit.of-target ms ts (w .matcher) (t .0) (w .is) (t .1)) .1)
 
-      t : (v : Value) × (readTarget ts ≡ ok v)
-      t = found-all (readTarget ts) (causeOf ts) (sym fb ∙ eb)
-
-      pub ret-unfit : (i : ℕ) → c ≡ Bad i → targets.Refused 6 i 0 ≡ targetJudgement ts (targetUnder ms ts)
-      unfolding targetUnder targetOf test targetJudgement causeIn
-      ret-unfit i f = rw (k .1, t .1, unended (fitsValue (k .0) (t .0) 0) (0 + size (t .0)) i (sym f ∙ ec ∙ unfit.of-target ms ts (k .0) (t .0) (k .1) (t .1)))
-
-      pub ret-fit : (e : ℕ) → c ≡ End e → targets.Accepted ≡ targetJudgement ts (targetUnder ms ts)
-      unfolding targetUnder targetOf test targetJudgement
-      ret-fit e f = rw (k .1, t .1, ended (fitsValue (k .0) (t .0) 0) (0 + size (t .0)) e (sym f ∙ ec ∙ unfit.of-target ms ts (k .0) (t .0) (k .1) (t .1)) .1)
-
-pub ruleset target-rules = (ret-none, ret-target, ret-unfit, ret-fit, needs)
+pub ruleset target-rules = (ret-target, ret-unfit, ret-fit, needs)

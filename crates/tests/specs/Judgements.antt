@@ -1,8 +1,9 @@
 -- What the code's answers stand for: each case of `Judgement` and of `TargetJudgement` is an answer of the rules.
+use mathlib.Core.Path.{_≡_}
 use mathlib.Core.List.{List}
 use lib.IntN.{ℤ}
-use Rattle.rules.specs.Forms.{Value}
-use Rattle.rules.specs.Reading.{readMatcher}
+use Rattle.rules.specs.Forms.{Matcher, Value}
+use Rattle.rules.specs.Reading.{ok, readMatcher}
 use Rattle.rules.specs.Services.{Judged, accepted, refused, test, targetOf, causeIn}
 use Rattle.tests.specs.declared.Judgement.{Judgement}
 use Rattle.tests.specs.declared.Judgement.the-variants.{Accepted, Refused}
@@ -24,3 +25,8 @@ targetJudgement ts (refused answer place) = targets.Refused answer place (causeI
 unfoldable pub targetUnder : (ms ts : List ℤ) → Judged Value
 unfolding test readMatcher targetOf
 targetUnder ms ts = test 1 (readMatcher ms) λ m. targetOf m ts
+
+-- Words that test 1 has passed.
+pub record Whole (ms : List ℤ) : Type 0 where
+  pub matcher : Matcher
+  pub is : readMatcher ms ≡ ok matcher

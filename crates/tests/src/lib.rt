@@ -9,7 +9,7 @@ use test_unfit::fit_end;
 use test_variables::Counted;
 ghost use mathlib.Core.Path.{_≡_};
 ghost use Rattle.rules.specs.Services.{ruleOf};
-ghost use Rattle.tests.specs.Judgements.{judgement, targetJudgement, targetUnder};
+ghost use Rattle.tests.specs.Judgements.{judgement, targetJudgement, targetUnder, Whole};
 
 // Accepted; or refused, with document 01's number of the answer and the place.
 pub enum Judgement {
@@ -61,14 +61,11 @@ pub fn rule_refused(ms: &[i32], ps: &[i32]) -> Judgement
     Judgement::Accepted
 }
 
-// Tests 5 and 6, each over its whole slice, for a whole matcher; test 1 where it is none.
+// Tests 5 and 6, each over its whole slice, for a matcher that test 1 has passed.
 pub fn target_refused(ms: &[i32], ts: &[i32]) -> TargetJudgement
+    requires { ⌜ Whole (now ms) ⌝ }
     ensures { λ r. ⌜ r ≡ targetJudgement (now (ts .entry)) (targetUnder (now (ms .entry)) (now (ts .entry))) ⌝ }
 {
-    let a = test_matcher(ms);
-    if let Tested::Fault(i) = a {
-        return TargetJudgement::Refused(MATCHER, i, 0);
-    }
     let b = test_target(ts);
     if let Found::Fault(i, c) = b {
         return TargetJudgement::Refused(TARGET, i, c);

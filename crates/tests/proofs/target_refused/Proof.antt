@@ -13,8 +13,4 @@ target-refused-spec = tie.close (tie.spec
     (λ c. search target-rules)
     (λ c. search target-rules)
     (λ c. search target-rules)
-    (λ c. search target-rules)
-    (λ c. search target-rules)
-    (λ c. search target-rules)
-    (λ c. search target-rules)
     (λ c. search target-rules))

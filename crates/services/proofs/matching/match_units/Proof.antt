@@ -2,7 +2,7 @@
 use borrow.Author.Needs.{needs}
 use Rattle.rules.specs.Services.{turnedAway}
 use Rattle.services.specs.Matches.{told}
-use Rattle.services.proofs.Matches.{rule-away, target-away, both-ready}
+use Rattle.services.proofs.Matches.{rule-whole, rule-away, target-away, both-ready}
 use Rattle.services.proofs.matching.match_units.Statement.{statement}
 use Rattle.services.proofs.matching.match_units.Tie as tie
 
@@ -13,7 +13,7 @@ match-units-spec = tie.close (tie.spec
     (λ c. search needs)
     (λ c. search (rule-away, needs))
     (λ c. search needs)
-    (λ c κs. search needs)
+    (λ c κs. search (rule-whole, needs))
     (λ c. search needs)
     (λ c. search (target-away, needs))
     (λ c. search needs)
