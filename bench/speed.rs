@@ -56,13 +56,13 @@ pub const CASES: [Case; 12] = [
         matcher: PAIRS, pattern: ONE_KIND_TWO_RANKS, target: || pairs(32, |k| (k % 4, k / 4)), budget: u32::MAX },
     Case { name: "T8", about: "pairs, no other of its kind, 32", bar: 602, per: Per::Step,
         matcher: PAIRS, pattern: NO_OTHER_OF_ITS_KIND, target: || pairs(32, |k| (k % 12, k)), budget: u32::MAX },
-    Case { name: "T9", about: "list: join, three conses, 64", bar: 406, per: Per::Step,
+    Case { name: "T9", about: "list: join, three conses, 64", bar: 388, per: Per::Step,
         matcher: LIST, pattern: THREE_IN_A_ROW, target: || units(64, |k| k), budget: u32::MAX },
     Case { name: "T10", about: "twelve hands of six, as multisets", bar: 3275, per: Per::Step,
         matcher: HANDS, pattern: TWO_OF_A_RANK, target: || hands(12), budget: u32::MAX },
-    Case { name: "none", about: "budget 0 on 64 units, whole call", bar: 66_000, per: Per::Call,
+    Case { name: "none", about: "budget 0 on 64 units, whole call", bar: 60_000, per: Per::Call,
         matcher: MULTISET, pattern: TWO_OF_A_RANK, target: || units(64, |_| 7), budget: 0 },
-    Case { name: "P1", about: "two of a rank, {2 8 2}, whole call", bar: 40_600, per: Per::Call,
+    Case { name: "P1", about: "two of a rank, {2 8 2}, whole call", bar: 39_100, per: Per::Call,
         matcher: MULTISET, pattern: TWO_OF_A_RANK, target: || vec![1, 3, 0, 2, 0, 8, 0, 2], budget: u32::MAX },
 ];
 
