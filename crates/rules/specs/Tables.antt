@@ -1,4 +1,4 @@
--- The form of the two tables of cases (Worked, Refusals): a question to a service, the numbers it answers, and the words it leaves in the room.
+-- The form of the tables of cases (Worked and its companions, Refusals): a question to a service, the numbers it answers, and the words it leaves in the room.
 use Prim.Native.Nat.{ℕ, zero, suc, _-_}
 use mathlib.Core.List.{List, [], _∷_, _++_, map}
 use lib.ListN.{length, replicate}
