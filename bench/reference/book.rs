@@ -123,7 +123,7 @@ fn added(book: &mut [u8], used: u32, new: Rule) -> Result<u32, u64> {
 
 fn withdrawn(book: &mut [u8], used: u32, badge: u16) -> Result<u32, u64> {
     let rules = opened(book, used)?;
-    let live = |rule: &Option<Rule>| rule.as_ref().is_some_and(|rule| rule.badge == badge);
+    let live = |rule: &Option<Rule>| matches!(rule, Some(rule) if rule.badge == badge);
     let at = rules.iter().position(live).ok_or(NOT_LIVE)?;
     let mut words = [0; 256];
     let old = block(book, at).unwrap();
@@ -163,8 +163,9 @@ pub fn read(book: &[u8], used: u32, badge: u16, words: &mut [i32]) -> [u64; 6] {
         Ok(rules) => rules,
         Err(answer) => return [answer, 0, 0, 0, 0, 0],
     };
-    let Some(rule) = rules.iter().flatten().find(|rule| rule.badge == badge) else {
-        return [0; 6];
+    let rule = match rules.iter().flatten().find(|rule| rule.badge == badge) {
+        Some(rule) => rule,
+        None => return [0; 6],
     };
     for (word, from) in words.iter_mut().zip(rule.matcher.iter().chain(&rule.pattern)) {
         *word = *from;
