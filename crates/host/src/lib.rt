@@ -1,6 +1,8 @@
 // Document 01, section 1: the border to C. Words cross as slices of i32; the answer's numbers go to a lent slice of bytes.
 use services::matching::match_units;
 use services::review::review;
+use words::casts::wide;
+use words::casts::wide_index;
 ghost use mathlib.Core.Path.{_≡_};
 ghost use Prim.Native.Nat.{_+_, _≤_};
 ghost use lib.ListN.{length};
@@ -44,19 +46,6 @@ fn put_six(out: &mut [u8], a: u64, b: u64, c: u64, d: u64, e: u64, f: u64)
     put_number(out, 40, f);
 }
 
-// Numbers of other widths as they are written.
-fn wide(x: u32) -> u64
-    ensures { λ r. ⌜ r ≡ x ⌝ }
-{
-    x as u64
-}
-
-fn long(x: usize) -> u64
-    ensures { λ r. ⌜ r ≡ x ⌝ }
-{
-    x as u64
-}
-
 // 24 short: the slice for the numbers is too short for them.
 const SHORT: u32 = 24;
 
@@ -88,10 +77,10 @@ pub extern "C" fn lozhbinor_match(
     put_six(
         numbers,
         wide(m.answer),
-        long(m.place),
+        wide_index(m.place),
         m.rows,
         m.steps,
-        long(m.words),
+        wide_index(m.words),
         wide(m.cause),
     );
     m.answer
@@ -110,6 +99,6 @@ pub extern "C" fn lozhbinor_review(
         return SHORT;
     }
     let m = review(matcher, pattern, cap);
-    put_three(numbers, wide(m.answer), long(m.place), m.count);
+    put_three(numbers, wide(m.answer), wide_index(m.place), m.count);
     m.answer
 }

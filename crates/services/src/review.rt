@@ -6,6 +6,7 @@ use review_count::count::tallied;
 use tests::Judgement;
 use tests::rule_refused;
 use words::ENTRIES;
+use words::casts::wide;
 use words::tag_of;
 ghost use mathlib.Core.Path.{_≡_};
 ghost use Rattle.rules.specs.Services.{ruleOf, reviewRule, review};
@@ -22,13 +23,6 @@ pub const CAP: u32 = 9;
 pub const TOO_BIG: u32 = 10;
 
 pub const ALWAYS_TRUE: u32 = 11;
-
-// A tag as a wide number.
-fn wide(x: u32) -> u64
-    ensures { λ r. ⌜ r ≡ x ⌝ }
-{
-    x as u64
-}
 
 // Tests 9 and 10, over the lines of a rule's program.
 fn counted(op: &[u8; ENTRIES], cap: i32) -> Reviewed

@@ -7,6 +7,7 @@ use text_ask::question::read_input;
 use text_print::report::put_report;
 use text_print::report::put_unreadable;
 use text_print::rows::Rest;
+use words::casts::wide;
 ghost use mathlib.Core.Path.{_≡_};
 ghost use Prim.Native.Nat.{_≤_};
 ghost use lib.ListN.{length};
@@ -29,12 +30,6 @@ fn values_of(p: &[i32]) -> u32
         Counted::Number(n) => n,
         Counted::Fault(_) => 0,
     }
-}
-
-fn wide(n: u32) -> u64
-    ensures { λ r. ⌜ r ≡ n ⌝ }
-{
-    n as u64
 }
 
 // One question to match, printed.

@@ -8,8 +8,8 @@ use native.Mathlib.Omega.{arith}
 use lib.Dec.{eqb}
 use lib.ListN.{length, take, drop, length-drop}
 use lib.Seq.{drop-drop, take-all}
-use Rattle.text_ask.specs.Decimal.{onto, split}
-use Rattle.text_ask.specs.Meaning.{before}
+use Rattle.text_number.specs.Decimal.{onto, split}
+use Rattle.text_number.specs.Meaning.{before}
 
 First : ℕ → List ℕ → Type 0
 First c l = before c l < length l → split c l ≡ take (before c l) l ∷ split c (drop (suc (before c l)) l)

@@ -1,5 +1,4 @@
 -- What the trial program reads, to be read in this order.
-pub mod Decimal
 pub mod Question
 -- What the code's own answers stand for.
 pub mod Meaning

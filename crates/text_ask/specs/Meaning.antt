@@ -1,45 +1,19 @@
 -- What the answers of the readers stand for.
-use Prim.Native.Nat.{ℕ, suc, _+_, _-_, _≤_, _<_}
+use Prim.Native.Nat.{ℕ, _+_, _-_, _≤_, _<_}
 use mathlib.Core.Path.{_≡_}
-use mathlib.Core.Bool.{cond}
 use mathlib.Core.Option.{Option, none, some}
-use mathlib.Core.List.{List, [], _∷_}
-use lib.Dec.{eqb}
+use mathlib.Core.List.{List}
 use lib.ListN.{length, take, drop}
-use lib.IntN.{ℤ, pos, negℤ}
+use lib.IntN.{ℤ}
 use Rattle.text_ask.specs.Question.{Limits, Lines, Question, wordsOf}
-use Rattle.text_ask.specs.declared.number.Digits.{Digits}
-use Rattle.text_ask.specs.declared.number.Signed.{Signed}
-use Rattle.text_ask.specs.declared.number.Piece.{Piece}
 use Rattle.text_ask.specs.declared.line.Line.{Line}
 use Rattle.text_ask.specs.declared.line.Bounds.{Bounds}
 use Rattle.text_ask.specs.declared.question.Ends.{Ends}
 use Rattle.text_ask.specs.declared.question.Asked.{Asked}
-use Rattle.text_ask.specs.declared.number.Digits.the-variants as Digits
-use Rattle.text_ask.specs.declared.number.Signed.the-variants as Signed
-use Rattle.text_ask.specs.declared.number.Piece.the-variants as Piece
 use Rattle.text_ask.specs.declared.line.Line.the-variants as Line
 use Rattle.text_ask.specs.declared.line.Bounds.the-variants as Bounds
 use Rattle.text_ask.specs.declared.question.Ends.the-variants as Ends
 use Rattle.text_ask.specs.declared.question.Asked.the-variants as Asked
-
-unfoldable pub ofDigits : Digits → Option ℕ
-ofDigits (Digits.Of n) = some n
-ofDigits Digits.Other = none
-
-unfoldable pub ofSigned : Signed → Option ℤ
-ofSigned (Signed.Plus n) = some (pos n)
-ofSigned (Signed.Minus n) = some (negℤ (pos n))
-ofSigned Signed.Other = none
-
-unfoldable pub ofPiece : Piece → Option ℤ
-ofPiece (Piece.Word w) = some w
-ofPiece Piece.Other = none
-
--- How many bytes stand before the first byte c.
-unfoldable pub before : ℕ → List ℕ → ℕ
-before c [] = 0
-before c (b ∷ bs) = cond (eqb b c) 0 (suc (before c bs))
 
 -- The words of a line stand at the start of a table.
 unfoldable pub ofLine : Line → List ℤ → Option (List ℤ)

@@ -1,23 +1,14 @@
 -- Document 01, section 9: what the trial program's input asks of match.
 use Prim.Native.Nat.{ℕ, _-_, _^_}
-use mathlib.Core.Bool.{Bool}
 use mathlib.Core.Option.{Option, none, some}
 use mathlib.Core.List.{List, [], _∷_}
 use lib.ListN.{length}
-use lib.Dec.{leb, ltb}
-use lib.IntN.{ℤ, pos, negsuc}
-use Rattle.text_ask.specs.Decimal.{newline, space, _then_, given, number, split}
+use lib.Dec.{leb}
+use lib.IntN.{ℤ}
+use Rattle.text_number.specs.Decimal.{newline, space, _then_, given, number, split}
+use Rattle.text_number.specs.Word.{word, atMost}
 
 -- ---- Lines 1 to 3.
-
--- A word is a number from -2,147,483,648 to 2,147,483,647. (`negsuc n` is -(n + 1).)
-unfoldable pub isWord : ℤ → Bool
-isWord (pos n) = ltb n (2 ^ 31)
-isWord (negsuc n) = ltb n (2 ^ 31)
-
-unfoldable pub word : List ℕ → Option ℤ
-unfolding _then_ given number isWord
-word bs = number bs then λ z. given (isWord z) (some z)
 
 unfoldable pub every : {A B : Type 0} → (A → Option B) → List A → Option (List B)
 unfolding _then_
@@ -36,11 +27,6 @@ unfolding _then_ given every word pieces
 wordsOf line = every word (pieces line) then λ ws. given (leb (length ws) 2000) (some ws)
 
 -- ---- Line 4.
-
-unfoldable pub atMost : ℕ → ℤ → Option ℕ
-unfolding given
-atMost most (pos n) = given (leb n most) (some n)
-atMost most (negsuc n) = none
 
 pub record Limits : Type 0 where
   pub budget : ℕ

@@ -1,4 +1,3 @@
 // The trial program's input, read.
 mod line;
-mod number;
 pub mod question;

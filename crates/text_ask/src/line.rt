@@ -1,14 +1,22 @@
 // The lines of the trial program's input.
-use crate::number::Digits;
-use crate::number::Piece;
-use crate::number::find;
-use crate::number::up_to;
-use crate::number::word;
+use text_number::Digits;
+use text_number::Piece;
+use text_number::find;
+use text_number::up_to;
+use text_number::word;
 ghost use mathlib.Core.Path.{_≡_};
 ghost use Prim.Native.Nat.{_≤_};
 ghost use lib.ListN.{length};
 ghost use Rattle.text_ask.specs.Question.{pieces, wordsOf, limits};
 ghost use Rattle.text_ask.specs.Meaning.{ReadWords, ofBounds, RoomFew};
+
+// The words of a line, at most.
+pub const LINE_WORDS: usize = 2000;
+
+const LARGEST_BUDGET: u64 = 4294967295;
+
+// The words of the room, at most.
+pub const LARGEST_ROOM: u64 = 4096;
 
 // How many words a line has.
 pub enum Line {
@@ -33,11 +41,11 @@ pub(crate) fn words_of(t: &[u8], out: &mut [i32]) -> Line
     let mut n: usize = 0;
     let mut at: usize = 0;
     loop {
-        let e = find(t, at, 32);
+        let e = find(t, at, b' ');
         match word(&t[at..e]) {
             Piece::Other => return Line::Other,
             Piece::Word(x) => {
-                if n == 2000 {
+                if n == LINE_WORDS {
                     return Line::Other;
                 }
                 out[n] = x;
@@ -56,16 +64,16 @@ pub(crate) fn bounds_of(t: &[u8]) -> Bounds
     ensures { λ r. ⌜ ofBounds r ≡ limits (pieces (now (t .entry))) ⌝ }
     ensures { λ r. ⌜ RoomFew r ⌝ }
 {
-    let e = find(t, 0, 32);
+    let e = find(t, 0, b' ');
     if e == t.len() {
         return Bounds::Other;
     }
-    let f = find(t, e + 1, 32);
+    let f = find(t, e + 1, b' ');
     if f < t.len() {
         return Bounds::Other;
     }
-    match up_to(&t[0..e], 4294967295) {
-        Digits::Of(budget) => match up_to(&t[e + 1..f], 4096) {
+    match up_to(&t[0..e], LARGEST_BUDGET) {
+        Digits::Of(budget) => match up_to(&t[e + 1..f], LARGEST_ROOM) {
             Digits::Of(room) => Bounds::Of(budget as u32, room as usize),
             Digits::Other => Bounds::Other,
         },

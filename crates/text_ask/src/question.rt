@@ -3,12 +3,15 @@ use crate::line::Bounds;
 use crate::line::Line;
 use crate::line::bounds_of;
 use crate::line::words_of;
-use crate::number::find;
+use text_number::find;
 ghost use mathlib.Core.Path.{_≡_};
 ghost use Prim.Native.Nat.{_≤_};
 ghost use lib.ListN.{length};
 ghost use Rattle.text_ask.specs.Question.{linesOf, question, asked};
 ghost use Rattle.text_ask.specs.Meaning.{Ordered, these, ofEnds, ofAsked, Few};
+
+// The bytes of an input, at most.
+const INPUT_BYTES: usize = 32768;
 
 // Where the four newlines stand.
 pub enum Ends {
@@ -32,22 +35,22 @@ fn ends_of(s: &[u8]) -> Ends
     ensures { λ r. ⌜ ofEnds (now (s .entry)) r ≡ linesOf (now (s .entry)) ⌝ }
     ensures { λ r. ⌜ Ordered (now (s .entry)) r ⌝ }
 {
-    if 32768 < s.len() {
+    if INPUT_BYTES < s.len() {
         return Ends::Other;
     }
-    let a = find(s, 0, 10);
+    let a = find(s, 0, b'\n');
     if a == s.len() {
         return Ends::Other;
     }
-    let b = find(s, a + 1, 10);
+    let b = find(s, a + 1, b'\n');
     if b == s.len() {
         return Ends::Other;
     }
-    let c = find(s, b + 1, 10);
+    let c = find(s, b + 1, b'\n');
     if c == s.len() {
         return Ends::Other;
     }
-    let d = find(s, c + 1, 10);
+    let d = find(s, c + 1, b'\n');
     if d == s.len() {
         return Ends::Other;
     }

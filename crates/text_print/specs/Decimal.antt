@@ -4,7 +4,7 @@ use mathlib.Core.Bool.{cond}
 use mathlib.Core.List.{List, [], _∷_, _++_}
 use lib.Dec.{ltb}
 use lib.IntN.{ℤ, pos, negsuc}
-use Rattle.text_ask.specs.Decimal.{newline, space, minus}
+use Rattle.text_number.specs.Decimal.{newline, space, minus}
 
 -- The last `most` digits of n, and no zeros in front.
 unfoldable pub lastDigits : (most : ℕ) → ℕ → List ℕ

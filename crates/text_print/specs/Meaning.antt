@@ -5,7 +5,7 @@ use mathlib.Core.List.{List, [], _∷_, _++_}
 use lib.ListN.{length, take, drop, replicate}
 use lib.Seq.{sets}
 use lib.IntN.{ℤ, pos}
-use Rattle.text_ask.specs.Decimal.{newline}
+use Rattle.text_number.specs.Decimal.{newline}
 use Rattle.text_print.specs.Decimal.{lineOf}
 use Rattle.text_print.specs.Rows.{cutRows, emptyRows, lines}
 use Rattle.text_print.specs.declared.rows.Rest.{Rest}

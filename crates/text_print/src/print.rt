@@ -1,25 +1,20 @@
 // Numbers and lines, written as decimal text into a lent slice of bytes.
 use words::bits;
+use words::casts::wide;
 ghost use mathlib.Core.Path.{_≡_};
 ghost use mathlib.Core.List.{_∷_};
 ghost use Prim.Native.Nat.{_+_, _*_, _<_, _≤_};
 ghost use lib.ListN.{length};
-ghost use Rattle.text_ask.specs.Decimal.{space};
+ghost use Rattle.text_number.specs.Decimal.{space};
 ghost use Rattle.text_print.specs.Decimal.{decimal, numeral, furtherOf, lineOf};
 ghost use Rattle.text_print.specs.Meaning.{Wrote, sixLine};
-
-pub(crate) fn wide(n: u32) -> u64
-    ensures { λ r. ⌜ r ≡ n ⌝ }
-{
-    n as u64
-}
 
 // The byte of a digit.
 fn digit(d: u64) -> u8
     requires { ⌜ d < 10 ⌝ }
     ensures { λ r. ⌜ r ≡ 48 + d ⌝ }
 {
-    48 + d as u8
+    b'0' + d as u8
 }
 
 pub(crate) fn put_decimal(out: &mut [u8], at: usize, n: u64) -> usize
@@ -44,7 +39,7 @@ pub(crate) fn put_numeral(out: &mut [u8], at: usize, x: i32) -> usize
     if u < 2147483648 {
         return put_decimal(out, at, u);
     }
-    out[at] = 45;
+    out[at] = b'-';
     put_decimal(out, at + 1, 4294967296 - u)
 }
 
@@ -56,11 +51,11 @@ fn put_further(ws: &[i32], out: &mut [u8], at: usize) -> usize
     let mut o = at;
     let mut i: usize = 0;
     while i < ws.len() {
-        out[o] = 32;
+        out[o] = b' ';
         o = put_numeral(out, o + 1, ws[i]);
         i += 1;
     }
-    out[o] = 10;
+    out[o] = b'\n';
     o + 1
 }
 
@@ -80,7 +75,7 @@ fn put_next(out: &mut [u8], at: usize, n: u64) -> usize
     ensures { λ r. ⌜ Wrote (now (out .entry)) (now (out .exit)) at r (space ∷ decimal n) ⌝ }
     ensures { λ r. ⌜ r ≤ at + 21 ⌝ }
 {
-    out[at] = 32;
+    out[at] = b' ';
     put_decimal(out, at + 1, n)
 }
 
@@ -96,6 +91,6 @@ pub(crate) fn put_first(out: &mut [u8], a: u64, b: u64, c: u64, d: u64, e: u64, 
     let j = put_next(out, i, d);
     let k = put_next(out, j, e);
     let l = put_next(out, k, f);
-    out[l] = 10;
+    out[l] = b'\n';
     l + 1
 }

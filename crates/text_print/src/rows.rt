@@ -1,6 +1,6 @@
 // The rows that match wrote one after the other, cut apart and printed.
 use crate::print::put_line;
-use crate::print::wide;
+use words::casts::wide;
 use words::tag_of;
 ghost use mathlib.Core.Path.{_≡_};
 ghost use Prim.Native.Nat.{_+_, _*_, _<_, _≤_};

@@ -3,7 +3,7 @@ use Prim.Native.Nat.{ℕ}
 use mathlib.Core.Path.{_≡_}
 use mathlib.Core.List.{List, _++_}
 use lib.ListN.{take, replicate}
-use Rattle.text_ask.specs.Decimal.{newline}
+use Rattle.text_number.specs.Decimal.{newline}
 use Rattle.trial.specs.declared.Sent.{Sent}
 use Rattle.trial.specs.declared.Sent.the-variants as Sent
 

@@ -6,6 +6,7 @@ use value_places::places::count_at;
 use value_places::places::element;
 use value_places::places::number_at;
 use value_places::places::whole;
+use words::casts::index;
 use words::is_total;
 use words::marks::full;
 use words::marks::lowest;
@@ -31,12 +32,6 @@ pub fn is_sum(s: &[i32], a: usize, c: i32, b: usize) -> bool
     let x = s[a + 1];
     let z = s[b + 1];
     is_total(x, c, z)
-}
-
-fn wide_count(x: u32) -> usize
-    ensures { λ r. ⌜ r ≡ x ⌝ }
-{
-    x as usize
 }
 
 // Two integers.
@@ -115,7 +110,7 @@ fn tuples(mt: &[i32], i: usize, s: &[i32], a: usize, b: usize) -> Level
     if n != m {
         return settled(a, b, false);
     }
-    if wide_count(n) != w {
+    if index(n) != w {
         return settled(a, b, false);
     }
     let x = full(n);

@@ -1,4 +1,5 @@
 // Leaves on words: a signed word as an unsigned tag, the sum of tag 3, and a word's bits. Above them all arithmetic is unsigned.
+pub mod casts;
 pub mod marks;
 
 ghost use mathlib.Core.Path.{_≡_};

@@ -16,16 +16,19 @@ use lib.Seq.{take-suc-set, length-take-le}
 use mir.Syntax.{w32, w64}
 use mir.Val.{Fits, SFits, toZ, ofZ}
 use mir.Facts.{toZ-ofZ}
-use Rattle.text_ask.specs.Decimal.{_then_, given, number, split}
-use Rattle.text_ask.specs.Question.{Limits, limits, atMost, isWord, pieces, every, word, wordsOf}
-use Rattle.text_ask.specs.Meaning.{ofDigits, ofPiece, ofLine, countOf, ofBounds, RoomFew, before}
+use Rattle.text_number.specs.Decimal.{_then_, given, number, split}
+use Rattle.rules.specs.Numbers.{inRange}
+use Rattle.text_number.specs.Word.{atMost, word}
+use Rattle.text_number.specs.Meaning.{ofDigits, ofPiece, before}
+use Rattle.text_ask.specs.Question.{Limits, limits, pieces, every, wordsOf}
+use Rattle.text_ask.specs.Meaning.{ofLine, countOf, ofBounds, RoomFew}
 use Rattle.text_ask.proofs.Pieces.{next-piece, last-piece, some-piece}
-use Rattle.text_ask.specs.declared.number.Digits.{Digits}
-use Rattle.text_ask.specs.declared.number.Piece.{Piece}
+use Rattle.text_number.specs.declared.Digits.{Digits}
+use Rattle.text_number.specs.declared.Piece.{Piece}
 use Rattle.text_ask.specs.declared.line.Line.{Line}
 use Rattle.text_ask.specs.declared.line.Bounds.{Bounds}
-use Rattle.text_ask.specs.declared.number.Digits.the-variants as Digits
-use Rattle.text_ask.specs.declared.number.Piece.the-variants as Piece
+use Rattle.text_number.specs.declared.Digits.the-variants as Digits
+use Rattle.text_number.specs.declared.Piece.the-variants as Piece
 use Rattle.text_ask.specs.declared.line.Line.the-variants as Line
 use Rattle.text_ask.specs.declared.line.Bounds.the-variants as Bounds
 
@@ -119,16 +122,16 @@ empty-line [] out z = refl
 empty-line (b ∷ bs) out z = absurd (omega arith)
 
 -- A word is in the signed range.
-word-by : (z x : ℤ) (t : Bool) → isWord z ≡ t → given t (some z) ≡ some x → mag x < 2 ^ 31
-unfolding given isWord
+word-by : (z x : ℤ) (t : Bool) → inRange z ≡ t → given t (some z) ≡ some x → mag x < 2 ^ 31
+unfolding given inRange
 word-by (pos n) x true e p = let q : x ≡ pos n = cc in let h = ltb-true n (2 ^ 31) e in rw q h
 word-by (negsuc n) x true e p = let q : x ≡ negsuc n = cc in let h = ltb-true n (2 ^ 31) e in rw q h
 word-by z x false e p = let q : _≡_ {A = ℕ} 0 1 = cc in absurd (omega arith)
 
-word-of : (o : Option ℤ) (x : ℤ) → (o then λ z. given (isWord z) (some z)) ≡ some x → mag x < 2 ^ 31
+word-of : (o : Option ℤ) (x : ℤ) → (o then λ z. given (inRange z) (some z)) ≡ some x → mag x < 2 ^ 31
 unfolding _then_
 word-of none x e = let q : _≡_ {A = ℕ} 0 1 = cc in absurd (omega arith)
-word-of (some z) x e = word-by z x (isWord z) refl e
+word-of (some z) x e = word-by z x (inRange z) refl e
 
 word-fits : (s : List ℕ) (p : Piece) (x : ℤ) → ofPiece p ≡ word s → p ≡ Piece.Word x → SFits w32 x
 unfolding word ofPiece

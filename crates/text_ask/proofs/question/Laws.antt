@@ -12,9 +12,10 @@ use lib.ListN.{length, take, drop, length-drop, drop-of-length-le}
 use lib.IntN.{ℤ}
 use mir.Syntax.{w64}
 use mir.Val.{Fits}
-use Rattle.text_ask.specs.Decimal.{_then_, given, onto, split}
+use Rattle.text_number.specs.Decimal.{_then_, given, onto, split}
 use Rattle.text_ask.specs.Question.{Lines, lines, linesOf, question, asked, wordsOf, limits, pieces}
-use Rattle.text_ask.specs.Meaning.{before, part, these, ofLine, countOf, ofBounds, RoomFew, ofEnds, Ordered, ofAsked, Few}
+use Rattle.text_number.specs.Meaning.{before}
+use Rattle.text_ask.specs.Meaning.{part, these, ofLine, countOf, ofBounds, RoomFew, ofEnds, Ordered, ofAsked, Few}
 use Rattle.text_ask.proofs.Pieces.{next-piece, last-piece, some-piece, in-bytes}
 use Rattle.text_ask.specs.declared.line.Line.{Line}
 use Rattle.text_ask.specs.declared.line.Bounds.{Bounds}

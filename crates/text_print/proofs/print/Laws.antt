@@ -16,7 +16,7 @@ use lib.IntN.{ℤ, pos, negsuc}
 use mir.Syntax.{w32, w64}
 use mir.Val.{Fits, SFits, toZ, ofZ, hbits}
 use mir.Facts.{toZ-ofZ}
-use Rattle.text_ask.specs.Decimal.{space}
+use Rattle.text_number.specs.Decimal.{space}
 use Rattle.text_print.specs.Decimal.{lastDigits, decimal, numeral, furtherOf, lineOf}
 use Rattle.text_print.specs.Meaning.{put, Wrote, sixLine}
 use Rattle.text_print.proofs.Written.{same-long, and-then, one-byte, Left, left-all, left-some, left-none}

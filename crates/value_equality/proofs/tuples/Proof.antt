@@ -4,7 +4,7 @@ use Rattle.value_equality.proofs.tuples.Statement.{statement}
 use Rattle.value_equality.proofs.tuples.Tie as tie
 use Rattle.value_equality.proofs.begun.Reads as begun-reads
 use Rattle.value_equality.proofs.settled.Reads as settled-reads
-use Rattle.value_equality.proofs.wide_count.Reads as wide-count-reads
+use Rattle.words.proofs.casts.index.Reads as index-reads
 use Rattle.value_places.proofs.places.count_at.Reads as count-at-reads
 use Rattle.words.proofs.marks.full.Reads as full-reads
 use Rattle.matchers.proofs.width_at.Reads as width-at-reads
@@ -18,7 +18,7 @@ tuples-spec =
     (λ c κs. search tuples-rules)  -- count-at-requires-2
     (λ c κs. search tuples-rules)  -- settled-requires
     (λ c. search tuples-rules)  -- returns
-    (λ c κs. search tuples-rules)  -- wide-count-requires
+    (λ c κs. search tuples-rules)  -- index-requires
     (λ c κs. search tuples-rules)  -- settled-requires-2
     (λ c. search tuples-rules)  -- returns-2
     (λ c κs. search tuples-rules)  -- full-requires

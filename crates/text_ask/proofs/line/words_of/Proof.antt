@@ -2,8 +2,9 @@
 use mathlib.Core.Path.{_≡_}
 use Prim.Native.Nat.{_-_, _≤_}
 use lib.ListN.{length, take, drop}
-use Rattle.text_ask.specs.Decimal.{split}
-use Rattle.text_ask.specs.Question.{every, word}
+use Rattle.text_number.specs.Decimal.{split}
+use Rattle.text_ask.specs.Question.{every}
+use Rattle.text_number.specs.Word.{word}
 use Rattle.text_ask.proofs.line.Laws.{behind, line-rules}
 use Rattle.text_ask.proofs.line.words_of.Statement.{statement}
 use Rattle.text_ask.proofs.line.words_of.Tie as tie

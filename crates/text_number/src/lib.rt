@@ -1,11 +1,12 @@
-// Decimal numbers as bytes, read.
+// Decimal numbers, read from bytes.
+use words::casts::wide_byte;
 use words::of_bits;
 ghost use mathlib.Core.Path.{_≡_};
 ghost use Prim.Native.Nat.{_+_, _≤_};
 ghost use lib.ListN.{length, drop};
-ghost use Rattle.text_ask.specs.Decimal.{_then_, natural as Decimal·natural, number as Decimal·number};
-ghost use Rattle.text_ask.specs.Question.{word as Question·word, atMost};
-ghost use Rattle.text_ask.specs.Meaning.{ofDigits, ofSigned, ofPiece, before};
+ghost use Rattle.text_number.specs.Decimal.{_then_, natural as Decimal·natural, number as Decimal·number};
+ghost use Rattle.text_number.specs.Word.{word as Word·word, atMost};
+ghost use Rattle.text_number.specs.Meaning.{ofDigits, ofSigned, ofPiece, before};
 
 // Digits and nothing else, or something else.
 pub enum Digits {
@@ -24,12 +25,6 @@ pub enum Piece {
     Other,
 }
 
-fn wide(b: u8) -> u64
-    ensures { λ r. ⌜ r ≡ b ⌝ }
-{
-    b as u64
-}
-
 // The number that 1 to 10 digits write.
 fn natural(s: &[u8]) -> Digits
     ensures { λ r. ⌜ ofDigits r ≡ Decimal·natural (now (s .entry)) ⌝ }
@@ -43,7 +38,7 @@ fn natural(s: &[u8]) -> Digits
     let mut n: u64 = 0;
     let mut i: usize = 0;
     while i < s.len() {
-        let b = wide(s[i]);
+        let b = wide_byte(s[i]);
         if b < 48 {
             return Digits::Other;
         }
@@ -63,7 +58,7 @@ fn number(s: &[u8]) -> Signed
     if s.len() == 0 {
         return Signed::Other;
     }
-    if s[0] == 45 {
+    if s[0] == b'-' {
         match natural(&s[1..]) {
             Digits::Of(n) => Signed::Minus(n),
             Digits::Other => Signed::Other,
@@ -77,8 +72,8 @@ fn number(s: &[u8]) -> Signed
 }
 
 // The word that a piece of a line writes.
-pub(crate) fn word(s: &[u8]) -> Piece
-    ensures { λ r. ⌜ ofPiece r ≡ Question·word (now (s .entry)) ⌝ }
+pub fn word(s: &[u8]) -> Piece
+    ensures { λ r. ⌜ ofPiece r ≡ Word·word (now (s .entry)) ⌝ }
 {
     match number(s) {
         Signed::Plus(n) => {
@@ -103,7 +98,7 @@ pub(crate) fn word(s: &[u8]) -> Piece
 }
 
 // The number from 0 to `most` that a piece of a line writes.
-pub(crate) fn up_to(s: &[u8], most: u64) -> Digits
+pub fn up_to(s: &[u8], most: u64) -> Digits
     ensures { λ r. ⌜ ofDigits r ≡ (Decimal·number (now (s .entry)) then atMost most) ⌝ }
 {
     match number(s) {
@@ -120,7 +115,7 @@ pub(crate) fn up_to(s: &[u8], most: u64) -> Digits
 }
 
 // Where the next byte c stands, at or behind an index; or the end.
-pub(crate) fn find(s: &[u8], from: usize, c: u8) -> usize
+pub fn find(s: &[u8], from: usize, c: u8) -> usize
     requires { ⌜ from ≤ length (now s) ⌝ }
     ensures { λ r. ⌜ r ≡ from + before c (drop from (now (s .entry))) ⌝ }
     ensures { λ r. ⌜ (from ≤ r) × (r ≤ length (now (s .entry))) ⌝ }

@@ -16,15 +16,16 @@ use mir.Syntax.{w32, w64}
 use mir.Val.{Fits, toZ}
 use mir.Facts.{toZ-pos, toZ-neg}
 use lib.IntN.{ℤ, pos, negsuc, negℤ}
-use Rattle.text_ask.specs.Decimal.{_then_, given, isDigit, digits, natural, number}
-use Rattle.text_ask.specs.Question.{atMost, isWord, word}
-use Rattle.text_ask.specs.Meaning.{ofDigits, ofSigned, ofPiece, before}
-use Rattle.text_ask.specs.declared.number.Digits.{Digits}
-use Rattle.text_ask.specs.declared.number.Signed.{Signed}
-use Rattle.text_ask.specs.declared.number.Piece.{Piece}
-use Rattle.text_ask.specs.declared.number.Digits.the-variants as Digits
-use Rattle.text_ask.specs.declared.number.Signed.the-variants as Signed
-use Rattle.text_ask.specs.declared.number.Piece.the-variants as Piece
+use Rattle.text_number.specs.Decimal.{_then_, given, isDigit, digits, natural, number}
+use Rattle.text_number.specs.Word.{atMost, word}
+use Rattle.rules.specs.Numbers.{inRange}
+use Rattle.text_number.specs.Meaning.{ofDigits, ofSigned, ofPiece, before}
+use Rattle.text_number.specs.declared.Digits.{Digits}
+use Rattle.text_number.specs.declared.Signed.{Signed}
+use Rattle.text_number.specs.declared.Piece.{Piece}
+use Rattle.text_number.specs.declared.Digits.the-variants as Digits
+use Rattle.text_number.specs.declared.Signed.the-variants as Signed
+use Rattle.text_number.specs.declared.Piece.the-variants as Piece
 
 -- ---- The next byte c.
 
@@ -177,26 +178,26 @@ pub ruleset count-rules = (in-range, over, minus-zero, under, no-count, needs)
 
 module _ (s : List ℕ) (d : Signed) (e : ofSigned d ≡ number s) where
   pub a-word : (n : ℕ) (r : ℤ) → d ≡ Signed.Plus n → n < 2147483648 → r ≡ toZ w32 n → ofPiece (Piece.Word r) ≡ word s
-  unfolding _then_ word isWord given ofSigned ofPiece
+  unfolding _then_ word inRange given ofSigned ofPiece
   a-word n r q h p = rw (← e, q, lt-ltb n 2147483648 h, p, toZ-pos w32 {n = n} h)
 
   pub above-words : (n : ℕ) → d ≡ Signed.Plus n → 2147483648 ≤ n → ofPiece Piece.Other ≡ word s
-  unfolding _then_ word isWord given ofSigned ofPiece
+  unfolding _then_ word inRange given ofSigned ofPiece
   above-words n q h = rw (← e, q, le-ltb n 2147483648 h)
 
   pub zero-word : (n : ℕ) → d ≡ Signed.Minus n → n ≡ 0 → ofPiece (Piece.Word (pos 0)) ≡ word s
-  unfolding _then_ word isWord given ofSigned ofPiece
+  unfolding _then_ word inRange given ofSigned ofPiece
   zero-word n q h = rw (← e, q, h)
 
   pub minus-word : (n : ℕ) (r : ℤ) → d ≡ Signed.Minus n → (n ≡ 0 → ⊥) → n ≤ 2147483648 → r ≡ toZ w32 (4294967296 - n) → ofPiece (Piece.Word r) ≡ word s
-  unfolding _then_ word isWord given ofSigned ofPiece
+  unfolding _then_ word inRange given ofSigned ofPiece
   minus-word zero r q z h p = absurd (z refl)
   minus-word (suc n) r q z h p =
       let o : n < 2147483648 = omega arith in
       rw (← e, q, lt-ltb n 2147483648 o, p, toZ-neg w32 n o)
 
   pub below-words : (n : ℕ) → d ≡ Signed.Minus n → 2147483648 < n → ofPiece Piece.Other ≡ word s
-  unfolding _then_ word isWord given ofSigned ofPiece
+  unfolding _then_ word inRange given ofSigned ofPiece
   below-words zero q h = absurd (omega arith)
   below-words (suc n) q h = let o : 2147483648 ≤ n = omega arith in rw (← e, q, le-ltb n 2147483648 o)
 

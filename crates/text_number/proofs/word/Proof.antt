@@ -1,7 +1,7 @@
--- `text_ask::number::word` meets its contract. Assumes nothing.
-use Rattle.text_ask.proofs.number.Laws.{word-rules}
-use Rattle.text_ask.proofs.number.word.Statement.{statement}
-use Rattle.text_ask.proofs.number.word.Tie as tie
+-- `text_number::word` meets its contract. Assumes nothing.
+use Rattle.text_number.proofs.Laws.{word-rules}
+use Rattle.text_number.proofs.word.Statement.{statement}
+use Rattle.text_number.proofs.word.Tie as tie
 
 pub word-spec : {M : Type 1} → statement M
 word-spec =

@@ -1,7 +1,7 @@
--- `text_ask::number::number` meets its contract. Assumes nothing.
-use Rattle.text_ask.proofs.number.Laws.{number-rules}
-use Rattle.text_ask.proofs.number.number.Statement.{statement}
-use Rattle.text_ask.proofs.number.number.Tie as tie
+-- `text_number::number` meets its contract. Assumes nothing.
+use Rattle.text_number.proofs.Laws.{number-rules}
+use Rattle.text_number.proofs.number.Statement.{statement}
+use Rattle.text_number.proofs.number.Tie as tie
 
 pub number-spec : {M : Type 1} → statement M
 number-spec =

@@ -1,11 +1,11 @@
--- `text_ask::number::find` meets its contract. Assumes nothing.
+-- `text_number::find` meets its contract. Assumes nothing.
 use mathlib.Core.Path.{_≡_}
 use Prim.Native.Nat.{_+_, _-_, _≤_}
 use lib.ListN.{length, drop}
-use Rattle.text_ask.specs.Meaning.{before}
-use Rattle.text_ask.proofs.number.Laws.{find-rules}
-use Rattle.text_ask.proofs.number.find.Statement.{statement}
-use Rattle.text_ask.proofs.number.find.Tie as tie
+use Rattle.text_number.specs.Meaning.{before}
+use Rattle.text_number.proofs.Laws.{find-rules}
+use Rattle.text_number.proofs.find.Statement.{statement}
+use Rattle.text_number.proofs.find.Tie as tie
 
 abbrev Inv-loop : tie.InvT-loop
 Inv-loop s from c i₀ i = (from + before c (drop from s) ≡ i + before c (drop i s)) × (from ≤ i) × (i ≤ length s)

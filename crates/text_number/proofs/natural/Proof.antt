@@ -1,11 +1,11 @@
--- `text_ask::number::natural` meets its contract. Assumes nothing.
+-- `text_number::natural` meets its contract. Assumes nothing.
 use mathlib.Core.Path.{_≡_}
 use Prim.Native.Nat.{_-_, _^_, _≤_, _<_}
 use lib.ListN.{length, drop}
-use Rattle.text_ask.specs.Decimal.{digits}
-use Rattle.text_ask.proofs.number.Laws.{digit-rules}
-use Rattle.text_ask.proofs.number.natural.Statement.{statement}
-use Rattle.text_ask.proofs.number.natural.Tie as tie
+use Rattle.text_number.specs.Decimal.{digits}
+use Rattle.text_number.proofs.Laws.{digit-rules}
+use Rattle.text_number.proofs.natural.Statement.{statement}
+use Rattle.text_number.proofs.natural.Tie as tie
 
 abbrev Inv-loop : tie.InvT-loop
 Inv-loop s n₀ i₀ n i = (digits 0 s ≡ digits n (drop i s)) × (i ≤ length s) × (n < 10 ^ i)

@@ -1,0 +1,2 @@
+-- What the proofs of the crate use.
+pub mod Laws
