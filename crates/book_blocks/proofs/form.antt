@@ -1,0 +1,2 @@
+-- What the tests of one block use.
+pub mod Forms

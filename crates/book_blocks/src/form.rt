@@ -1,0 +1,133 @@
+// The refusals 12 to 15 of one block by itself. A block begins at a byte's index; its words stand two bytes apart.
+use crate::BLOCK;
+use book_words::are_zero;
+use book_words::is_checked;
+use book_words::long;
+use book_words::read_words;
+use book_words::word_at;
+use tests::Judgement;
+use tests::rule_refused;
+ghost use mathlib.Core.Path.{_≡_};
+ghost use mathlib.Core.List.{[]};
+ghost use Prim.Native.Nat.{_+_, _-_, _*_, _≤_};
+ghost use lib.ListN.{length, take, drop};
+ghost use Rattle.book_rules.specs.Blocks.{joined, lengthIn, dialectIn, known, isRule, liveFormed, formed, badgeOf, verdict};
+ghost use Rattle.book_rules.specs.Bytes.{wordsFrom, blockAt};
+
+pub const CHECK: u32 = 12;
+
+pub const NUMBER: u32 = 13;
+
+pub const VERSION: u32 = 14;
+
+pub const FORM: u32 = 15;
+
+// The most words of a rule, matcher and pattern together.
+pub const LONGEST: usize = 124;
+
+// The versions that there are.
+pub fn is_known(version: u16) -> bool
+    ensures { λ r. ⌜ r ≡ known version ⌝ }
+{
+    if version == 1 {
+        return true;
+    }
+    version == 2
+}
+
+// The matcher's length in word 4: version 2 has the dialect in its top bit.
+pub fn length_in(version: u16, w: u16) -> usize
+    ensures { λ r. ⌜ r ≡ lengthIn version w ⌝ }
+{
+    if version == 2 {
+        return long(w % 32768);
+    }
+    long(w)
+}
+
+// Review's 1 to 4.
+pub fn is_rule(matcher: &[i32], pattern: &[i32]) -> bool
+    ensures { λ r. ⌜ r ≡ isRule (now (matcher .entry)) (now (pattern .entry)) ⌝ }
+{
+    match rule_refused(matcher, pattern) {
+        Judgement::Accepted => true,
+        Judgement::Refused(_, _) => false,
+    }
+}
+
+// The same of n words, of which the matcher has m.
+fn is_rule_in(words: &[i32], m: usize, n: usize) -> bool
+    requires { ⌜ m ≤ n ⌝ ∗ ⌜ n ≤ length (now words) ⌝ }
+    ensures { λ r. ⌜ r ≡ isRule (take m (now (words .entry))) (take (n - m) (drop m (now (words .entry)))) ⌝ }
+{
+    is_rule(&words[..m], &words[m..n])
+}
+
+// The same of n signed words in lent bytes.
+fn is_rule_at(s: &[u8], at: usize, m: usize, n: usize) -> bool
+    requires { ⌜ m ≤ n ⌝ ∗ ⌜ n ≤ 124 ⌝ ∗ ⌜ at + 4 * n ≤ length (now s) ⌝ }
+    ensures { λ r. ⌜ r ≡ isRule (take m (joined n (wordsFrom (now (s .entry)) at (2 * n)))) (drop m (joined n (wordsFrom (now (s .entry)) at (2 * n)))) ⌝ }
+{
+    let mut words = [0i32; LONGEST];
+    read_words(s, at, n, &mut words);
+    is_rule_in(&words, m, n)
+}
+
+// The form of a live block: its lengths, its unused words, its rule.
+fn is_live_formed(s: &[u8], at: usize) -> bool
+    requires { ⌜ at + 512 ≤ length (now s) ⌝ }
+    ensures { λ r. ⌜ r ≡ liveFormed (wordsFrom (now (s .entry)) at 256) ⌝ }
+{
+    let n = long(word_at(s, at + 6));
+    if LONGEST < n {
+        return false;
+    }
+    let m = length_in(word_at(s, at + 2), word_at(s, at + 8));
+    if n < m {
+        return false;
+    }
+    if !are_zero(s, at + 10 + 4 * n, 249 - 2 * n) {
+        return false;
+    }
+    is_rule_at(s, at + 10, m, n)
+}
+
+// 15 of a block by itself; a withdrawn one is zero up to its check.
+fn is_formed(s: &[u8], at: usize) -> bool
+    requires { ⌜ at + 512 ≤ length (now s) ⌝ }
+    ensures { λ r. ⌜ r ≡ formed (wordsFrom (now (s .entry)) at 256) ⌝ }
+{
+    if word_at(s, at + 4) == 0 {
+        return are_zero(s, at + 6, 251);
+    }
+    is_live_formed(s, at)
+}
+
+// 12 to 15 of block k by itself, whatever stands before it; 0 where it is good.
+pub fn own_fault(s: &[u8], k: usize) -> u32
+    requires { ⌜ 512 * k + 512 ≤ length (now s) ⌝ }
+    ensures { λ r. ⌜ r ≡ verdict k [] (blockAt (now (s .entry)) k) ⌝ }
+{
+    let at = BLOCK * k;
+    if !is_checked(s, at) {
+        return CHECK;
+    }
+    if long(word_at(s, at)) != k {
+        return NUMBER;
+    }
+    if !is_known(word_at(s, at + 2)) {
+        return VERSION;
+    }
+    if !is_formed(s, at) {
+        return FORM;
+    }
+    0
+}
+
+// The badge number of block k: 0 where it is withdrawn.
+pub fn badge_of(s: &[u8], k: usize) -> u16
+    requires { ⌜ 512 * k + 512 ≤ length (now s) ⌝ }
+    ensures { λ r. ⌜ r ≡ badgeOf (blockAt (now (s .entry)) k) ⌝ }
+{
+    word_at(s, BLOCK * k + 4)
+}

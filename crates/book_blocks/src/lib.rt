@@ -1,0 +1,5 @@
+// Document 02, No. 7: one block of a book, tested, read and written.
+pub mod form;
+
+// A block's bytes.
+pub const BLOCK: usize = 512;
