@@ -2,11 +2,11 @@
 use crate::BLOCK;
 use book_words::are_zero;
 use book_words::is_checked;
-use book_words::long;
 use book_words::read_words;
 use book_words::word_at;
 use tests::Judgement;
 use tests::rule_refused;
+use words::casts::half_index;
 ghost use mathlib.Core.Path.{_≡_};
 ghost use mathlib.Core.List.{[]};
 ghost use Prim.Native.Nat.{_+_, _-_, _*_, _≤_};
@@ -40,9 +40,9 @@ pub fn length_in(version: u16, w: u16) -> usize
     ensures { λ r. ⌜ r ≡ lengthIn version w ⌝ }
 {
     if version == 2 {
-        return long(w % 32768);
+        return half_index(w % 32768);
     }
-    long(w)
+    half_index(w)
 }
 
 // Review's 1 to 4.
@@ -78,7 +78,7 @@ fn is_live_formed(s: &[u8], at: usize) -> bool
     requires { ⌜ at + 512 ≤ length (now s) ⌝ }
     ensures { λ r. ⌜ r ≡ liveFormed (wordsFrom (now (s .entry)) at 256) ⌝ }
 {
-    let n = long(word_at(s, at + 6));
+    let n = half_index(word_at(s, at + 6));
     if LONGEST < n {
         return false;
     }
@@ -112,7 +112,7 @@ pub fn own_fault(s: &[u8], k: usize) -> u32
     if !is_checked(s, at) {
         return CHECK;
     }
-    if long(word_at(s, at)) != k {
+    if half_index(word_at(s, at)) != k {
         return NUMBER;
     }
     if !is_known(word_at(s, at + 2)) {

@@ -28,12 +28,6 @@ fn wide(x: u16) -> u32
     x as u32
 }
 
-pub fn long(x: u16) -> usize
-    ensures { λ r. ⌜ r ≡ x ⌝ }
-{
-    x as usize
-}
-
 // The word at a byte's index.
 pub fn word_at(s: &[u8], at: usize) -> u16
     requires { ⌜ at + 2 ≤ length (now s) ⌝ }
