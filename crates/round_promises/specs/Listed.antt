@@ -1,0 +1,95 @@
+-- A round as the list of what it takes up: each state with the states that follow from it, a not with all states of the search inside it. The proofs go over
+-- this form; Told shows that it is the definitions'.
+use Prim.Native.Nat.{ℕ, zero, suc, _-_}
+use mathlib.Core.Bool.{true, false}
+use mathlib.Core.List.{List, [], _∷_, _++_, flatMap}
+use lib.ListN.{length}
+use lib.Dec.{leb}
+use Rattle.rules.specs.Forms.{Matcher, Value}
+use Rattle.rules.specs.Forms.{Pattern, wildcard, variable, constant, value, nil, cons, join, tuple, both, either, never}
+use Rattle.rules.specs.Equality.{Bindings}
+use Rattle.rules.specs.Search.{Atom, atom, endOfNot, State, state, dropIf, after, row, Run, stopped, step, rowStep}
+use Rattle.rules.specs.Following.{noSolution, solve}
+use Rattle.round_rules.specs.Rounds.{Branch, branch, remainders, waiting}
+use Rattle.promises.specs.Trace.{Taken, passed, found, trace}
+use Rattle.promises.specs.Nots.{inner}
+
+-- ---- One state is taken up.
+
+-- What is taken up with it, in order, each a step; and the states that follow from it.
+pub record Step : Type 0 where
+  pub taken : List Taken
+  pub next : List State
+
+-- A state with an atom that is no not is one step.
+unfoldable pub one : List State → Step
+one ss = record { taken = passed ∷ []; next = ss }
+
+-- A not is taken up whole: its own state and those of the search inside it, which is depth-first, ends at its first row and writes nothing. "One state
+-- if p has no good way from the bindings held, else none."
+unfoldable pub whole : Pattern → Matcher → Value → (older : List Atom) → Bindings → Step
+unfolding trace solve noSolution dropIf
+whole p m v older e = record { taken = passed ∷ trace (inner p m v e ∷ []); next = dropIf (noSolution (solve p m v e)) older e }
+
+unfoldable pub upAtom : Pattern → Matcher → Value → (older : List Atom) → Bindings → Step
+unfolding one whole after
+upAtom wildcard m v older e = one (after wildcard m v older e)
+upAtom (variable x) m v older e = one (after (variable x) m v older e)
+upAtom (constant c) m v older e = one (after (constant c) m v older e)
+upAtom (value x c) m v older e = one (after (value x c) m v older e)
+upAtom nil m v older e = one (after nil m v older e)
+upAtom (cons p q) m v older e = one (after (cons p q) m v older e)
+upAtom (join p q) m v older e = one (after (join p q) m v older e)
+upAtom (tuple ps) m v older e = one (after (tuple ps) m v older e)
+upAtom (both p q) m v older e = one (after (both p q) m v older e)
+upAtom (either p q) m v older e = one (after (either p q) m v older e)
+upAtom (never p) m v older e = whole p m v older e
+
+-- (A endOfNot stands only inside a not, so in no state of a round.)
+unfoldable pub up : State → Step
+unfolding one upAtom
+up (state g [] e) = record { taken = found e ∷ []; next = [] }
+up (state g (endOfNot ∷ older) e) = one []
+up (state g (atom p m v ∷ older) e) = upAtom p m v older e
+
+-- ---- A round.
+
+-- What a round takes up: the first state of each list, in the order of the lists.
+unfoldable pub round : List Branch → List Taken
+unfolding flatMap up
+round bs = flatMap (λ b. up (b .first) .taken) bs
+
+-- The lists after it: the new ones, and then the remainders.
+unfoldable pub fresh : List Branch → List Branch
+unfolding flatMap up branch
+fresh bs = flatMap (λ b. branch (up (b .first) .next)) bs
+
+unfoldable pub onward : List Branch → List Branch
+unfolding fresh remainders
+onward bs = fresh bs ++ remainders bs
+
+-- ---- A run.
+
+-- States are taken up in order, by a budget and with `free` words of the room left; `rest` comes after them, with the budget and the words left then.
+unfoldable pub through : (budget : ℕ) → List Taken → (free : ℕ) → (rest : ℕ → ℕ → Run) → Run
+unfolding stopped step rowStep row
+through n [] free rest = rest n free
+through zero (t ∷ ts) free rest = stopped 7 0
+through (suc n) (passed ∷ ts) free rest = step (through n ts free rest)
+through (suc n) (found e ∷ ts) free rest = elim (leb (length (row e)) free) [
+  | true ↦ rowStep (row e) (through n ts (free - length (row e)) rest)
+  | false ↦ stopped 8 1
+]
+
+-- At most `rounds` rounds. 0: no state remains. 7: the budget is used up and states remain, "also where the budget ends with a round". 21: the round would
+-- begin with more than `limit` waiting states.
+unfoldable pub byLists : (rounds limit budget : ℕ) → List Branch → (free : ℕ) → Run
+unfolding stopped waiting through round onward
+byLists zero limit n [] free = stopped 0 0
+byLists zero limit n (b ∷ bs) free = stopped 7 0
+byLists (suc r) limit n [] free = stopped 0 0
+byLists (suc r) limit zero (b ∷ bs) free = stopped 7 0
+byLists (suc r) limit (suc n) (b ∷ bs) free = elim (leb (waiting (b ∷ bs)) limit) [
+  | true ↦ through (suc n) (round (b ∷ bs)) free (λ left room. byLists r limit left (onward (b ∷ bs)) room)
+  | false ↦ stopped 21 0
+]

@@ -1,0 +1,160 @@
+-- Document 02, No. 10, as theorems about its definitions. Each is stated here and proved elsewhere; what it assumes stands before its arrows. The words that
+-- the statements use are defined in the crate round_rules (byRounds, inside, waiting, limitOf, matchRounds) and here in Listed (onward: the lists after a
+-- round; byLists), Order (later: the lists after some rounds; firstRounds: what these take up), Runs (Overfull), Answers (Ran), Whole (beginning, inRounds:
+-- all states in the order of the rounds; searchOf, Alike), Permutations (Rearranged); in promises in Matching (states, ways), Solve (founds), Budget (Full, report).
+use Prim.Native.Nat.{ℕ, suc, _*_, _≤_, _<_}
+use mathlib.Core.Path.{_≡_, sym, _∙_}
+use mathlib.Core.Logic.{_⊎_, _↔_}
+use mathlib.Core.Bool.{false}
+use mathlib.Core.List.{List, [], _∷_, _++_, map, flatMap}
+use lib.ListN.{length, take, drop}
+use lib.IntN.{ℤ}
+use Rattle.rules.specs.Forms.{Matcher, Pattern, never, Value}
+use Rattle.rules.specs.Equality.{Bindings}
+use Rattle.rules.specs.Search.{Atom, state, after, row}
+use Rattle.rules.specs.Ways.{Way, Follows}
+use Rattle.rules.specs.Review.{factor}
+use Rattle.rules.specs.Services.{accepted, Rule, ruleOf, targetOf, Matched, carriedOut, match}
+use Rattle.forms.specs.Written.{variableTags, largest}
+use Rattle.forms.specs.Faults.{Fault, Sane, sane-exactly}
+use Rattle.promises.specs.Solve.{founds}
+use Rattle.promises.specs.Budget.{report, Full}
+use Rattle.promises.specs.Reviewing.{countOf}
+use Rattle.promises.specs.Matching.{states, ways}
+use Rattle.round_rules.specs.Rounds.{Branch, spent, left, inside, byRounds, limitOf, statesIn, matchRounds}
+use Rattle.round_promises.specs.Listed.{onward, byLists}
+use Rattle.round_promises.specs.Told.{run-told}
+use Rattle.round_promises.specs.Permutations.{Rearranged}
+use Rattle.round_promises.specs.Order.{later, firstRounds, all, round-less}
+use Rattle.round_promises.specs.Runs.{Overfull}
+use Rattle.round_promises.specs.Answers.{Ran, outcome}
+use Rattle.round_promises.specs.Whole.{searchOf, short-of, none-follows, one-follows, beginning, inRounds, states-rearranged, rows-rearranged, steps-same}
+use Rattle.round_promises.specs.Whole.{rounds-end, turned-alike, limit-over, table-over, table-stands, full-stands, defined, answer-0, answer-7, answer-8}
+use Rattle.round_promises.specs.Whole.{answer-21, first-found, steps-bounded, rows-bounded, only-table, Alike, alike}
+
+-- ---- Determined: two results that the definition allows agree in every number and every word of the room.
+
+pub rounds-determined : (ms ps ts : List ℤ) (table budget : ℕ) (room : List ℤ) (x y : Matched)
+    → x ≡ matchRounds ms ps ts table budget room → y ≡ matchRounds ms ps ts table budget room → x ≡ y
+rounds-determined ms ps ts table budget room x y p q = p ∙ sym q
+
+-- ---- A not is taken up whole, its states counted at once: "one state if p has no good way from the bindings held, else none".
+
+module _ (p : Pattern) (m : Matcher) (v : Value) (older : List Atom) (e : Bindings) (n : ℕ) where
+  pub not-without-way : ((w : Way) (d : Bindings) → Follows p m v e w d → ⊥) → length (searchOf p m v e) ≤ n
+      → inside n (after (never p) m v older e) ≡ left (length (searchOf p m v e)) (state false older e ∷ [])
+  not-without-way h = one-follows p m v older e h n
+
+  pub not-with-way : (w : Way) (d : Bindings) → Follows p m v e w d → length (searchOf p m v e) ≤ n
+      → inside n (after (never p) m v older e) ≡ left (length (searchOf p m v e)) []
+  not-with-way w d f = none-follows p m v older e w d f n
+
+  pub not-with-budget-spent : n < length (searchOf p m v e) → inside n (after (never p) m v older e) ≡ spent
+  not-with-budget-spent = short-of p m v older e n
+
+-- ---- The lists that the statements below speak of are the definition's; what is still to be taken up falls with every round, so it ends.
+
+pub as-listed : (rounds limit n : ℕ) (bs : List Branch) (free : ℕ) → byRounds rounds limit n bs free ≡ byLists rounds limit n bs free
+as-listed = run-told
+
+pub falls : (b : Branch) (bs : List Branch) → length (all (onward (b ∷ bs))) < length (all (b ∷ bs))
+falls = round-less
+
+module _ (r : Rule) (v : Value) where
+  -- No list is left after as many rounds as the depth-first search has states.
+  pub ends : later (length (states r v)) (beginning r v) ≡ []
+  ends = rounds-end r v
+
+  -- ---- "Its rows are a rearrangement of the depth-first rows and its steps are the same number."
+
+  -- All states in the order of the rounds are those of the depth-first order, rearranged.
+  pub order-rearranges : Rearranged (states r v) (inRounds r v)
+  order-rearranges = states-rearranged r v
+
+  -- "Every good way is there."
+  pub every-way-is-there : Rearranged (map (λ s. s .bound) (ways r v)) (founds (inRounds r v))
+  every-way-is-there = rows-rearranged r v
+
+  pub as-many-steps : length (inRounds r v) ≡ length (states r v)
+  as-many-steps = steps-same r v
+
+-- ---- Match by rounds.
+
+-- "More than 256 waiting states or more than the lent table holds at a fixed size of a state."
+pub limit-is : (size words w : ℕ) → 0 < size → limitOf (statesIn size words) < w ↔ (256 < w) ⊎ (words < w * size)
+limit-is = table-over
+
+-- Answers 1 to 6 as before.
+pub refused-alike : (ms ps ts : List ℤ) (table budget : ℕ) (room : List ℤ) (a i : ℕ) → Fault ms ps ts a i
+    → matchRounds ms ps ts table budget room ≡ match ms ps ts budget room
+refused-alike = turned-alike
+
+module _ (ms ps ts : List ℤ) (r : Rule) (v : Value) (rule : ruleOf ms ps ≡ accepted r) (target : targetOf (r .matcher) ts ≡ accepted v) where
+  sane : Sane ms ps ts r v
+  sane = sane-exactly ms ps ts r v .0 (rule, target)
+
+  -- Where neither budget, room nor table stops it, and the depth-first run is not stopped.
+  pub rows-and-steps : (n : ℕ) (roomX : List ℤ) (table k : ℕ) (roomY : List ℤ)
+      → (match ms ps ts n roomX) .answer ≡ 0 → (matchRounds ms ps ts table k roomY) .answer ≡ 0
+      → Alike (match ms ps ts n roomX) (matchRounds ms ps ts table k roomY) roomX roomY
+  rows-and-steps = alike ms ps ts r v sane
+
+  module _ (table budget : ℕ) (room : List ℤ) where
+    abbrev it : Matched
+    it = matchRounds ms ps ts table budget room
+
+    abbrev free : ℕ
+    free = length room
+
+    abbrev limit : ℕ
+    limit = limitOf table
+
+    pub match-is : it ≡ carriedOut (byRounds budget limit budget (beginning r v) free) room
+    match-is = defined ms ps ts table budget room r v sane
+
+    -- At every budget it has taken up the first states of the rounds' order: all, as many as the budget, those up to the first whose row does not fit, or
+    -- those of the rounds before the one that the table does not hold; and what is written are their rows.
+    pub at-every-budget : Ran limit budget (beginning r v) free
+    at-every-budget = outcome limit budget (beginning r v) free
+
+    -- The rows stand whole from the start of the room, in the order of the rounds, and every word after them is untouched.
+    pub room-holds : (it .rows ≤ length (founds (inRounds r v))) × (it .room ≡ flatMap row (take (it .rows) (founds (inRounds r v))) ++ drop (it .words) room)
+    room-holds = first-found ms ps ts table budget room r v sane
+
+    -- ---- "21, table, exactly when a round would begin with more than 256 waiting states or more than the lent table holds", "7 and 8 come first".
+
+    pub table-exactly : it .answer ≡ 21 ↔ Overfull limit budget free (beginning r v)
+    table-exactly = answer-21 ms ps ts table budget room r v sane
+
+    -- "After the rows of the rounds before."
+    pub table-is : (o : Overfull limit budget free (beginning r v))
+        → it ≡ carriedOut (report 21 (length (firstRounds (o .rounds) (beginning r v))) (firstRounds (o .rounds) (beginning r v))) room
+    table-is = table-stands ms ps ts table budget room r v sane
+
+    pub done-exactly : it .answer ≡ 0
+        ↔ ((length (inRounds r v) ≤ budget) × (Full budget free (inRounds r v) → ⊥)) × (Overfull limit budget free (beginning r v) → ⊥)
+    done-exactly = answer-0 ms ps ts table budget room r v sane
+
+    pub budget-exactly : it .answer ≡ 7
+        ↔ ((budget < length (inRounds r v)) × (Full budget free (inRounds r v) → ⊥)) × (Overfull limit budget free (beginning r v) → ⊥)
+    budget-exactly = answer-7 ms ps ts table budget room r v sane
+
+    pub full-exactly : it .answer ≡ 8 ↔ Full budget free (inRounds r v) × (Overfull limit budget free (beginning r v) → ⊥)
+    full-exactly = answer-8 ms ps ts table budget room r v sane
+
+    pub full-is : (Overfull limit budget free (beginning r v) → ⊥) → (f : Full budget free (inRounds r v))
+        → it ≡ carriedOut (report 8 (suc (length (f .before))) (f .before)) room
+    full-is = full-stands ms ps ts table budget room r v sane
+
+    -- ---- "And demand 3 apart from 21."
+
+    module _ (cap : ℕ) (small : largest v ≤ cap) where
+      pub steps-at-most : it .steps ≤ countOf cap r
+      steps-at-most = steps-bounded ms ps ts table budget room r v sane cap small
+
+      pub rows-at-most : it .rows ≤ factor cap 0 (r .pattern) (r .matcher)
+      rows-at-most = rows-bounded ms ps ts table budget room r v sane cap small
+
+      pub enough : countOf cap r ≤ budget → factor cap 0 (r .pattern) (r .matcher) * variableTags (r .pattern) * length ts ≤ length room
+          → (it .answer ≡ 0) ⊎ (it .answer ≡ 21)
+      enough = only-table ms ps ts table budget room r v sane cap small

@@ -1,0 +1,158 @@
+-- Document 02, No. 10: the other search order. "A list of state lists; in a round each list gives up its first state; the states that follow from them
+-- form new lists, which come first, in order, and then the remainders, in order."
+use Prim.Native.Nat.{ℕ, zero, suc, _+_, _-_, _/_, min}
+use mathlib.Core.Bool.{Bool, true, false, _||_}
+use mathlib.Core.List.{List, [], _∷_, _++_, map, flatMap}
+use lib.ListN.{length}
+use lib.Dec.{leb}
+use lib.IntN.{ℤ}
+use Rattle.rules.specs.Forms.{Value}
+use Rattle.rules.specs.Search.{Atom, atom, endOfNot, State, state, after, leaveNot, start, row, Run, stopped, step, rowStep}
+use Rattle.rules.specs.Services.{Rule, Judged, accepted, refused, ruleOf, targetOf, Matched, turnedAway, carriedOut, causeIn}
+
+-- ---- Lists of states.
+
+-- A list of states that is not empty.
+pub record Branch : Type 0 where
+  pub first : State
+  pub others : List State
+
+-- "Empty lists vanish."
+unfoldable pub branch : List State → List Branch
+branch [] = []
+branch (s ∷ ss) = record { first = s; others = ss } ∷ []
+
+-- What is left of the lists that have given up their first state.
+unfoldable pub remainders : List Branch → List Branch
+unfolding flatMap branch
+remainders bs = flatMap (λ b. branch (b .others)) bs
+
+-- The states that wait: all states in all lists.
+unfoldable pub states : List Branch → List State
+unfolding flatMap
+states bs = flatMap (λ b. b .first ∷ b .others) bs
+
+unfoldable pub waiting : List Branch → ℕ
+unfolding states
+waiting bs = length (states bs)
+
+-- ---- A not is taken up whole. The search inside it is depth-first, ends at its first row and writes nothing; its states count as steps at once.
+
+-- The mark is on the state that waits behind a search inside a not; while it stands behind another, that search goes on.
+unfoldable pub marked : State → Bool
+marked (state g older e) = g
+
+unfoldable pub anyMarked : List State → Bool
+unfolding marked
+anyMarked [] = false
+anyMarked (s ∷ ss) = marked s || anyMarked ss
+
+unfoldable pub searching : List State → Bool
+unfolding anyMarked
+searching [] = false
+searching (s ∷ ss) = anyMarked ss
+
+-- The first state is taken up, depth-first.
+unfoldable pub onFirst : List State → List State
+unfolding after leaveNot
+onFirst [] = []
+onFirst (state g [] e ∷ ss) = ss
+onFirst (state g (endOfNot ∷ older) e ∷ ss) = leaveNot ss
+onFirst (state g (atom p m v ∷ older) e ∷ ss) = after p m v older e ++ ss
+
+unfoldable pub unmarked : State → State
+unmarked (state g older e) = state false older e
+
+-- The search inside, by a budget: the budget ends within it; or it is left after so many steps, and these states follow.
+pub data Inside : Type 0 where
+  spent : Inside
+  left : (steps : ℕ) (next : List State) → Inside
+
+unfoldable pub oneMore : Inside → Inside
+oneMore spent = spent
+oneMore (left k ss) = left (suc k) ss
+
+unfoldable pub inside : (budget : ℕ) → List State → Inside
+unfolding searching onFirst unmarked oneMore
+inside zero ss = elim (searching ss) [ true ↦ spent | false ↦ left 0 (map unmarked ss) ]
+inside (suc n) ss = elim (searching ss) [ true ↦ oneMore (inside n (onFirst ss)) | false ↦ left 0 (map unmarked ss) ]
+
+-- ---- A state is taken up.
+
+-- Some steps before what comes.
+unfoldable pub steps : ℕ → Run → Run
+steps k r = record { answer = r .answer; rows = r .rows; steps = k + r .steps; written = r .written }
+
+-- After a search inside, with the budget n before it: 7 where the budget ended within it, else what comes `next`, with the budget, the states that follow and
+-- the words then left.
+unfoldable pub past : (n : ℕ) → Inside → (free : ℕ) → (next : ℕ → List State → ℕ → Run) → Run
+unfolding stopped steps
+past n spent free next = stopped 7 n
+past n (left k ss) free next = steps k (next (n - k) ss free)
+
+-- With the budget n after its own step. The end of a search inside a not stands in no state of a round.
+unfoldable pub takeUp : (n : ℕ) → State → (free : ℕ) → (next : ℕ → List State → ℕ → Run) → Run
+unfolding stopped step rowStep row after inside past
+takeUp n (state g [] e) free next = elim (leb (length (row e)) free) [
+  | true ↦ rowStep (row e) (next n [] (free - length (row e)))
+  | false ↦ stopped 8 1
+]
+takeUp n (state g (endOfNot ∷ older) e) free next = step (next n [] free)
+takeUp n (state g (atom p m v ∷ older) e) free next = step (past n (inside n (after p m v older e)) free next)
+
+-- ---- A round: the first state of each list, in the order of the lists; `new` are the new lists so far. `rest` comes after it, with the budget, all new
+-- lists and the words then left.
+
+unfoldable pub takeRound : (budget : ℕ) → (lists new : List Branch) → (free : ℕ) → (rest : ℕ → List Branch → ℕ → Run) → Run
+unfolding stopped branch takeUp
+takeRound zero [] new free rest = rest 0 new free
+takeRound zero (b ∷ bs) new free rest = stopped 7 0
+takeRound (suc n) [] new free rest = rest (suc n) new free
+takeRound (suc n) (b ∷ bs) new free rest = takeUp n (b .first) free (λ left ss room. takeRound left bs (new ++ branch ss) room rest)
+
+-- ---- A run.
+
+-- At most `rounds` rounds. 0: no state remains. 7: the budget is used up and states remain, "also where the budget ends with a round". 21: the round would
+-- begin with more than `limit` waiting states.
+unfoldable pub byRounds : (rounds limit budget : ℕ) → List Branch → (free : ℕ) → Run
+unfolding stopped waiting takeRound remainders
+byRounds zero limit n [] free = stopped 0 0
+byRounds zero limit n (b ∷ bs) free = stopped 7 0
+byRounds (suc r) limit n [] free = stopped 0 0
+byRounds (suc r) limit zero (b ∷ bs) free = stopped 7 0
+byRounds (suc r) limit (suc n) (b ∷ bs) free = elim (leb (waiting (b ∷ bs)) limit) [
+  | true ↦ takeRound (suc n) (b ∷ bs) [] free (λ left new room. byRounds r limit left (new ++ remainders (b ∷ bs)) room)
+  | false ↦ stopped 21 0
+]
+
+-- "More than 256 waiting states or more than the lent table holds."
+abbrev pub waitingLimit : ℕ
+waitingLimit = 256
+
+unfoldable pub limitOf : (table : ℕ) → ℕ
+limitOf table = min waitingLimit table
+
+-- What a lent table holds "at a fixed size of a state".
+unfoldable pub statesIn : (size words : ℕ) → ℕ
+statesIn size words = words / size
+
+-- Each round takes a step, so that the budget bounds the rounds too.
+unfoldable pub runRounds : (table budget : ℕ) → List State → (free : ℕ) → Run
+unfolding byRounds branch limitOf
+runRounds table n ss free = byRounds n (limitOf table) n (branch ss) free
+
+-- ---- The service: match in the other order, with a table that holds `table` states.
+
+unfoldable pub roundsTarget : (table budget : ℕ) (room : List ℤ) (ts : List ℤ) → Rule → Judged Value → Matched
+unfolding turnedAway carriedOut causeIn runRounds start
+roundsTarget table budget room ts r (refused a i) = turnedAway a i (causeIn a ts) room
+roundsTarget table budget room ts r (accepted v) = carriedOut (runRounds table budget (start (r .matcher) (r .pattern) v ∷ []) (length room)) room
+
+unfoldable pub roundsRule : (table budget : ℕ) (room : List ℤ) (ts : List ℤ) → Judged Rule → Matched
+unfolding turnedAway roundsTarget targetOf
+roundsRule table budget room ts (refused a i) = turnedAway a i 0 room
+roundsRule table budget room ts (accepted r) = roundsTarget table budget room ts r (targetOf (r .matcher) ts)
+
+unfoldable pub matchRounds : (ms ps ts : List ℤ) (table budget : ℕ) (room : List ℤ) → Matched
+unfolding roundsRule ruleOf
+matchRounds ms ps ts table budget room = roundsRule table budget room ts (ruleOf ms ps)
