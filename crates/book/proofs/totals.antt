@@ -1,0 +1,2 @@
+-- What the total uses.
+pub mod Counting

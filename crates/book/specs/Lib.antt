@@ -1,0 +1,3 @@
+-- What the calls on a book compute, over the lent bytes.
+pub mod Testing
+pub mod Totals
