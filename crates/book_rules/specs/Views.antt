@@ -87,7 +87,7 @@ module _ {A : Type 0} (d : A) where
   behind-sets [] l i j h = refl
   behind-sets (v ∷ vs) l i j h = behind-sets vs (set l i v) (suc i) j (omega arith) ∙ getD-set-other l i j v d (omega arith)
 
-  within-sets : (vs l : List A) (i j : ℕ) → i + length vs ≤ length l → j < length vs → getD (sets l i vs) (i + j) d ≡ getD vs j d
+  pub within-sets : (vs l : List A) (i j : ℕ) → i + length vs ≤ length l → j < length vs → getD (sets l i vs) (i + j) d ≡ getD vs j d
   within-sets [] l i j h k = absurd (omega arith)
   within-sets (v ∷ vs) l i zero h k =
       ap (λ (x : ℕ). getD (sets (set l i v) (suc i) vs) x d) (here i)
@@ -110,7 +110,7 @@ words-agree s t i (suc n) h = ap₂ {C = List ℕ} (λ (x : ℕ) (r : List ℕ).
     (ap₂ (λ (x y : ℕ). x + 256 * y) (h i (omega arith) (omega arith)) (h (suc i) (omega arith) (omega arith)))
     (words-agree s t (2 + i) n (λ j p q. h j (omega arith) (omega arith)))
 
-words-back : (ws s : List ℕ) (i n : ℕ) → length ws ≡ n → ((j : ℕ) → j < 2 * n → getD s (i + j) 0 ≡ getD (bytesOf ws) j 0) → wordsFrom s i n ≡ ws
+pub words-back : (ws s : List ℕ) (i n : ℕ) → length ws ≡ n → ((j : ℕ) → j < 2 * n → getD s (i + j) 0 ≡ getD (bytesOf ws) j 0) → wordsFrom s i n ≡ ws
 unfolding wordsFrom wordAt bytesOf
 words-back [] s i zero e h = refl
 words-back [] s i (suc n) e h = absurd (omega arith)

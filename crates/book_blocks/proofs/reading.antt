@@ -1,0 +1,2 @@
+-- What reading a block uses.
+pub mod Rules

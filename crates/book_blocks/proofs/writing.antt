@@ -1,0 +1,2 @@
+-- What writing a block uses.
+pub mod Puts

@@ -1,0 +1,2 @@
+-- What a block's functions compute.
+pub mod Heads
