@@ -7,11 +7,6 @@ use Rattle.rules.specs.Numbers.{same, plus}
 use Rattle.rules.specs.Forms.{Matcher, something, integer, list, multiset, tupleOf, Matchers, noMatchers, _▸ᵐ_, Value, int, collection, tupled, Values, empty, _▸_}
 use Rattle.rules.specs.Reading.{entry}
 
--- The values bound so far: entry v is variable v's. (Variables are numbered from left to right and atoms are taken up from left to right, so that
--- a bind is always the next entry.)
-abbrev pub Bindings : Type 0
-Bindings = List Value
-
 -- "Lists are equal element by element in order."
 unfoldable pub inOrder : (Value → Value → Bool) → Values → Values → Bool
 inOrder eq empty empty = true
@@ -98,8 +93,8 @@ unfolding equal
 equalTo m none v = false
 equalTo m (some w) v = equal m w v
 
--- Tag 3: the value of variable x, plus c, against v.
-unfoldable pub isValue : Matcher → Bindings → ℤ → ℤ → Value → Bool
+-- Tag 3: the value of variable x, plus c, against v. The values of the variables are e, in number order.
+unfoldable pub isValue : Matcher → List Value → ℤ → ℤ → Value → Bool
 unfolding entry raised equalTo
 isValue m e x c v = elim (entry e x) [ none ↦ false | some w ↦ equalTo m (raised c w) v ]
 

@@ -4,9 +4,10 @@ use mathlib.Core.Bool.{Bool, true, false}
 use mathlib.Core.List.{List, [], _∷_, _++_, map, flatMap}
 use Rattle.rules.specs.Forms.{Matcher, something, integer, list, multiset, tupleOf, Matchers, noMatchers, _▸ᵐ_}
 use Rattle.rules.specs.Forms.{Pattern, wildcard, nil, variable, constant, value, cons, join, tuple, both, either, never, Patterns, noPatterns, _▸ᵖ_}
-use Rattle.rules.specs.Forms.{Value, int, collection, tupled, Values, empty, _▸_}
+use Rattle.rules.specs.Forms.{Value}
+use Rattle.rules.specs.Origins.{Valueᵒ, intᵒ, collectionᵒ, tupledᵒ, Valuesᵒ, emptyᵒ, _▸ᵒ_, Bindings, plain, target}
 use Rattle.rules.specs.Fit.{element, members}
-use Rattle.rules.specs.Equality.{Bindings, isConstant, isValue, isEmpty}
+use Rattle.rules.specs.Equality.{isConstant, isValue, isEmpty}
 use Rattle.rules.specs.Search.{Halves, consHalves, joinHalves}
 use Rattle.rules.specs.Ways.{Way}
 
@@ -48,7 +49,7 @@ unfolding flatMap extend
 chain w ss g = flatMap (λ s. map (extend w s) (g (s .bound))) ss
 
 -- So for each choice.
-unfoldable pub combine : Bool → (Value → List Solution) → (Value → Bindings → List Solution) → List Halves → List Solution
+unfoldable pub combine : Bool → (Valueᵒ → List Solution) → (Valueᵒ → Bindings → List Solution) → List Halves → List Solution
 unfolding flatMap numbered mark chain
 combine b f g hs = flatMap (λ c. chain (mark b (c .no)) (f (c .halves .first)) (g (c .halves .second))) (numbered hs)
 
@@ -71,20 +72,20 @@ noSolution [] = true
 noSolution (s ∷ ss) = false
 
 -- What the parts of a tuple give; of another value there are none.
-unfoldable pub ofParts : {A : Type 0} → (Values → List A) → Value → List A
-ofParts f (int x) = []
-ofParts f (collection vs) = []
-ofParts f (tupled vs) = f vs
+unfoldable pub ofParts : {A : Type 0} → (Valuesᵒ → List A) → Valueᵒ → List A
+ofParts f (intᵒ o x) = []
+ofParts f (collectionᵒ o vs) = []
+ofParts f (tupledᵒ o vs) = f vs
 
 unfoldable mutual
-  unfolding just whenSo noSolution combine chain onSide isConstant isValue isEmpty consHalves joinHalves element members isMultiset ofParts
+  unfolding just whenSo noSolution combine chain onSide plain isConstant isValue isEmpty consHalves joinHalves element members isMultiset ofParts
 
-  pub solve : Pattern → Matcher → Value → Bindings → List Solution
+  pub solve : Pattern → Matcher → Valueᵒ → Bindings → List Solution
   solve wildcard m v e = just e
   solve (variable x) m v e = just (e ++ (v ∷ []))
-  solve (constant c) m v e = whenSo (isConstant c v) e
-  solve (value x c) m v e = whenSo (isValue m e x c v) e
-  solve nil m v e = whenSo (isEmpty v) e
+  solve (constant c) m v e = whenSo (isConstant c (plain v)) e
+  solve (value x c) m v e = whenSo (isValue m (map plain e) x c (plain v)) e
+  solve nil m v e = whenSo (isEmpty (plain v)) e
   solve (cons p q) m v e = combine (isMultiset m) (λ a. solve p (element m) a e) (λ a d. solve q m a d) (consHalves m v)
   solve (join p q) m v e = combine true (λ a. solve p m a e) (λ a d. solve q m a d) (joinHalves v)
   solve (tuple ps) m v e = ofParts (λ vs. solveEach ps (members m) vs e) v
@@ -93,13 +94,13 @@ unfoldable mutual
   solve (never p) m v e = whenSo (noSolution (solve p m v e)) e
 
   -- A tuple's parts: each part, and then the others.
-  pub solveEach : Patterns → Matchers → Values → Bindings → List Solution
+  pub solveEach : Patterns → Matchers → Valuesᵒ → Bindings → List Solution
   solveEach noPatterns ms vs e = just e
   solveEach (p ▸ᵖ ps) noMatchers vs e = just e
-  solveEach (p ▸ᵖ ps) (m ▸ᵐ ms) empty e = just e
-  solveEach (p ▸ᵖ ps) (m ▸ᵐ ms) (v ▸ vs) e = chain [] (solve p m v e) (λ d. solveEach ps ms vs d)
+  solveEach (p ▸ᵖ ps) (m ▸ᵐ ms) emptyᵒ e = just e
+  solveEach (p ▸ᵖ ps) (m ▸ᵐ ms) (v ▸ᵒ vs) e = chain [] (solve p m v e) (λ d. solveEach ps ms vs d)
 
 -- The good ways of a rule on a target.
 unfoldable pub goodWays : Matcher → Pattern → Value → List Solution
-unfolding solve
-goodWays m p v = solve p m v []
+unfolding solve target
+goodWays m p v = solve p m (target v) []

@@ -7,6 +7,8 @@ pub mod Causes
 pub mod Variables
 pub mod Fit
 pub mod Equality
+pub mod Origins
+pub mod Rows
 pub mod Search
 pub mod Ways
 pub mod Following
@@ -21,5 +23,6 @@ pub mod WorkedChoices
 pub mod WorkedAlways
 pub mod WorkedCauses
 pub mod WorkedCounts
+pub mod WorkedOrigins
 pub mod WorkedClauses
 pub mod Refusals

@@ -1,6 +1,7 @@
 -- Document 01, sections 1 and 3: the two services as functions of their whole input, the answers and their order.
 use Prim.Native.Nat.{ℕ}
 use mathlib.Core.Bool.{true, false, cond}
+use mathlib.Core.Option.{none, some}
 use mathlib.Core.List.{List, [], _∷_, _++_}
 use lib.ListN.{length, drop}
 use lib.Dec.{leb, ltb, eqb}
@@ -11,6 +12,7 @@ use Rattle.rules.specs.Reading.{Verdict, ok, fault, readMatcher, readPat
 use Rattle.rules.specs.Causes.{causeOf}
 use Rattle.rules.specs.Variables.{variables}
 use Rattle.rules.specs.Fit.{fits, fitsValue}
+use Rattle.rules.specs.Rows.{Form, asWords, asOrigins, formOf}
 use Rattle.rules.specs.Search.{Run, run, start}
 use Rattle.rules.specs.Review.{formula}
 use Rattle.rules.specs.Always.{alwaysTrue}
@@ -79,19 +81,29 @@ carriedOut r room = record {
   room = r .written ++ drop (length (r .written)) room;
 }
 
-unfoldable pub matchTarget : (budget : ℕ) (room : List ℤ) (ts : List ℤ) → Rule → Judged Value → Matched
+unfoldable pub matchTarget : Form → (budget : ℕ) (room : List ℤ) (ts : List ℤ) → Rule → Judged Value → Matched
 unfolding turnedAway carriedOut causeIn run start
-matchTarget budget room ts r (refused a i) = turnedAway a i (causeIn a ts) room
-matchTarget budget room ts r (accepted v) = carriedOut (run budget (start (r .matcher) (r .pattern) v ∷ []) (length room)) room
+matchTarget f budget room ts r (refused a i) = turnedAway a i (causeIn a ts) room
+matchTarget f budget room ts r (accepted v) = carriedOut (run f budget (start (r .matcher) (r .pattern) v ∷ []) (length room)) room
 
-unfoldable pub matchRule : (budget : ℕ) (room : List ℤ) (ts : List ℤ) → Judged Rule → Matched
+unfoldable pub matchRule : Form → (budget : ℕ) (room : List ℤ) (ts : List ℤ) → Judged Rule → Matched
 unfolding turnedAway matchTarget targetOf
-matchRule budget room ts (refused a i) = turnedAway a i 0 room
-matchRule budget room ts (accepted r) = matchTarget budget room ts r (targetOf (r .matcher) ts)
+matchRule f budget room ts (refused a i) = turnedAway a i 0 room
+matchRule f budget room ts (accepted r) = matchTarget f budget room ts r (targetOf (r .matcher) ts)
 
-unfoldable pub match : (ms ps ts : List ℤ) (budget : ℕ) (room : List ℤ) → Matched
+-- A match whose rows are in one of the two forms.
+unfoldable pub matchIn : Form → (ms ps ts : List ℤ) (budget : ℕ) (room : List ℤ) → Matched
 unfolding matchRule ruleOf
-match ms ps ts budget room = matchRule budget room ts (ruleOf ms ps)
+matchIn f ms ps ts budget room = matchRule f budget room ts (ruleOf ms ps)
+
+-- Rows in form 1, as document 01 has them.
+abbrev pub match : (ms ps ts : List ℤ) (budget : ℕ) (room : List ℤ) → Matched
+match ms ps ts budget room = matchIn asWords ms ps ts budget room
+
+-- "20, unknown row form, before 1": with 0 in every further number, and the room as it was.
+unfoldable pub matchWith : (form : ℕ) (ms ps ts : List ℤ) (budget : ℕ) (room : List ℤ) → Matched
+unfolding formOf turnedAway matchIn
+matchWith n ms ps ts budget room = elim (formOf n) [ none ↦ turnedAway 20 0 0 room | some f ↦ matchIn f ms ps ts budget room ]
 
 -- ---- Review: three numbers.
 

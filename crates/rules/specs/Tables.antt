@@ -3,11 +3,12 @@ use Prim.Native.Nat.{ℕ, zero, suc, _-_}
 use mathlib.Core.List.{List, [], _∷_, _++_, map}
 use lib.ListN.{length, replicate}
 use lib.IntN.{ℤ, pos, negsuc}
-use Rattle.rules.specs.Services.{Matched, match, Reviewed, review}
+use Rattle.rules.specs.Services.{Matched, matchIn, match, matchWith, Reviewed, review}
 
--- Match: matcher, pattern, target, budget and the room's size; review: matcher, pattern and cap.
+-- Match: matcher, pattern, target, budget and the room's size, in form 1 or told the form; review: matcher, pattern and cap.
 pub data Question : Type 0 where
   matching : (matcher pattern target : List ℤ) (budget room : ℕ) → Question
+  matchingWith : (form : ℕ) (matcher pattern target : List ℤ) (budget room : ℕ) → Question
   reviewing : (matcher pattern : List ℤ) (cap : ℤ) → Question
 
 -- A line of a table.
@@ -30,14 +31,16 @@ unfoldable pub ofReview : Reviewed → Outcome
 ofReview r = record { numbers = r .answer ∷ r .place ∷ r .count ∷ []; room = [] }
 
 unfoldable pub answered : Question → Outcome
-unfolding match review ofMatch ofReview held
+unfolding matchIn matchWith review ofMatch ofReview held
 answered (matching m p t b n) = ofMatch (match m p t b (held n))
+answered (matchingWith f m p t b n) = ofMatch (matchWith f m p t b (held n))
 answered (reviewing m p cap) = ofReview (review m p cap)
 
 -- The words written from the start of the room, and after them what it held.
 unfoldable pub after : List ℤ → Question → List ℤ
 unfolding held
 after ws (matching m p t b n) = ws ++ held (n - length ws)
+after ws (matchingWith f m p t b n) = ws ++ held (n - length ws)
 after ws (reviewing m p cap) = []
 
 unfoldable pub computed : Case → Outcome
