@@ -13,8 +13,9 @@ use Rattle.rules.specs.Forms.{Matcher, Pattern, Value}
 use Rattle.rules.specs.Reading.{Verdict, ok, fault, readMatcher, readPattern, readTarget}
 use Rattle.rules.specs.Variables.{variables}
 use Rattle.rules.specs.Fit.{fits, fitsValue}
-use Rattle.rules.specs.Search.{atom, endOfNot, State, state, after, leaveNot, start, row, Run, stopped, rowStep, run}
-use Rattle.rules.specs.Services.{Judged, accepted, refused, test, Rule, ruleOf, targetOf, Matched, causeIn, turnedAway, carriedOut, matchTarget, matchRule, match}
+use Rattle.rules.specs.Search.{atom, endOfNot, State, state, after, leaveNot, start, Run, stopped, rowStep, run}
+use Rattle.rules.specs.Rows.{Form, asWords, row}
+use Rattle.rules.specs.Services.{Judged, accepted, refused, test, Rule, ruleOf, targetOf, Matched, causeIn, turnedAway, carriedOut, matchTarget, matchRule, matchIn}
 
 -- ---- The tests, in their order: what each answer means.
 
@@ -121,10 +122,10 @@ sane-exactly ms ps ts r v = (
 )
 
 -- What match gives, by the first fault or by the run.
-pub data Judgement (ms ps ts : List ℤ) (budget : ℕ) (room : List ℤ) (x : Matched) : Type 0 where
-  turned : (a i : ℕ) → Fault ms ps ts a i → x ≡ turnedAway a i (causeIn a ts) room → Judgement ms ps ts budget room x
-  ran : (r : Rule) (v : Value) → Sane ms ps ts r v → x ≡ carriedOut (run budget (start (r .matcher) (r .pattern) v ∷ []) (length room)) room
-      → Judgement ms ps ts budget room x
+pub data Judgement (form : Form) (ms ps ts : List ℤ) (budget : ℕ) (room : List ℤ) (x : Matched) : Type 0 where
+  turned : (a i : ℕ) → Fault ms ps ts a i → x ≡ turnedAway a i (causeIn a ts) room → Judgement form ms ps ts budget room x
+  ran : (r : Rule) (v : Value) → Sane ms ps ts r v → x ≡ carriedOut (run form budget (start (r .matcher) (r .pattern) v ∷ []) (length room)) room
+      → Judgement form ms ps ts budget room x
 
 rule-causeless : {ms ps : List ℤ} {a i : ℕ} (ts : List ℤ) → RuleFault ms ps a i → 0 ≡ causeIn a ts
 unfolding causeIn
@@ -133,32 +134,32 @@ rule-causeless ts (notPattern x e) = refl
 rule-causeless ts (misnumbered x y e) = refl
 rule-causeless ts (misfit x y z e) = refl
 
-module _ (ms ps ts : List ℤ) (budget : ℕ) (room : List ℤ) where
-  pub match-turned : (a i : ℕ) → Fault ms ps ts a i → match ms ps ts budget room ≡ turnedAway a i (causeIn a ts) room
-  unfolding match
-  match-turned a i (ofRule f) = ap (matchRule budget room ts) (rule-fault ms ps a i f) ∙ ap (λ c. turnedAway a i c room) (rule-causeless ts f)
+module _ (form : Form) (ms ps ts : List ℤ) (budget : ℕ) (room : List ℤ) where
+  pub match-turned : (a i : ℕ) → Fault ms ps ts a i → matchIn form ms ps ts budget room ≡ turnedAway a i (causeIn a ts) room
+  unfolding matchIn
+  match-turned a i (ofRule f) = ap (matchRule form budget room ts) (rule-fault ms ps a i f) ∙ ap (λ c. turnedAway a i c room) (rule-causeless ts f)
   match-turned a i (ofTarget r w f) =
-      ap (matchRule budget room ts) (rule-accepted ms ps r .1 w) ∙ ap (matchTarget budget room ts r) (target-fault (r .matcher) ts a i f)
+      ap (matchRule form budget room ts) (rule-accepted ms ps r .1 w) ∙ ap (matchTarget form budget room ts r) (target-fault (r .matcher) ts a i f)
 
   pub match-ran : (r : Rule) (v : Value) → Sane ms ps ts r v
-      → match ms ps ts budget room ≡ carriedOut (run budget (start (r .matcher) (r .pattern) v ∷ []) (length room)) room
-  unfolding match
+      → matchIn form ms ps ts budget room ≡ carriedOut (run form budget (start (r .matcher) (r .pattern) v ∷ []) (length room)) room
+  unfolding matchIn
   match-ran r v s =
-      ap (matchRule budget room ts) (rule-accepted ms ps r .1 (s .rule)) ∙ ap (matchTarget budget room ts r) (target-accepted (r .matcher) ts v .1 (s .target))
+      ap (matchRule form budget room ts) (rule-accepted ms ps r .1 (s .rule)) ∙ ap (matchTarget form budget room ts r) (target-accepted (r .matcher) ts v .1 (s .target))
 
   judge-target : (r : Rule) → WellFormed ms ps r → (y : Judged Value) → TargetIs (r .matcher) ts y
-      → Judgement ms ps ts budget room (match ms ps ts budget room)
+      → Judgement form ms ps ts budget room (matchIn form ms ps ts budget room)
   unfolding TargetIs
   judge-target r w (accepted v) f = let s : Sane ms ps ts r v = record { rule = w; target = f } in ran r v s (match-ran r v s)
   judge-target r w (refused a i) f = turned a i (ofTarget r w f) (match-turned a i (ofTarget r w f))
 
-  judge-rule : (x : Judged Rule) → RuleIs ms ps x → Judgement ms ps ts budget room (match ms ps ts budget room)
+  judge-rule : (x : Judged Rule) → RuleIs ms ps x → Judgement form ms ps ts budget room (matchIn form ms ps ts budget room)
   unfolding RuleIs
   judge-rule (accepted r) w = judge-target r w (targetOf (r .matcher) ts) (target-is (r .matcher) ts)
   judge-rule (refused a i) f = turned a i (ofRule f) (match-turned a i (ofRule f))
 
   -- One of the two.
-  pub match-judged : Judgement ms ps ts budget room (match ms ps ts budget room)
+  pub match-judged : Judgement form ms ps ts budget room (matchIn form ms ps ts budget room)
   match-judged = judge-rule (ruleOf ms ps) (rule-is ms ps)
 
 -- ---- And not both: a fault has an answer from 1 to 6, a run has not.
@@ -185,44 +186,44 @@ unfolding rowStep stopped
 row-answer true ws r h a b = h a b
 row-answer false ws r h a b = omega (arith, b)
 
-run-answer : (n free : ℕ) (ss : List State) → 1 ≤ (run n ss free) .answer → (run n ss free) .answer ≤ 6 → ⊥
+run-answer : (form : Form) (n free : ℕ) (ss : List State) → 1 ≤ (run form n ss free) .answer → (run form n ss free) .answer ≤ 6 → ⊥
 unfolding run
-run-answer zero free [] a b = omega (arith, a)
-run-answer zero free (s ∷ ss) a b = omega (arith, b)
-run-answer (suc n) free [] a b = omega (arith, a)
-run-answer (suc n) free (state g [] e ∷ ss) a b = row-answer (leb (length (row e)) free) (row e) _ (run-answer n (free - length (row e)) ss) a b
-run-answer (suc n) free (state g (endOfNot ∷ older) e ∷ ss) a b = run-answer n free (leaveNot ss) a b
-run-answer (suc n) free (state g (atom p m v ∷ older) e ∷ ss) a b = run-answer n free (after p m v older e ++ ss) a b
+run-answer form zero free [] a b = omega (arith, a)
+run-answer form zero free (s ∷ ss) a b = omega (arith, b)
+run-answer form (suc n) free [] a b = omega (arith, a)
+run-answer form (suc n) free (state g [] e ∷ ss) a b = row-answer (leb (length (row form e)) free) (row form e) _ (run-answer form n (free - length (row form e)) ss) a b
+run-answer form (suc n) free (state g (endOfNot ∷ older) e ∷ ss) a b = run-answer form n free (leaveNot ss) a b
+run-answer form (suc n) free (state g (atom p m v ∷ older) e ∷ ss) a b = run-answer form n free (after p m v older e ++ ss) a b
 
-module _ (ms ps ts : List ℤ) (budget : ℕ) (room : List ℤ) where
+module _ (form : Form) (ms ps ts : List ℤ) (budget : ℕ) (room : List ℤ) where
   -- An answer from 1 to 6 is given exactly when that is the first fault, and with its place.
   pub refused-exactly : (a i : ℕ)
-      → Fault ms ps ts a i ↔ (1 ≤ a) × (a ≤ 6) × ((match ms ps ts budget room) .answer ≡ a) × ((match ms ps ts budget room) .place ≡ i)
+      → Fault ms ps ts a i ↔ (1 ≤ a) × (a ≤ 6) × ((matchIn form ms ps ts budget room) .answer ≡ a) × ((matchIn form ms ps ts budget room) .place ≡ i)
   unfolding turnedAway carriedOut
   refused-exactly a i = (
-    λ f. let q = match-turned ms ps ts budget room a i f in
+    λ f. let q = match-turned form ms ps ts budget room a i f in
         (fault-range f .0, fault-range f .1, ap (λ (x : Matched). x .answer) q, ap (λ (x : Matched). x .place) q),
-    λ h. go h (match-judged ms ps ts budget room),
+    λ h. go h (match-judged form ms ps ts budget room),
   )
     where
-      go : (1 ≤ a) × (a ≤ 6) × ((match ms ps ts budget room) .answer ≡ a) × ((match ms ps ts budget room) .place ≡ i)
-          → Judgement ms ps ts budget room (match ms ps ts budget room) → Fault ms ps ts a i
+      go : (1 ≤ a) × (a ≤ 6) × ((matchIn form ms ps ts budget room) .answer ≡ a) × ((matchIn form ms ps ts budget room) .place ≡ i)
+          → Judgement form ms ps ts budget room (matchIn form ms ps ts budget room) → Fault ms ps ts a i
       go h (turned b j f q) = subst₂ (Fault ms ps ts) (sym (ap (λ (x : Matched). x .answer) q) ∙ h .2) (sym (ap (λ (x : Matched). x .place) q) ∙ h .3) f
       go h (ran r v s q) =
-          let k : (run budget (start (r .matcher) (r .pattern) v ∷ []) (length room)) .answer ≡ a = sym (ap (λ (x : Matched). x .answer) q) ∙ h .2 in
-          absurd (run-answer budget (length room) (start (r .matcher) (r .pattern) v ∷ []) (omega (arith, k, h .0)) (omega (arith, k, h .1)))
+          let k : (run form budget (start (r .matcher) (r .pattern) v ∷ []) (length room)) .answer ≡ a = sym (ap (λ (x : Matched). x .answer) q) ∙ h .2 in
+          absurd (run-answer form budget (length room) (start (r .matcher) (r .pattern) v ∷ []) (omega (arith, k, h .0)) (omega (arith, k, h .1)))
 
 -- Two faults are one, and none goes with a run.
 pub fault-once : (ms ps ts : List ℤ) (a i b j : ℕ) → Fault ms ps ts a i → Fault ms ps ts b j → (a ≡ b) × (i ≡ j)
 unfolding turnedAway
 fault-once ms ps ts a i b j f g =
-    let q = sym (match-turned ms ps ts 0 [] a i f) ∙ match-turned ms ps ts 0 [] b j g in
+    let q = sym (match-turned asWords ms ps ts 0 [] a i f) ∙ match-turned asWords ms ps ts 0 [] b j g in
     (ap (λ (x : Matched). x .answer) q, ap (λ (x : Matched). x .place) q)
 
 pub not-both : (ms ps ts : List ℤ) (a i : ℕ) (r : Rule) (v : Value) → Fault ms ps ts a i → Sane ms ps ts r v → ⊥
 unfolding turnedAway carriedOut
 not-both ms ps ts a i r v f s =
-    let k : (run 0 (start (r .matcher) (r .pattern) v ∷ []) 0) .answer ≡ a =
-    ap (λ (x : Matched). x .answer) (sym (match-ran ms ps ts 0 [] r v s) ∙ match-turned ms ps ts 0 [] a i f) in
+    let k : (run asWords 0 (start (r .matcher) (r .pattern) v ∷ []) 0) .answer ≡ a =
+    ap (λ (x : Matched). x .answer) (sym (match-ran asWords ms ps ts 0 [] r v s) ∙ match-turned asWords ms ps ts 0 [] a i f) in
     let h = fault-range f in
-    run-answer 0 0 (start (r .matcher) (r .pattern) v ∷ []) (omega (arith, k, h)) (omega (arith, k, h))
+    run-answer asWords 0 0 (start (r .matcher) (r .pattern) v ∷ []) (omega (arith, k, h)) (omega (arith, k, h))

@@ -12,4 +12,5 @@ pub mod ReadTarget
 pub mod Wrong
 pub mod Together
 pub mod Numbering
+pub mod Origins
 pub mod Faults

@@ -3,38 +3,40 @@
 use Prim.Native.Nat.{ℕ, suc, _+_, _*_, _≤_}
 use native.Mathlib.Omega.{arith}
 use native.Mathlib.Nat.{le-refl, le-trans, mul-le-mul-right}
-use mathlib.Core.Path.{_≡_, refl, ap, _∙_, subst}
+use mathlib.Core.Path.{_≡_, refl, sym, ap, _∙_, subst}
 use mathlib.Core.Logic.{⊎-elim}
 use mathlib.Core.Bool.{Bool, true, false, cond}
 use mathlib.Core.List.{List, [], _∷_, _++_, map, flatMap, List·Memᴰ·not-nil, List·Memᴰ·cases-cons, List·Memᴰ·eq-of-singleton, Memᴰ·of-map}
 use lib.ListN.{length, length-append, length-map}
 use Rattle.rules.specs.Forms.{Matcher, something, integer, list, multiset, tupleOf, Matchers, noMatchers, _▸ᵐ_}
 use Rattle.rules.specs.Forms.{Pattern, wildcard, nil, variable, constant, value, cons, join, tuple, both, either, never, Patterns, noPatterns, _▸ᵖ_}
-use Rattle.rules.specs.Forms.{Value, int, collection, tupled, Values, empty, _▸_, count}
+use Rattle.rules.specs.Forms.{Value, int, collection, tupled, Values, count}
+use Rattle.rules.specs.Origins.{Valueᵒ, intᵒ, collectionᵒ, tupledᵒ, Valuesᵒ, emptyᵒ, _▸ᵒ_, Bindings, plain, plainAll, target}
 use Rattle.rules.specs.Fit.{element, members, isSomething}
-use Rattle.rules.specs.Equality.{Bindings, isConstant, isValue, isEmpty, Pick, picks, behind}
-use Rattle.rules.specs.Search.{cuts, longer, Halves, consHalves, joinHalves, start}
+use Rattle.rules.specs.Equality.{isConstant, isValue, isEmpty}
+use Rattle.rules.specs.Search.{Taking, takings, behind, cuts, longer, Halves, consHalves, joinHalves, start}
 use Rattle.rules.specs.Ways.{Way}
 use Rattle.rules.specs.Review.{leafSteps, consFactor, factor, factorAll, summed, summedAll, formula}
 use Rattle.forms.specs.Written.{largest, largestOf}
 use Rattle.promises.specs.Parts.{cons-parts, join-parts, part-largest}
 use Rattle.promises.specs.Suited.{Suits, SuitsEach, cons-suits, join-suits, tuple-suits}
 use Rattle.forms.specs.Lists.{Mem, length-flatMap-le}
+use Rattle.forms.specs.Origins.{plain-target}
 use Rattle.rules.specs.Following.{Solution, up, numbered, isMultiset, mark, chain, onSide, combine, just, whenSo, noSolution, solve, solveEach}
 use Rattle.promises.specs.Choices.{in-numbered}
 use Rattle.promises.specs.Trace.{found, Met, taken, ended, pass, onlyIf, inside, visit, visitEach, met, close, trace}
 
 -- ---- A cons or a join has no more choices than its factor says.
 
-length-picks : (vs : Values) → length (picks vs) ≡ count vs
-unfolding picks count
-length-picks empty = refl
-length-picks (v ▸ vs) = ap suc (length-map (picks vs) (behind v) ∙ length-picks vs)
+length-takings : (vs : Valuesᵒ) → length (takings vs) ≡ count (plainAll vs)
+unfolding takings count plainAll
+length-takings emptyᵒ = refl
+length-takings (v ▸ᵒ vs) = ap suc (length-map (takings vs) (behind v) ∙ length-takings vs)
 
-length-cuts : (vs : Values) → length (cuts vs) ≡ suc (count vs)
-unfolding cuts count
-length-cuts empty = refl
-length-cuts (v ▸ vs) = ap suc (length-map (cuts vs) (longer v) ∙ length-cuts vs)
+length-cuts : (vs : Valuesᵒ) → length (cuts vs) ≡ suc (count (plainAll vs))
+unfolding cuts count plainAll
+length-cuts emptyᵒ = refl
+length-cuts (v ▸ᵒ vs) = ap suc (length-map (cuts vs) (longer v) ∙ length-cuts vs)
 
 -- The elements that are there to take.
 unfoldable pub held : Value → ℕ
@@ -43,47 +45,47 @@ held (int x) = 0
 held (collection vs) = count vs
 held (tupled vs) = 0
 
-cons-count : (cap gone : ℕ) (m : Matcher) (v : Value) → held v + gone ≤ cap → length (consHalves m v) ≤ consFactor cap gone m
-unfolding consHalves consFactor held
+cons-count : (cap gone : ℕ) (m : Matcher) (v : Valueᵒ) → held (plain v) + gone ≤ cap → length (consHalves m v) ≤ consFactor cap gone m
+unfolding consHalves consFactor held plain
 cons-count cap gone something v h = omega arith
 cons-count cap gone integer v h = omega arith
-cons-count cap gone (list m) (int x) h = omega arith
-cons-count cap gone (list m) (collection empty) h = omega arith
-cons-count cap gone (list m) (collection (v ▸ vs)) h = omega arith
-cons-count cap gone (list m) (tupled vs) h = omega arith
-cons-count cap gone (multiset m) (int x) h = omega arith
-cons-count cap gone (multiset m) (collection vs) h = simp length-map (omega (arith, length-picks vs))
-cons-count cap gone (multiset m) (tupled vs) h = omega arith
+cons-count cap gone (list m) (intᵒ o x) h = omega arith
+cons-count cap gone (list m) (collectionᵒ o emptyᵒ) h = omega arith
+cons-count cap gone (list m) (collectionᵒ o (v ▸ᵒ vs)) h = omega arith
+cons-count cap gone (list m) (tupledᵒ o vs) h = omega arith
+cons-count cap gone (multiset m) (intᵒ o x) h = omega arith
+cons-count cap gone (multiset m) (collectionᵒ o vs) h = simp length-map (omega (arith, length-takings vs))
+cons-count cap gone (multiset m) (tupledᵒ o vs) h = omega arith
 cons-count cap gone (tupleOf ms) v h = omega arith
 
-join-count : (cap : ℕ) (v : Value) → largest v ≤ cap → length (joinHalves v) ≤ suc cap
-unfolding joinHalves largest
-join-count cap (int x) h = omega arith
-join-count cap (collection vs) h = simp length-map (omega (arith, length-cuts vs))
-join-count cap (tupled vs) h = omega arith
+join-count : (cap : ℕ) (v : Valueᵒ) → largest (plain v) ≤ cap → length (joinHalves v) ≤ suc cap
+unfolding joinHalves largest plain
+join-count cap (intᵒ o x) h = omega arith
+join-count cap (collectionᵒ o vs) h = simp length-map (omega (arith, length-cuts vs))
+join-count cap (tupledᵒ o vs) h = omega arith
 
 -- A cons leaves one element fewer.
-pick-count : (vs : Values) (p : Pick) → Mem p (picks vs) → suc (count (p .others)) ≡ count vs
-unfolding picks behind count
-pick-count empty p i = absurd (List·Memᴰ·not-nil i)
-pick-count (v ▸ vs) p i = ⊎-elim
-    (λ e. ap (λ (q : Pick). suc (count (q .others))) e)
-    (λ n. let r = Memᴰ·of-map (behind v) (picks vs) n in
-    subst (λ (q : Pick). suc (count (q .others)) ≡ suc (count vs)) (r .2) (ap suc (pick-count vs (r .0) (r .1))))
+pick-count : (vs : Valuesᵒ) (p : Taking) → Mem p (takings vs) → suc (count (plainAll (p .others))) ≡ count (plainAll vs)
+unfolding takings behind count plainAll
+pick-count emptyᵒ p i = absurd (List·Memᴰ·not-nil i)
+pick-count (v ▸ᵒ vs) p i = ⊎-elim
+    (λ e. ap (λ (q : Taking). suc (count (plainAll (q .others)))) e)
+    (λ n. let r = Memᴰ·of-map (behind v) (takings vs) n in
+    subst (λ (q : Taking). suc (count (plainAll (q .others))) ≡ suc (count (plainAll vs))) (r .2) (ap suc (pick-count vs (r .0) (r .1))))
     (List·Memᴰ·cases-cons i)
 
-cons-held : (m : Matcher) (v : Value) (h : Halves) → Mem h (consHalves m v) → suc (held (h .second)) ≡ held v
-unfolding consHalves held count
+cons-held : (m : Matcher) (v : Valueᵒ) (h : Halves) → Mem h (consHalves m v) → suc (held (plain (h .second))) ≡ held (plain v)
+unfolding consHalves held count plain
 cons-held something v h i = absurd (List·Memᴰ·not-nil i)
 cons-held integer v h i = absurd (List·Memᴰ·not-nil i)
-cons-held (list m) (int x) h i = absurd (List·Memᴰ·not-nil i)
-cons-held (list m) (collection empty) h i = absurd (List·Memᴰ·not-nil i)
-cons-held (list m) (collection (v ▸ vs)) h i = ap (λ (g : Halves). suc (held (g .second))) (List·Memᴰ·eq-of-singleton i)
-cons-held (list m) (tupled vs) h i = absurd (List·Memᴰ·not-nil i)
-cons-held (multiset m) (int x) h i = absurd (List·Memᴰ·not-nil i)
-cons-held (multiset m) (collection vs) h i =
-    let r = Memᴰ·of-map _ (picks vs) i in subst (λ (g : Halves). suc (held (g .second)) ≡ count vs) (r .2) (pick-count vs (r .0) (r .1))
-cons-held (multiset m) (tupled vs) h i = absurd (List·Memᴰ·not-nil i)
+cons-held (list m) (intᵒ o x) h i = absurd (List·Memᴰ·not-nil i)
+cons-held (list m) (collectionᵒ o emptyᵒ) h i = absurd (List·Memᴰ·not-nil i)
+cons-held (list m) (collectionᵒ o (v ▸ᵒ vs)) h i = ap (λ (g : Halves). suc (held (plain (g .second)))) (List·Memᴰ·eq-of-singleton i)
+cons-held (list m) (tupledᵒ o vs) h i = absurd (List·Memᴰ·not-nil i)
+cons-held (multiset m) (intᵒ o x) h i = absurd (List·Memᴰ·not-nil i)
+cons-held (multiset m) (collectionᵒ o vs) h i =
+    let r = Memᴰ·of-map _ (takings vs) i in subst (λ (g : Halves). suc (held (plain (g .second))) ≡ count (plainAll vs)) (r .2) (pick-count vs (r .0) (r .1))
+cons-held (multiset m) (tupledᵒ o vs) h i = absurd (List·Memᴰ·not-nil i)
 cons-held (tupleOf ms) v h i = absurd (List·Memᴰ·not-nil i)
 
 held-largest : (v : Value) → held v ≤ largest v
@@ -105,22 +107,22 @@ pub anew : (cap : ℕ) (m : Matcher) (v : Value) → Suits m v → largest v ≤
 anew cap m v s l = record { suits = s; small = l; left = omega (arith, held-largest v) }
 
 -- What is taken out of it is so too.
-cons-fine : (cap gone : ℕ) (m : Matcher) (v : Value) → Fine cap gone m v → (h : Halves) → Mem h (consHalves m v)
-    → Fine cap 0 (element m) (h .first) × Fine cap (suc gone) m (h .second)
+cons-fine : (cap gone : ℕ) (m : Matcher) (v : Valueᵒ) → Fine cap gone m (plain v) → (h : Halves) → Mem h (consHalves m v)
+    → Fine cap 0 (element m) (plain (h .first)) × Fine cap (suc gone) m (plain (h .second))
 cons-fine cap gone m v f h i =
     let p = cons-parts m v h i in
     let s = cons-suits m v h i (f .suits) in (
-      anew cap (element m) (h .first) (s .0) (le-trans (part-largest (p .first)) (f .small)),
+      anew cap (element m) (plain (h .first)) (s .0) (le-trans (part-largest (p .first)) (f .small)),
       record { suits = s .1; small = le-trans (part-largest (p .second)) (f .small); left = omega (arith, cons-held m v h i, f .left) },
     )
 
-join-fine : (cap gone : ℕ) (m : Matcher) (v : Value) → Fine cap gone m v → (h : Halves) → Mem h (joinHalves v)
-    → Fine cap 0 m (h .first) × Fine cap 0 m (h .second)
+join-fine : (cap gone : ℕ) (m : Matcher) (v : Valueᵒ) → Fine cap gone m (plain v) → (h : Halves) → Mem h (joinHalves v)
+    → Fine cap 0 m (plain (h .first)) × Fine cap 0 m (plain (h .second))
 join-fine cap gone m v f h i =
     let p = join-parts v h i in
     let s = join-suits m v h i (f .suits) in (
-      anew cap m (h .first) (s .0) (le-trans (part-largest (p .first)) (f .small)),
-      anew cap m (h .second) (s .1) (le-trans (part-largest (p .second)) (f .small)),
+      anew cap m (plain (h .first)) (s .0) (le-trans (part-largest (p .first)) (f .small)),
+      anew cap m (plain (h .second)) (s .1) (le-trans (part-largest (p .second)) (f .small)),
     )
 
 -- ---- The steps. What an atom costs if what comes after it costs at cap `k`.
@@ -167,25 +169,25 @@ inside-cost (taken t ∷ ms) ns a n h k = omega (arith, inside-cost ms ns (lengt
 inside-cost (ended ∷ ms) ns a n h k = omega arith
 
 mutual
-  unfolding visit horner largest Suits
+  unfolding visit horner largest Suits plain
 
-  pub visit-cost : (cap gone : ℕ) (p : Pattern) (m : Matcher) (v : Value) (e : Bindings) (k : Bindings → List Met) (n : ℕ)
-      → Fine cap gone m v → ((d : Bindings) → length (k d) ≤ n) → length (visit p m v e k) ≤ horner cap gone p m n
+  pub visit-cost : (cap gone : ℕ) (p : Pattern) (m : Matcher) (v : Valueᵒ) (e : Bindings) (k : Bindings → List Met) (n : ℕ)
+      → Fine cap gone m (plain v) → ((d : Bindings) → length (k d) ≤ n) → length (visit p m v e k) ≤ horner cap gone p m n
   visit-cost cap gone wildcard m v e k n s h = leaf-cost (isSomething m) (k e) n (h e)
-  visit-cost cap gone nil m v e k n s h = test-cost (isEmpty v) (k e) n (h e)
+  visit-cost cap gone nil m v e k n s h = test-cost (isEmpty (plain v)) (k e) n (h e)
   visit-cost cap gone (variable x) m v e k n s h = leaf-cost (isSomething m) (k (e ++ (v ∷ []))) n (h (e ++ (v ∷ [])))
-  visit-cost cap gone (constant c) m v e k n s h = test-cost (isConstant c v) (k e) n (h e)
-  visit-cost cap gone (value x c) m v e k n s h = test-cost (isValue m e x c v) (k e) n (h e)
+  visit-cost cap gone (constant c) m v e k n s h = test-cost (isConstant c (plain v)) (k e) n (h e)
+  visit-cost cap gone (value x c) m v e k n s h = test-cost (isValue m (map plain e) x c (plain v)) (k e) n (h e)
   visit-cost cap gone (cons p q) m v e k n s h = both-cost _ (consHalves m v) (consFactor cap gone m) _ (cons-count cap gone m v (s .left))
       (λ g i. let j = cons-fine cap gone m v s g i in
       visit-cost cap 0 p (element m) (g .first) e _ _ (j .0) (λ d. visit-cost cap (suc gone) q m (g .second) d k n (j .1) h))
   visit-cost cap gone (join p q) m v e k n s h = both-cost _ (joinHalves v) (suc cap) _ (join-count cap v (s .small))
       (λ g i. let j = join-fine cap gone m v s g i in
       visit-cost cap 0 p m (g .first) e _ _ (j .0) (λ d. visit-cost cap 0 q m (g .second) d k n (j .1) h))
-  visit-cost cap gone (tuple ps) m (int x) e k n s h = omega arith
-  visit-cost cap gone (tuple ps) m (collection vs) e k n s h = omega arith
-  visit-cost cap gone (tuple ps) m (tupled vs) e k n s h =
-      omega (arith, visit-each-cost cap ps (members m) vs e k n (tuple-suits m vs (s .suits), s .small) h)
+  visit-cost cap gone (tuple ps) m (intᵒ o x) e k n s h = omega arith
+  visit-cost cap gone (tuple ps) m (collectionᵒ o vs) e k n s h = omega arith
+  visit-cost cap gone (tuple ps) m (tupledᵒ o vs) e k n s h =
+      omega (arith, visit-each-cost cap ps (members m) vs e k n (tuple-suits m (plainAll vs) (s .suits), s .small) h)
   visit-cost cap gone (both p q) m v e k n s h = omega (arith, visit-cost cap gone p m v e (λ d. visit q m v d k) (horner cap gone q m n) s (λ d. visit-cost cap gone q m v d k n s h))
   visit-cost cap gone (either p q) m v e k n s h =
       omega (arith, length-append (visit p m v e k) (visit q m v e k), visit-cost cap gone p m v e k n s h, visit-cost cap gone q m v e k n s h)
@@ -195,13 +197,13 @@ mutual
         (visit-cost cap gone p m v e (λ d. ended ∷ []) 1 s (λ d. omega arith)) (h e),
   )
 
-  visit-each-cost : (cap : ℕ) (ps : Patterns) (ms : Matchers) (vs : Values) (e : Bindings) (k : Bindings → List Met) (n : ℕ)
-      → FineEach cap ms vs → ((d : Bindings) → length (k d) ≤ n) → length (visitEach ps ms vs e k) ≤ hornerEach cap ps ms n
+  visit-each-cost : (cap : ℕ) (ps : Patterns) (ms : Matchers) (vs : Valuesᵒ) (e : Bindings) (k : Bindings → List Met) (n : ℕ)
+      → FineEach cap ms (plainAll vs) → ((d : Bindings) → length (k d) ≤ n) → length (visitEach ps ms vs e k) ≤ hornerEach cap ps ms n
   visit-each-cost cap noPatterns ms vs e k n s h = h e
   visit-each-cost cap (p ▸ᵖ ps) noMatchers vs e k n s h = h e
-  visit-each-cost cap (p ▸ᵖ ps) (m ▸ᵐ ms) empty e k n s h = absurd (s .0)
-  visit-each-cost cap (p ▸ᵖ ps) (m ▸ᵐ ms) (v ▸ vs) e k n s h =
-      visit-cost cap 0 p m v e _ _ (anew cap m v (s .0 .0) (omega (arith, s .1))) (λ d. visit-each-cost cap ps ms vs d k n (s .0 .1, omega (arith, s .1)) h)
+  visit-each-cost cap (p ▸ᵖ ps) (m ▸ᵐ ms) emptyᵒ e k n s h = absurd (s .0)
+  visit-each-cost cap (p ▸ᵖ ps) (m ▸ᵐ ms) (v ▸ᵒ vs) e k n s h =
+      visit-cost cap 0 p m v e _ _ (anew cap m (plain v) (s .0 .0) (omega (arith, s .1))) (λ d. visit-each-cost cap ps ms vs d k n (s .0 .1, omega (arith, s .1)) h)
 
 -- ---- Review's formula is that cost.
 
@@ -244,11 +246,15 @@ close-cost [] = omega arith
 close-cost (taken t ∷ ms) = omega (arith, close-cost ms)
 close-cost (ended ∷ ms) = omega arith
 
+-- The whole target is as its value.
+pub fine-target : (cap : ℕ) (m : Matcher) (v : Value) → Fine cap 0 m v → Fine cap 0 m (plain (target v))
+fine-target cap m v s = subst (Fine cap 0 m) (sym (plain-target v)) s
+
 -- THE BOUND: the whole search has at cap as many states as review says.
 pub steps-bound : (cap : ℕ) (m : Matcher) (p : Pattern) (v : Value) → Fine cap 0 m v → length (trace (start m p v ∷ [])) ≤ formula cap p m
 unfolding trace met start
-steps-bound cap m p v s = rw (← horner-formula cap p m) (le-trans (close-cost (visit p m v [] (λ d. taken (found d) ∷ [])))
-    (visit-cost cap 0 p m v [] (λ d. taken (found d) ∷ []) 1 s (λ d. omega arith)))
+steps-bound cap m p v s = rw (← horner-formula cap p m) (le-trans (close-cost (visit p m (target v) [] (λ d. taken (found d) ∷ [])))
+    (visit-cost cap 0 p m (target v) [] (λ d. taken (found d) ∷ []) 1 (fine-target cap m v s) (λ d. omega arith)))
 
 -- ---- The rows: the product of all factors bounds them.
 
@@ -262,7 +268,7 @@ chain-count : (w : Way) (ss : List Solution) (g : Bindings → List Solution) (x
 unfolding chain
 chain-count w ss g x y i h = le-trans (length-flatMap-le _ y ss (λ s k. simp length-map (h (s .bound)))) (mul-le-mul-right y i)
 
-combine-count : (b : Bool) (f : Value → List Solution) (g : Value → Bindings → List Solution) (hs : List Halves) (n x y : ℕ) → length hs ≤ n
+combine-count : (b : Bool) (f : Valueᵒ → List Solution) (g : Valueᵒ → Bindings → List Solution) (hs : List Halves) (n x y : ℕ) → length hs ≤ n
     → ((h : Halves) → Mem h hs → length (f (h .first)) ≤ x) → ((h : Halves) → Mem h hs → (d : Bindings) → length (g (h .second) d) ≤ y)
     → length (combine b f g hs) ≤ n * (x * y)
 unfolding combine
@@ -277,14 +283,14 @@ when-count true e = omega arith
 when-count false e = omega arith
 
 mutual
-  unfolding solve factor just largest Suits
+  unfolding solve factor just largest Suits plain
 
-  pub rows-bound : (cap gone : ℕ) (p : Pattern) (m : Matcher) (v : Value) (e : Bindings) → Fine cap gone m v → length (solve p m v e) ≤ factor cap gone p m
+  pub rows-bound : (cap gone : ℕ) (p : Pattern) (m : Matcher) (v : Valueᵒ) (e : Bindings) → Fine cap gone m (plain v) → length (solve p m v e) ≤ factor cap gone p m
   rows-bound cap gone wildcard m v e s = omega arith
-  rows-bound cap gone nil m v e s = when-count (isEmpty v) e
+  rows-bound cap gone nil m v e s = when-count (isEmpty (plain v)) e
   rows-bound cap gone (variable x) m v e s = omega arith
-  rows-bound cap gone (constant c) m v e s = when-count (isConstant c v) e
-  rows-bound cap gone (value x c) m v e s = when-count (isValue m e x c v) e
+  rows-bound cap gone (constant c) m v e s = when-count (isConstant c (plain v)) e
+  rows-bound cap gone (value x c) m v e s = when-count (isValue m (map plain e) x c (plain v)) e
   rows-bound cap gone (cons p q) m v e s =
       combine-count (isMultiset m) (λ a. solve p (element m) a e) (λ a d. solve q m a d) (consHalves m v) _ _ _ (cons-count cap gone m v (s .left))
       (λ h i. rows-bound cap 0 p (element m) (h .first) e (cons-fine cap gone m v s h i .0))
@@ -293,9 +299,9 @@ mutual
       combine-count true (λ a. solve p m a e) (λ a d. solve q m a d) (joinHalves v) _ _ _ (join-count cap v (s .small))
       (λ h i. rows-bound cap 0 p m (h .first) e (join-fine cap gone m v s h i .0))
       (λ h i d. rows-bound cap 0 q m (h .second) d (join-fine cap gone m v s h i .1))
-  rows-bound cap gone (tuple ps) m (int x) e s = omega arith
-  rows-bound cap gone (tuple ps) m (collection vs) e s = omega arith
-  rows-bound cap gone (tuple ps) m (tupled vs) e s = omega (arith, rows-bound-each cap ps (members m) vs e (tuple-suits m vs (s .suits), s .small))
+  rows-bound cap gone (tuple ps) m (intᵒ o x) e s = omega arith
+  rows-bound cap gone (tuple ps) m (collectionᵒ o vs) e s = omega arith
+  rows-bound cap gone (tuple ps) m (tupledᵒ o vs) e s = omega (arith, rows-bound-each cap ps (members m) vs e (tuple-suits m (plainAll vs) (s .suits), s .small))
   rows-bound cap gone (both p q) m v e s = chain-count [] (solve p m v e) (λ d. solve q m v d) _ _ (rows-bound cap gone p m v e s) (λ d. rows-bound cap gone q m v d s)
   rows-bound cap gone (either p q) m v e s = omega (
     arith,
@@ -307,11 +313,11 @@ mutual
   )
   rows-bound cap gone (never p) m v e s = when-count (noSolution (solve p m v e)) e
 
-  rows-bound-each : (cap : ℕ) (ps : Patterns) (ms : Matchers) (vs : Values) (e : Bindings) → FineEach cap ms vs
+  rows-bound-each : (cap : ℕ) (ps : Patterns) (ms : Matchers) (vs : Valuesᵒ) (e : Bindings) → FineEach cap ms (plainAll vs)
       → length (solveEach ps ms vs e) ≤ factorAll cap ps ms
   rows-bound-each cap noPatterns ms vs e s = omega arith
   rows-bound-each cap (p ▸ᵖ ps) noMatchers vs e s = omega arith
-  rows-bound-each cap (p ▸ᵖ ps) (m ▸ᵐ ms) empty e s = absurd (s .0)
-  rows-bound-each cap (p ▸ᵖ ps) (m ▸ᵐ ms) (v ▸ vs) e s =
-      chain-count [] (solve p m v e) (λ d. solveEach ps ms vs d) _ _ (rows-bound cap 0 p m v e (anew cap m v (s .0 .0) (omega (arith, s .1))))
+  rows-bound-each cap (p ▸ᵖ ps) (m ▸ᵐ ms) emptyᵒ e s = absurd (s .0)
+  rows-bound-each cap (p ▸ᵖ ps) (m ▸ᵐ ms) (v ▸ᵒ vs) e s =
+      chain-count [] (solve p m v e) (λ d. solveEach ps ms vs d) _ _ (rows-bound cap 0 p m v e (anew cap m (plain v) (s .0 .0) (omega (arith, s .1))))
       (λ d. rows-bound-each cap ps ms vs d (s .0 .1, omega (arith, s .1)))

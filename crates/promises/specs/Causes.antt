@@ -18,7 +18,8 @@ use Rattle.forms.specs.Tests.{is-false, leb-true, leb-false}
 use Rattle.forms.specs.Readers.{Sound}
 use Rattle.forms.specs.ReadTarget.{target-sound, target-complete}
 use Rattle.forms.specs.Wrong.{Wrong, long, early, over, number-range, number-once, Says, wrong-says}
-use Rattle.rules.specs.Services.{accepted, Rule, ruleOf, Matched, causeIn, turnedAway, carriedOut, match}
+use Rattle.rules.specs.Services.{accepted, Rule, ruleOf, Matched, causeIn, turnedAway, carriedOut, matchIn}
+use Rattle.rules.specs.Rows.{Form}
 use Rattle.forms.specs.Faults.{Fault, ofRule, ofTarget, notTarget, unfit, Judgement, turned, ran, rule-accepted, rule-range, match-turned, match-judged, refused-exactly}
 use Rattle.promises.specs.Found.{Found, awaits-found}
 use Rattle.forms.specs.Together.{Agree, took, target-agrees, value-well}
@@ -114,13 +115,13 @@ cause-length ts = (go (readTarget ts) (cause-told ts), λ h. wrong-found ts 1024
 
 -- ---- Match's sixth number.
 
-module _ (ms ps ts : List ℤ) (budget : ℕ) (room : List ℤ) where
+module _ (form : Form) (ms ps ts : List ℤ) (budget : ℕ) (room : List ℤ) where
   abbrev it : Matched
-  it = match ms ps ts budget room
+  it = matchIn form ms ps ts budget room
 
   told-5 : (i : ℕ) → Fault ms ps ts 5 i → it .cause ≡ causeOf ts
   unfolding turnedAway causeIn
-  told-5 i f = ap (λ (x : Matched). x .cause) (match-turned ms ps ts budget room 5 i f)
+  told-5 i f = ap (λ (x : Matched). x .cause) (match-turned form ms ps ts budget room 5 i f)
 
   fault-5 : {a i : ℕ} → a ≡ 5 → Fault ms ps ts a i → ((r : Rule) × (ruleOf ms ps ≡ accepted r)) × (readTarget ts ≡ fault i)
   fault-5 e (ofRule f) = let h = rule-range f .1 in absurd (omega (arith, h, e))
@@ -128,7 +129,7 @@ module _ (ms ps ts : List ℤ) (budget : ℕ) (room : List ℤ) where
   fault-5 e (ofTarget r w (unfit x q)) = absurd (omega (arith, e))
 
   is-5 : it .answer ≡ 5 → Fault ms ps ts 5 (it .place)
-  is-5 e = refused-exactly ms ps ts budget room 5 (it .place) .1 (omega arith, omega arith, e, refl)
+  is-5 e = refused-exactly form ms ps ts budget room 5 (it .place) .1 (omega arith, omega arith, e, refl)
 
   -- Answer 5 at a place with a cause: exactly for a rule that is accepted and words so wrong.
   pub answer-5 : (i : ℕ) (c : Cause) → ((r : Rule) × (ruleOf ms ps ≡ accepted r)) × Wrong ts i c
@@ -139,24 +140,24 @@ module _ (ms ps ts : List ℤ) (budget : ℕ) (room : List ℤ) where
       to h =
           let w = cause-at ts i c .1 (h .1) in
           let f = ofTarget (h .0 .0) (rule-accepted ms ps (h .0 .0) .0 (h .0 .1)) (notTarget (w .0)) in
-          let r = refused-exactly ms ps ts budget room 5 i .0 f in
+          let r = refused-exactly form ms ps ts budget room 5 i .0 f in
           (r .2, r .3, told-5 i f ∙ w .1)
 
       from : (it .answer ≡ 5) × (it .place ≡ i) × (it .cause ≡ causeNumber c) → ((r : Rule) × (ruleOf ms ps ≡ accepted r)) × Wrong ts i c
       from h =
-          let f = refused-exactly ms ps ts budget room 5 i .1 (omega arith, omega arith, h .0, h .1) in
+          let f = refused-exactly form ms ps ts budget room 5 i .1 (omega arith, omega arith, h .0, h .1) in
           let k = fault-5 refl f in
           (k .0, cause-at ts i c .0 (k .1, sym (told-5 i f) ∙ h .2))
 
   -- 0 in every other answer.
   pub cause-other : (it .answer ≡ 5 → ⊥) → it .cause ≡ 0
   unfolding turnedAway carriedOut causeIn
-  cause-other no-5 = go (match-judged ms ps ts budget room)
+  cause-other no-5 = go (match-judged form ms ps ts budget room)
     where
       not-5 : (a : ℕ) → (a ≡ 5 → ⊥) → cond (eqb a 5) (causeOf ts) 0 ≡ 0
       not-5 a n = ap (λ b. cond b (causeOf ts) 0) (is-false (eqb a 5) (λ t. n (eqb→eq a 5 t)))
 
-      go : Judgement ms ps ts budget room it → it .cause ≡ 0
+      go : Judgement form ms ps ts budget room it → it .cause ≡ 0
       go (turned a i f q) = ap (λ (x : Matched). x .cause) q ∙ not-5 a (λ e. no-5 (ap (λ (x : Matched). x .answer) q ∙ e))
       go (ran r v s q) = ap (λ (x : Matched). x .cause) q
 

@@ -8,9 +8,9 @@ use mathlib.Core.Option.{Option, none, some}
 use mathlib.Core.List.{List, [], _∷_, map, List·Memᴰ·head, List·Memᴰ·tail, List·Memᴰ·not-nil, List·Memᴰ·cases-cons, List·Memᴰ·eq-of-singleton, Memᴰ·map, Memᴰ·of-map}
 use lib.ListN.{getElem?}
 use lib.Dec.{T, leb, leb→le, le→leb, leb·zero, leb·suc-zero, leb·suc-suc}
-use Rattle.rules.specs.Forms.{Matcher, something, integer, list, multiset, tupleOf, Value, int, collection, tupled, Values, empty, _▸_, count}
-use Rattle.rules.specs.Equality.{Pick, picks, behind}
-use Rattle.rules.specs.Search.{Cut, cuts, longer, Halves, consHalves, joinHalves}
+use Rattle.rules.specs.Forms.{Matcher, something, integer, list, multiset, tupleOf, count}
+use Rattle.rules.specs.Origins.{Valueᵒ, intᵒ, collectionᵒ, tupledᵒ, Valuesᵒ, emptyᵒ, _▸ᵒ_, Origin, plainAll}
+use Rattle.rules.specs.Search.{Taking, takings, behind, Cut, cuts, longer, Halves, consHalves, joinHalves}
 use Rattle.rules.specs.Ways.{Way, at, without, front, back, ConsBy, JoinBy}
 use Rattle.forms.specs.Lists.{Mem}
 use Rattle.rules.specs.Following.{Numbered, up, numbered, isMultiset, mark}
@@ -19,7 +19,7 @@ true-path : (b : Bool) → T b → b ≡ true
 true-path true t = refl
 true-path false t = absurd t
 
-abbrev halves : Value → Value → Halves
+abbrev halves : Valueᵒ → Valueᵒ → Halves
 halves a b = record { first = a; second = b }
 
 -- ---- An entry of a list by its number.
@@ -34,50 +34,50 @@ getElem-map f [] k = refl
 getElem-map f (x ∷ xs) zero = refl
 getElem-map f (x ∷ xs) (suc k) = getElem-map f xs k
 
-unfoldable picked : Option Value → Values → Option Pick
+unfoldable picked : Option Valueᵒ → Valuesᵒ → Option Taking
 picked none r = none
 picked (some x) r = some (record { one = x; others = r })
 
-behind-picked : (v : Value) (o : Option Value) (r : Values) → optMap (behind v) (picked o r) ≡ picked o (v ▸ r)
+behind-picked : (v : Valueᵒ) (o : Option Valueᵒ) (r : Valuesᵒ) → optMap (behind v) (picked o r) ≡ picked o (v ▸ᵒ r)
 unfolding optMap picked behind
 behind-picked v none r = refl
 behind-picked v (some x) r = refl
 
-picks-nth : (vs : Values) (k : ℕ) → getElem? (picks vs) k ≡ picked (at vs k) (without vs k)
-unfolding picks picked at without
-picks-nth empty k = refl
-picks-nth (v ▸ vs) zero = refl
-picks-nth (v ▸ vs) (suc k) = getElem-map (behind v) (picks vs) k ∙ ap (optMap (behind v)) (picks-nth vs k) ∙ behind-picked v (at vs k) (without vs k)
+takings-nth : (vs : Valuesᵒ) (k : ℕ) → getElem? (takings vs) k ≡ picked (at vs k) (without vs k)
+unfolding takings picked at without
+takings-nth emptyᵒ k = refl
+takings-nth (v ▸ᵒ vs) zero = refl
+takings-nth (v ▸ᵒ vs) (suc k) = getElem-map (behind v) (takings vs) k ∙ ap (optMap (behind v)) (takings-nth vs k) ∙ behind-picked v (at vs k) (without vs k)
 
-unfoldable cutAt : Bool → Values → Values → Option Cut
+unfoldable cutAt : Bool → Valuesᵒ → Valuesᵒ → Option Cut
 cutAt true f b = some (record { front = f; back = b })
 cutAt false f b = none
 
-longer-cut : (v : Value) (t : Bool) (f b : Values) → optMap (longer v) (cutAt t f b) ≡ cutAt t (v ▸ f) b
+longer-cut : (v : Valueᵒ) (t : Bool) (f b : Valuesᵒ) → optMap (longer v) (cutAt t f b) ≡ cutAt t (v ▸ᵒ f) b
 unfolding optMap cutAt longer
 longer-cut v true f b = refl
 longer-cut v false f b = refl
 
-cuts-nth : (vs : Values) (k : ℕ) → getElem? (cuts vs) k ≡ cutAt (leb k (count vs)) (front vs k) (back vs k)
-unfolding cuts cutAt count front back
-cuts-nth empty zero = refl
-cuts-nth empty (suc k) = rw (leb·suc-zero k)
-cuts-nth (v ▸ vs) zero = rw (leb·zero (suc (count vs)))
-cuts-nth (v ▸ vs) (suc k) =
-    getElem-map (longer v) (cuts vs) k ∙ ap (optMap (longer v)) (cuts-nth vs k) ∙ longer-cut v (leb k (count vs)) (front vs k) (back vs k)
-    ∙ ap (λ t. cutAt t (v ▸ front vs k) (back vs k)) (sym (leb·suc-suc k (count vs)))
+cuts-nth : (vs : Valuesᵒ) (k : ℕ) → getElem? (cuts vs) k ≡ cutAt (leb k (count (plainAll vs))) (front vs k) (back vs k)
+unfolding cuts cutAt count plainAll front back
+cuts-nth emptyᵒ zero = refl
+cuts-nth emptyᵒ (suc k) = rw (leb·suc-zero k)
+cuts-nth (v ▸ᵒ vs) zero = rw (leb·zero (suc (count (plainAll vs))))
+cuts-nth (v ▸ᵒ vs) (suc k) =
+    getElem-map (longer v) (cuts vs) k ∙ ap (optMap (longer v)) (cuts-nth vs k) ∙ longer-cut v (leb k (count (plainAll vs))) (front vs k) (back vs k)
+    ∙ ap (λ t. cutAt t (v ▸ᵒ front vs k) (back vs k)) (sym (leb·suc-suc k (count (plainAll vs))))
 
-unfoldable pickHalves : Pick → Halves
-pickHalves p = halves (p .one) (collection (p .others))
+unfoldable pickHalves : Origin → Taking → Halves
+pickHalves o p = halves (p .one) (collectionᵒ o (p .others))
 
-unfoldable cutHalves : Cut → Halves
-cutHalves c = halves (collection (c .front)) (collection (c .back))
+unfoldable cutHalves : Origin → Cut → Halves
+cutHalves o c = halves (collectionᵒ o (c .front)) (collectionᵒ o (c .back))
 
-pick-nth : (vs : Values) (k : ℕ) → getElem? (map pickHalves (picks vs)) k ≡ optMap pickHalves (picked (at vs k) (without vs k))
-pick-nth vs k = getElem-map pickHalves (picks vs) k ∙ ap (optMap pickHalves) (picks-nth vs k)
+pick-nth : (o : Origin) (vs : Valuesᵒ) (k : ℕ) → getElem? (map (pickHalves o) (takings vs)) k ≡ optMap (pickHalves o) (picked (at vs k) (without vs k))
+pick-nth o vs k = getElem-map (pickHalves o) (takings vs) k ∙ ap (optMap (pickHalves o)) (takings-nth vs k)
 
-cut-nth : (vs : Values) (k : ℕ) → getElem? (map cutHalves (cuts vs)) k ≡ optMap cutHalves (cutAt (leb k (count vs)) (front vs k) (back vs k))
-cut-nth vs k = getElem-map cutHalves (cuts vs) k ∙ ap (optMap cutHalves) (cuts-nth vs k)
+cut-nth : (o : Origin) (vs : Valuesᵒ) (k : ℕ) → getElem? (map (cutHalves o) (cuts vs)) k ≡ optMap (cutHalves o) (cutAt (leb k (count (plainAll vs))) (front vs k) (back vs k))
+cut-nth o vs k = getElem-map (cutHalves o) (cuts vs) k ∙ ap (optMap (cutHalves o)) (cuts-nth vs k)
 
 -- ---- The numbered ones are the entries.
 
@@ -107,86 +107,86 @@ in-numbered (h ∷ hs) c m = ⊎-elim
 
 -- ---- What can be chosen is numbered, and what is numbered can be chosen.
 
-picked-some : (o : Option Value) (r : Values) (h : Halves) → optMap pickHalves (picked o r) ≡ some h → (o ≡ some (h .first)) × (h .second ≡ collection r)
+picked-some : (o : Origin) (x : Option Valueᵒ) (r : Valuesᵒ) (h : Halves) → optMap (pickHalves o) (picked x r) ≡ some h → (x ≡ some (h .first)) × (h .second ≡ collectionᵒ o r)
 unfolding optMap picked pickHalves
-picked-some none r h e = let z : _≡_ {A = ℕ} 0 1 = cc in absurd (suc-ne-zero 0 (sym z))
-picked-some (some x) r h e = let z : halves x (collection r) ≡ h = cc in (ap (λ (y : Halves). some (y .first)) z, sym (ap (λ (y : Halves). y .second) z))
+picked-some o none r h e = let z : _≡_ {A = ℕ} 0 1 = cc in absurd (suc-ne-zero 0 (sym z))
+picked-some o (some x) r h e = let z : halves x (collectionᵒ o r) ≡ h = cc in (ap (λ (y : Halves). some (y .first)) z, sym (ap (λ (y : Halves). y .second) z))
 
-cut-some : (t : Bool) (f b : Values) (h : Halves) → optMap cutHalves (cutAt t f b) ≡ some h → T t × (h .first ≡ collection f) × (h .second ≡ collection b)
+cut-some : (o : Origin) (t : Bool) (f b : Valuesᵒ) (h : Halves) → optMap (cutHalves o) (cutAt t f b) ≡ some h → T t × (h .first ≡ collectionᵒ o f) × (h .second ≡ collectionᵒ o b)
 unfolding optMap cutAt cutHalves
-cut-some true f b h e =
-    let z : halves (collection f) (collection b) ≡ h = cc in (tt, sym (ap (λ (y : Halves). y .first) z), sym (ap (λ (y : Halves). y .second) z))
-cut-some false f b h e = let z : _≡_ {A = ℕ} 0 1 = cc in absurd (suc-ne-zero 0 (sym z))
+cut-some o true f b h e =
+    let z : halves (collectionᵒ o f) (collectionᵒ o b) ≡ h = cc in (tt, sym (ap (λ (y : Halves). y .first) z), sym (ap (λ (y : Halves). y .second) z))
+cut-some o false f b h e = let z : _≡_ {A = ℕ} 0 1 = cc in absurd (suc-ne-zero 0 (sym z))
 
 -- The choice `here` that divides a value into x and y is one of the numbered; with `false` no choice is put into the way.
-pub record Made (b : Bool) (hs : List Halves) (here : Way) (x y : Value) : Type 0 where
+pub record Made (b : Bool) (hs : List Halves) (here : Way) (x y : Valueᵒ) : Type 0 where
   pub c : Numbered
   pub member : Mem c (numbered hs)
   pub way : mark b (c .no) ≡ here
   pub is : c .halves ≡ halves x y
 
-pub cons-sound : (m : Matcher) (v : Value) (c : Numbered) → Mem c (numbered (consHalves m v))
+pub cons-sound : (m : Matcher) (v : Valueᵒ) (c : Numbered) → Mem c (numbered (consHalves m v))
     → ConsBy m v (mark (isMultiset m) (c .no)) (c .halves .first) (c .halves .second)
 unfolding consHalves numbered isMultiset mark ConsBy pickHalves
 cons-sound something v c i = absurd (List·Memᴰ·not-nil i)
 cons-sound integer v c i = absurd (List·Memᴰ·not-nil i)
-cons-sound (list m) (int x) c i = absurd (List·Memᴰ·not-nil i)
-cons-sound (list m) (collection empty) c i = absurd (List·Memᴰ·not-nil i)
-cons-sound (list m) (collection (v ▸ vs)) c i =
+cons-sound (list m) (intᵒ o x) c i = absurd (List·Memᴰ·not-nil i)
+cons-sound (list m) (collectionᵒ o emptyᵒ) c i = absurd (List·Memᴰ·not-nil i)
+cons-sound (list m) (collectionᵒ o (v ▸ᵒ vs)) c i =
     let e = List·Memᴰ·eq-of-singleton i in (refl, ap (λ (y : Numbered). y .halves .first) e, ap (λ (y : Numbered). y .halves .second) e)
-cons-sound (list m) (tupled vs) c i = absurd (List·Memᴰ·not-nil i)
-cons-sound (multiset m) (int x) c i = absurd (List·Memᴰ·not-nil i)
-cons-sound (multiset m) (collection vs) c i =
-    let r = picked-some (at vs (c .no)) (without vs (c .no)) (c .halves) (sym (pick-nth vs (c .no)) ∙ numbered-nth (map pickHalves (picks vs)) c i) in
+cons-sound (list m) (tupledᵒ o vs) c i = absurd (List·Memᴰ·not-nil i)
+cons-sound (multiset m) (intᵒ o x) c i = absurd (List·Memᴰ·not-nil i)
+cons-sound (multiset m) (collectionᵒ o vs) c i =
+    let r = picked-some o (at vs (c .no)) (without vs (c .no)) (c .halves) (sym (pick-nth o vs (c .no)) ∙ numbered-nth (map (pickHalves o) (takings vs)) c i) in
     (c .no, refl, r .0, r .1)
-cons-sound (multiset m) (tupled vs) c i = absurd (List·Memᴰ·not-nil i)
+cons-sound (multiset m) (tupledᵒ o vs) c i = absurd (List·Memᴰ·not-nil i)
 cons-sound (tupleOf ms) v c i = absurd (List·Memᴰ·not-nil i)
 
-pub cons-complete : (m : Matcher) (v : Value) (here : Way) (a b : Value) → ConsBy m v here a b → Made (isMultiset m) (consHalves m v) here a b
+pub cons-complete : (m : Matcher) (v : Valueᵒ) (here : Way) (a b : Valueᵒ) → ConsBy m v here a b → Made (isMultiset m) (consHalves m v) here a b
 unfolding consHalves numbered isMultiset mark ConsBy pickHalves optMap picked
 cons-complete something v here a b h = absurd h
 cons-complete integer v here a b h = absurd h
-cons-complete (list m) (int x) here a b h = absurd h
-cons-complete (list m) (collection empty) here a b h = absurd h
-cons-complete (list m) (collection (x ▸ xs)) here a b h = record {
-  c = record { no = 0; halves = halves x (collection xs) };
+cons-complete (list m) (intᵒ o x) here a b h = absurd h
+cons-complete (list m) (collectionᵒ o emptyᵒ) here a b h = absurd h
+cons-complete (list m) (collectionᵒ o (x ▸ᵒ xs)) here a b h = record {
+  c = record { no = 0; halves = halves x (collectionᵒ o xs) };
   member = List·Memᴰ·head refl;
   way = sym (h .0);
   is = sym (ap₂ halves (h .1) (h .2));
 }
-cons-complete (list m) (tupled vs) here a b h = absurd h
-cons-complete (multiset m) (int x) here a b h = absurd h
-cons-complete (multiset m) (collection vs) here a b h =
-    let e : getElem? (map pickHalves (picks vs)) (h .0) ≡ some (halves a (collection (without vs (h .0)))) =
-    pick-nth vs (h .0) ∙ ap (λ o. optMap pickHalves (picked o (without vs (h .0)))) (h .2) in
+cons-complete (list m) (tupledᵒ o vs) here a b h = absurd h
+cons-complete (multiset m) (intᵒ o x) here a b h = absurd h
+cons-complete (multiset m) (collectionᵒ o vs) here a b h =
+    let e : getElem? (map (pickHalves o) (takings vs)) (h .0) ≡ some (halves a (collectionᵒ o (without vs (h .0)))) =
+    pick-nth o vs (h .0) ∙ ap (λ x. optMap (pickHalves o) (picked x (without vs (h .0)))) (h .2) in
     record {
-      c = record { no = h .0; halves = halves a (collection (without vs (h .0))) };
-      member = nth-numbered (map pickHalves (picks vs)) (h .0) _ e;
+      c = record { no = h .0; halves = halves a (collectionᵒ o (without vs (h .0))) };
+      member = nth-numbered (map (pickHalves o) (takings vs)) (h .0) _ e;
       way = sym (h .1);
       is = ap (halves a) (sym (h .3));
     }
-cons-complete (multiset m) (tupled vs) here a b h = absurd h
+cons-complete (multiset m) (tupledᵒ o vs) here a b h = absurd h
 cons-complete (tupleOf ms) v here a b h = absurd h
 
-pub join-sound : (v : Value) (c : Numbered) → Mem c (numbered (joinHalves v)) → JoinBy v (mark true (c .no)) (c .halves .first) (c .halves .second)
+pub join-sound : (v : Valueᵒ) (c : Numbered) → Mem c (numbered (joinHalves v)) → JoinBy v (mark true (c .no)) (c .halves .first) (c .halves .second)
 unfolding joinHalves numbered mark JoinBy cutHalves
-join-sound (int x) c i = absurd (List·Memᴰ·not-nil i)
-join-sound (collection vs) c i =
-    let r = cut-some (leb (c .no) (count vs)) (front vs (c .no)) (back vs (c .no)) (c .halves)
-    (sym (cut-nth vs (c .no)) ∙ numbered-nth (map cutHalves (cuts vs)) c i) in
-    (c .no, refl, leb→le (c .no) (count vs) (r .0), r .1, r .2)
-join-sound (tupled vs) c i = absurd (List·Memᴰ·not-nil i)
+join-sound (intᵒ o x) c i = absurd (List·Memᴰ·not-nil i)
+join-sound (collectionᵒ o vs) c i =
+    let r = cut-some o (leb (c .no) (count (plainAll vs))) (front vs (c .no)) (back vs (c .no)) (c .halves)
+    (sym (cut-nth o vs (c .no)) ∙ numbered-nth (map (cutHalves o) (cuts vs)) c i) in
+    (c .no, refl, leb→le (c .no) (count (plainAll vs)) (r .0), r .1, r .2)
+join-sound (tupledᵒ o vs) c i = absurd (List·Memᴰ·not-nil i)
 
-pub join-complete : (v : Value) (here : Way) (a b : Value) → JoinBy v here a b → Made true (joinHalves v) here a b
+pub join-complete : (v : Valueᵒ) (here : Way) (a b : Valueᵒ) → JoinBy v here a b → Made true (joinHalves v) here a b
 unfolding joinHalves numbered mark JoinBy cutHalves optMap cutAt
-join-complete (int x) here a b h = absurd h
-join-complete (collection vs) here a b h =
-    let e : getElem? (map cutHalves (cuts vs)) (h .0) ≡ some (halves (collection (front vs (h .0))) (collection (back vs (h .0)))) =
-    cut-nth vs (h .0) ∙ ap (λ t. optMap cutHalves (cutAt t (front vs (h .0)) (back vs (h .0)))) (true-path (leb (h .0) (count vs)) (le→leb (h .0) (count vs) (h .2))) in
+join-complete (intᵒ o x) here a b h = absurd h
+join-complete (collectionᵒ o vs) here a b h =
+    let e : getElem? (map (cutHalves o) (cuts vs)) (h .0) ≡ some (halves (collectionᵒ o (front vs (h .0))) (collectionᵒ o (back vs (h .0)))) =
+    cut-nth o vs (h .0) ∙ ap (λ t. optMap (cutHalves o) (cutAt t (front vs (h .0)) (back vs (h .0)))) (true-path (leb (h .0) (count (plainAll vs))) (le→leb (h .0) (count (plainAll vs)) (h .2))) in
     record {
-      c = record { no = h .0; halves = halves (collection (front vs (h .0))) (collection (back vs (h .0))) };
-      member = nth-numbered (map cutHalves (cuts vs)) (h .0) _ e;
+      c = record { no = h .0; halves = halves (collectionᵒ o (front vs (h .0))) (collectionᵒ o (back vs (h .0))) };
+      member = nth-numbered (map (cutHalves o) (cuts vs)) (h .0) _ e;
       way = sym (h .1);
       is = ap₂ halves (sym (h .3)) (sym (h .4));
     }
-join-complete (tupled vs) here a b h = absurd h
+join-complete (tupledᵒ o vs) here a b h = absurd h

@@ -7,11 +7,11 @@ use mathlib.Core.List.{List, [], _∷_, _++_}
 use lib.Dec.{T, eqb}
 use Rattle.rules.specs.Forms.{Matcher, something, integer, list, multiset, tupleOf, Matchers, noMatchers, _▸ᵐ_, countᵐ}
 use Rattle.rules.specs.Forms.{Pattern, wildcard, nil, variable, constant, value, cons, join, tuple, both, either, never, Patterns, noPatterns, _▸ᵖ_, countᵖ, span}
-use Rattle.rules.specs.Forms.{Value, int, collection, tupled, Values, empty, _▸_}
+use Rattle.rules.specs.Origins.{Valueᵒ, intᵒ, collectionᵒ, tupledᵒ, Valuesᵒ, emptyᵒ, _▸ᵒ_, Bindings, plain, plainAll}
 use Rattle.rules.specs.Reading.{Verdict, ok, _then_}
 use Rattle.rules.specs.Variables.{demand}
 use Rattle.rules.specs.Fit.{among, takes, members, fits, fitsParts}
-use Rattle.rules.specs.Equality.{Bindings}
+use Rattle.rules.specs.Origins.{Bindings}
 use Rattle.rules.specs.Ways.{Way, Parts, JoinBy, Follows, FollowsAll}
 use Rattle.rules.specs.Always.{tags, tagsAll, failing, noneFails, alwaysTrue}
 use Rattle.forms.specs.Tests.{and-split}
@@ -33,30 +33,30 @@ none-split : (xs ys : List ℕ) → T (noneFails (xs ++ ys)) → T (noneFails xs
 none-split xs ys h = and-split (noneFails xs) (noneFails ys) (subst T (none-append xs ys) h)
 
 -- From the bindings e some way is good.
-abbrev pub Passes : Pattern → Matcher → Value → Bindings → Type 0
+abbrev pub Passes : Pattern → Matcher → Valueᵒ → Bindings → Type 0
 Passes p m v e = (w : Way) × (d : Bindings) × Follows p m v e w d
 
-abbrev PassesAll : Patterns → Matchers → Values → Bindings → Type 0
+abbrev PassesAll : Patterns → Matchers → Valuesᵒ → Bindings → Type 0
 PassesAll ps ms vs e = (w : Way) × (d : Bindings) × FollowsAll ps ms vs e w d
 
--- A join under a list: the empty front, and the whole as its back.
-join-passes : (p q : Pattern) (m : Matcher) (v : Value) (e : Bindings) → T (takes m 6) → Suits m v
-    → ((u : Value) (c : Bindings) → Suits m u → Passes p m u c) → ((u : Value) (c : Bindings) → Suits m u → Passes q m u c) → Passes (join p q) m v e
-unfolding takes Suits Every Follows JoinBy
+-- A join under a list: the emptyᵒ front, and the whole as its back.
+join-passes : (p q : Pattern) (m : Matcher) (v : Valueᵒ) (e : Bindings) → T (takes m 6) → Suits m (plain v)
+    → ((u : Valueᵒ) (c : Bindings) → Suits m (plain u) → Passes p m u c) → ((u : Valueᵒ) (c : Bindings) → Suits m (plain u) → Passes q m u c) → Passes (join p q) m v e
+unfolding takes Suits Every Follows JoinBy plain
 join-passes p q something v e t s f g = absurd t
 join-passes p q integer v e t s f g = absurd t
-join-passes p q (list m) (int x) e t s f g = absurd s
-join-passes p q (list m) (collection vs) e t s f g =
-    let x = f (collection empty) e tt in
-    let y = g (collection vs) (x .1) s in (
+join-passes p q (list m) (intᵒ o x) e t s f g = absurd s
+join-passes p q (list m) (collectionᵒ o vs) e t s f g =
+    let x = f (collectionᵒ o emptyᵒ) e tt in
+    let y = g (collectionᵒ o vs) (x .1) s in (
       0 ∷ (x .0 ++ y .0),
       y .1,
       record {
         here = 0 ∷ [];
         one = x .0;
         two = y .0;
-        a = collection empty;
-        b = collection vs;
+        a = collectionᵒ o emptyᵒ;
+        b = collectionᵒ o vs;
         between = x .1;
         divided = (0, refl, zero-le, refl, refl);
         first = x .2;
@@ -64,47 +64,47 @@ join-passes p q (list m) (collection vs) e t s f g =
         way = refl;
       },
     )
-join-passes p q (list m) (tupled vs) e t s f g = absurd s
+join-passes p q (list m) (tupledᵒ o vs) e t s f g = absurd s
 join-passes p q (multiset m) v e t s f g = absurd t
 join-passes p q (tupleOf ms) v e t s f g = absurd t
 
 -- A tuple's parts, of a tuple.
-tuple-passes : (ps : Patterns) (m : Matcher) (v : Value) (e : Bindings) → T (takes m 7) → Suits m v
-    → ((vs : Values) → SuitsEach (members m) vs → PassesAll ps (members m) vs e) → Passes (tuple ps) m v e
-unfolding takes Suits Follows Parts
+tuple-passes : (ps : Patterns) (m : Matcher) (v : Valueᵒ) (e : Bindings) → T (takes m 7) → Suits m (plain v)
+    → ((vs : Valuesᵒ) → SuitsEach (members m) (plainAll vs) → PassesAll ps (members m) vs e) → Passes (tuple ps) m v e
+unfolding takes Suits Follows Parts plain
 tuple-passes ps something v e t s f = absurd t
 tuple-passes ps integer v e t s f = absurd t
 tuple-passes ps (list m) v e t s f = absurd t
 tuple-passes ps (multiset m) v e t s f = absurd t
-tuple-passes ps (tupleOf ms) (int x) e t s f = absurd s
-tuple-passes ps (tupleOf ms) (collection vs) e t s f = absurd s
-tuple-passes ps (tupleOf ms) (tupled vs) e t s f = f vs (tuple-suits (tupleOf ms) vs s)
+tuple-passes ps (tupleOf ms) (intᵒ o x) e t s f = absurd s
+tuple-passes ps (tupleOf ms) (collectionᵒ o vs) e t s f = absurd s
+tuple-passes ps (tupleOf ms) (tupledᵒ o vs) e t s f = f vs (tuple-suits (tupleOf ms) (plainAll vs) s)
 
 -- One part, and then the others.
-both-passes : (p q : Pattern) (m : Matcher) (v : Value) (e : Bindings) → Passes p m v e → ((d : Bindings) → Passes q m v d) → Passes (both p q) m v e
+both-passes : (p q : Pattern) (m : Matcher) (v : Valueᵒ) (e : Bindings) → Passes p m v e → ((d : Bindings) → Passes q m v d) → Passes (both p q) m v e
 unfolding Follows
 both-passes p q m v e x g =
     let y = g (x .1) in
     (x .0 ++ y .0, y .1, record { one = x .0; two = y .0; between = x .1; first = x .2; others = y .2; way = refl })
 
-next-passes : (p : Pattern) (ps : Patterns) (m : Matcher) (ms : Matchers) (v : Value) (vs : Values) (e : Bindings) → Passes p m v e
-    → ((d : Bindings) → PassesAll ps ms vs d) → PassesAll (p ▸ᵖ ps) (m ▸ᵐ ms) (v ▸ vs) e
+next-passes : (p : Pattern) (ps : Patterns) (m : Matcher) (ms : Matchers) (v : Valueᵒ) (vs : Valuesᵒ) (e : Bindings) → Passes p m v e
+    → ((d : Bindings) → PassesAll ps ms vs d) → PassesAll (p ▸ᵖ ps) (m ▸ᵐ ms) (v ▸ᵒ vs) e
 unfolding FollowsAll
 next-passes p ps m ms v vs e x g =
     let y = g (x .1) in
     (x .0 ++ y .0, y .1, record { one = x .0; two = y .0; between = x .1; first = x .2; others = y .2; way = refl })
 
 -- An or by its first side.
-either-passes : (p q : Pattern) (m : Matcher) (v : Value) (e : Bindings) → Passes p m v e → Passes (either p q) m v e
+either-passes : (p q : Pattern) (m : Matcher) (v : Valueᵒ) (e : Bindings) → Passes p m v e → Passes (either p q) m v e
 unfolding Follows
 either-passes p q m v e x = (0 ∷ x .0, x .1, inl (record { rest = x .0; inside = x .2; way = refl }))
 
-suits-first : (m : Matcher) (ms : Matchers) (v : Value) (vs : Values) → SuitsEach (m ▸ᵐ ms) (v ▸ vs) → Suits m v
-unfolding SuitsEach
+suits-first : (m : Matcher) (ms : Matchers) (v : Valueᵒ) (vs : Valuesᵒ) → SuitsEach (m ▸ᵐ ms) (plainAll (v ▸ᵒ vs)) → Suits m (plain v)
+unfolding SuitsEach plainAll
 suits-first m ms v vs s = s .0
 
-suits-others : (m : Matcher) (ms : Matchers) (v : Value) (vs : Values) → SuitsEach (m ▸ᵐ ms) (v ▸ vs) → SuitsEach ms vs
-unfolding SuitsEach
+suits-others : (m : Matcher) (ms : Matchers) (v : Valueᵒ) (vs : Valuesᵒ) → SuitsEach (m ▸ᵐ ms) (plainAll (v ▸ᵒ vs)) → SuitsEach ms (plainAll vs)
+unfolding SuitsEach plainAll
 suits-others m ms v vs s = s .1
 
 -- What a tag with two parts demands of its matcher, and the fit of the parts.
@@ -119,7 +119,7 @@ mutual
   unfolding tags noneFails fits Follows
 
   pub always-passes : (p : Pattern) (m : Matcher) (at : ℕ) (ks ls : List Matcher) → T (noneFails (tags p)) → fits p m at ks ≡ ok ls
-      → (v : Value) (e : Bindings) → Suits m v → Passes p m v e
+      → (v : Valueᵒ) (e : Bindings) → Suits m (plain v) → Passes p m v e
   always-passes wildcard m at ks ls a f v e s = ([], e, (refl, refl))
   always-passes (variable x) m at ks ls a f v e s = ([], e ++ (v ∷ []), (refl, refl))
   always-passes (constant c) m at ks ls a f v e s = absurd a
@@ -148,11 +148,11 @@ mutual
   always-passes (never p) m at ks ls a f v e s = absurd a
 
   always-passes-all : (ps : Patterns) (ms : Matchers) (at : ℕ) (ks ls : List Matcher) → T (noneFails (tagsAll ps)) → fitsParts ps ms at ks ≡ ok ls
-      → (vs : Values) (e : Bindings) → SuitsEach ms vs → PassesAll ps ms vs e
+      → (vs : Valuesᵒ) (e : Bindings) → SuitsEach ms (plainAll vs) → PassesAll ps ms vs e
   always-passes-all noPatterns ms at ks ls a f vs e s = ([], e, (refl, refl))
   always-passes-all (p ▸ᵖ ps) noMatchers at ks ls a f vs e s = ([], e, (refl, refl))
-  always-passes-all (p ▸ᵖ ps) (m ▸ᵐ ms) at ks ls a f empty e s = ([], e, (refl, refl))
-  always-passes-all (p ▸ᵖ ps) (m ▸ᵐ ms) at ks ls a f (v ▸ vs) e s =
+  always-passes-all (p ▸ᵖ ps) (m ▸ᵐ ms) at ks ls a f emptyᵒ e s = ([], e, (refl, refl))
+  always-passes-all (p ▸ᵖ ps) (m ▸ᵐ ms) at ks ls a f (v ▸ᵒ vs) e s =
       let b = none-split (tags p) (tagsAll ps) a in
       let t = then-ok (fits p m at ks) (λ is. fitsParts ps ms (at + span p) is) ls f in
       next-passes p ps m ms v vs e (always-passes p m at ks (t .0) (b .0) (t .1) v e (suits-first m ms v vs s))

@@ -5,7 +5,7 @@ use mathlib.Core.Path.{_≡_, refl, sym, ap, ap₂, _∙_, subst}
 use mathlib.Core.Logic.{_⊎_, inl, inr, ⊎-elim}
 use mathlib.Core.List.{List, [], _∷_, _++_, List·Memᴰ·head, List·Memᴰ·tail, List·Memᴰ·not-nil, List·Memᴰ·cases-cons}
 use Rattle.rules.specs.Forms.{Matcher, Pattern, Value}
-use Rattle.rules.specs.Equality.{Bindings}
+use Rattle.rules.specs.Origins.{Bindings, target}
 use Rattle.rules.specs.Ways.{Way, _≺_, Good}
 use Rattle.forms.specs.Lists.{Mem, Pairwise}
 use Rattle.rules.specs.Following.{Solution, solve}
@@ -46,9 +46,9 @@ pub record Listing (m : Matcher) (p : Pattern) (v : Value) (ss : List Solution) 
   pub sound : (s : Solution) → Mem s ss → Good m p v (s .way) (s .bound)
   pub complete : (w : Way) (e : Bindings) → Good m p v w e → Mem (record { way = w; bound = e }) ss
 
-pub solve-listing : (m : Matcher) (p : Pattern) (v : Value) → Listing m p v (solve p m v [])
+pub solve-listing : (m : Matcher) (p : Pattern) (v : Value) → Listing m p v (solve p m (target v) [])
 unfolding Good
-solve-listing m p v = record { increasing = solve-increasing p m v []; sound = sound p m v []; complete = complete p m v [] }
+solve-listing m p v = record { increasing = solve-increasing p m (target v) []; sound = sound p m (target v) []; complete = complete p m (target v) [] }
 
 pub listing-unique : (m : Matcher) (p : Pattern) (v : Value) (ss ts : List Solution) → Listing m p v ss → Listing m p v ts → ss ≡ ts
 listing-unique m p v ss ts a b = in-order-unique (λ s t. s .way ≺ t .way) (λ s t. ≺-asym (s .way) (t .way)) ss ts (a .increasing) (b .increasing)
@@ -84,5 +84,5 @@ unfolding Good
 way-ends m p v u x d e g h = ⊎-elim
     (λ q. (no-longer u x (ap (λ (s : Solution). s .way) q), ap (λ (s : Solution). s .bound) q))
     (λ q. ⊎-elim (λ l. absurd (≪-longer u x l)) (λ l. absurd (longer-≪ u x l)) q)
-    (two-members Earlier (solve p m v []) (solve-in-order p m v []) (record { way = u; bound = d }) (record { way = u ++ x; bound = e })
-    (complete p m v [] u d g) (complete p m v [] (u ++ x) e h))
+    (two-members Earlier (solve p m (target v) []) (solve-in-order p m (target v) []) (record { way = u; bound = d }) (record { way = u ++ x; bound = e })
+    (complete p m (target v) [] u d g) (complete p m (target v) [] (u ++ x) e h))

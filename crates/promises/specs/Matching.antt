@@ -11,11 +11,12 @@ use lib.IntN.{ℤ}
 use Rattle.rules.specs.Forms.{Value, words, size}
 use Rattle.rules.specs.Reading.{ok}
 use Rattle.rules.specs.Variables.{variables}
-use Rattle.rules.specs.Equality.{Bindings}
-use Rattle.rules.specs.Search.{row, Run, run, start}
+use Rattle.rules.specs.Origins.{Bindings, plain, target}
+use Rattle.rules.specs.Rows.{Form, row}
+use Rattle.rules.specs.Search.{Run, run, start}
 use Rattle.rules.specs.Ways.{Way, Good}
 use Rattle.rules.specs.Review.{factor}
-use Rattle.rules.specs.Services.{Rule, Matched, carriedOut, match, review}
+use Rattle.rules.specs.Services.{Rule, Matched, carriedOut, matchIn, review}
 use Rattle.forms.specs.Written.{variableTags, largest, length-words}
 use Rattle.forms.specs.Lists.{Mem, flatMap-map}
 use Rattle.promises.specs.Trace.{Taken, trace, walk, run-walks}
@@ -25,9 +26,10 @@ use Rattle.promises.specs.Listing.{solve-listing}
 use Rattle.promises.specs.Budget.{report, Full, Outcome, done, spent, full}
 use Rattle.promises.specs.Budget.{walk-outcome, walk-full, full-rows, answers-0, answers-7, answers-8, steps-most, first-rows}
 use Rattle.promises.specs.Suited.{Suits, fits-suits}
-use Rattle.promises.specs.Bound.{Fine, anew, steps-bound, rows-bound}
+use Rattle.promises.specs.Bound.{Fine, fine-target, anew, steps-bound, rows-bound}
 use Rattle.forms.specs.Numbering.{variables-found}
-use Rattle.promises.specs.Room.{follows-binds, rows-words}
+use Rattle.promises.specs.Room.{follows-binds, widest, rows-words}
+use Rattle.forms.specs.Origins.{plain-target}
 use Rattle.forms.specs.ReadTarget.{target-read}
 use Rattle.promises.specs.Reviewing.{countOf, everybody}
 use Rattle.forms.specs.Faults.{Sane, WellFormed, match-ran}
@@ -38,13 +40,13 @@ unfolding trace start
 states r v = trace (start (r .matcher) (r .pattern) v ∷ [])
 
 unfoldable pub ways : Rule → Value → List Solution
-unfolding solve
-ways r v = solve (r .pattern) (r .matcher) v []
+unfolding solve target
+ways r v = solve (r .pattern) (r .matcher) (target v) []
 
 -- The words of the rows of ways.
-unfoldable pub rowsOfWays : List Solution → List ℤ
+unfoldable pub rowsOfWays : Form → List Solution → List ℤ
 unfolding flatMap row
-rowsOfWays ss = flatMap (λ s. row (s .bound)) ss
+rowsOfWays form ss = flatMap (λ s. row form (s .bound)) ss
 
 take-map : {A B : Type 0} (f : A → B) (n : ℕ) (xs : List A) → take n (map f xs) ≡ map f (take n xs)
 take-map f zero xs = refl
@@ -71,58 +73,58 @@ no-ways r v = (
     back [] h = refl
     back (s ∷ ss) h = absurd (h s (List·Memᴰ·head refl))
 
-module _ (ms ps ts : List ℤ) (budget : ℕ) (room : List ℤ) (r : Rule) (v : Value) (sane : Sane ms ps ts r v) where
+module _ (form : Form) (ms ps ts : List ℤ) (budget : ℕ) (room : List ℤ) (r : Rule) (v : Value) (sane : Sane ms ps ts r v) where
   abbrev it : Matched
-  it = match ms ps ts budget room
+  it = matchIn form ms ps ts budget room
 
   abbrev ran : Run
-  ran = run budget (start (r .matcher) (r .pattern) v ∷ []) (length room)
+  ran = run form budget (start (r .matcher) (r .pattern) v ∷ []) (length room)
 
-  pub outcome : Outcome budget (length room) (states r v) ran
+  pub outcome : Outcome form budget (length room) (states r v) ran
   unfolding states
-  outcome = subst (λ (x : Run). Outcome budget (length room) (trace (start (r .matcher) (r .pattern) v ∷ [])) x)
-      (sym (run-walks budget (start (r .matcher) (r .pattern) v ∷ []) (length room))) (walk-outcome budget (states r v) (length room))
+  outcome = subst (λ (x : Run). Outcome form budget (length room) (trace (start (r .matcher) (r .pattern) v ∷ [])) x)
+      (sym (run-walks form budget (start (r .matcher) (r .pattern) v ∷ []) (length room))) (walk-outcome form budget (states r v) (length room))
 
   pub result : it ≡ carriedOut ran room
-  result = match-ran ms ps ts budget room r v sane
+  result = match-ran form ms ps ts budget room r v sane
 
   -- The answers.
   by-answer : (n : ℕ) (C : Type 0) → ran .answer ≡ n ↔ C → it .answer ≡ n ↔ C
   unfolding carriedOut
   by-answer n C e = let q = ap (λ (x : Matched). x .answer) result in ((λ h. e .0 (sym q ∙ h)), λ c. q ∙ e .1 c)
 
-  pub answer-0 : it .answer ≡ 0 ↔ (length (states r v) ≤ budget) × (Full budget (length room) (states r v) → ⊥)
-  answer-0 = by-answer 0 _ (answers-0 budget (length room) (states r v) ran outcome)
+  pub answer-0 : it .answer ≡ 0 ↔ (length (states r v) ≤ budget) × (Full form budget (length room) (states r v) → ⊥)
+  answer-0 = by-answer 0 _ (answers-0 form budget (length room) (states r v) ran outcome)
 
-  pub answer-7 : it .answer ≡ 7 ↔ (budget < length (states r v)) × (Full budget (length room) (states r v) → ⊥)
-  answer-7 = by-answer 7 _ (answers-7 budget (length room) (states r v) ran outcome)
+  pub answer-7 : it .answer ≡ 7 ↔ (budget < length (states r v)) × (Full form budget (length room) (states r v) → ⊥)
+  answer-7 = by-answer 7 _ (answers-7 form budget (length room) (states r v) ran outcome)
 
-  pub answer-8 : it .answer ≡ 8 ↔ Full budget (length room) (states r v)
-  answer-8 = by-answer 8 _ (answers-8 budget (length room) (states r v) ran outcome)
+  pub answer-8 : it .answer ≡ 8 ↔ Full form budget (length room) (states r v)
+  answer-8 = by-answer 8 _ (answers-8 form budget (length room) (states r v) ran outcome)
 
   -- The state whose row does not fit is counted as a step, and the rows before it stand whole.
-  pub full-stands : (f : Full budget (length room) (states r v)) → it ≡ carriedOut (report 8 (suc (length (f .before))) (f .before)) room
+  pub full-stands : (f : Full form budget (length room) (states r v)) → it ≡ carriedOut (report form 8 (suc (length (f .before))) (f .before)) room
   unfolding states
-  full-stands f = result ∙ ap (λ x. carriedOut x room) (run-walks budget (start (r .matcher) (r .pattern) v ∷ []) (length room)
-      ∙ ap (λ l. walk budget l (length room)) (f .is) ∙ walk-full budget (length room) (f .before) (f .bound) (f .after) (f .reached) (f .fit) (f .over))
+  full-stands f = result ∙ ap (λ x. carriedOut x room) (run-walks form budget (start (r .matcher) (r .pattern) v ∷ []) (length room)
+      ∙ ap (λ l. walk form budget l (length room)) (f .is) ∙ walk-full form budget (length room) (f .before) (f .bound) (f .after) (f .reached) (f .fit) (f .over))
 
   -- ---- The rows.
 
   -- The rows found are those of the first good ways; they stand whole from the start of the room, and every word after them is untouched.
-  pub first-ways : (it .rows ≤ length (ways r v)) × (it .words ≡ length (rowsOfWays (take (it .rows) (ways r v))))
-      × (it .room ≡ rowsOfWays (take (it .rows) (ways r v)) ++ drop (it .words) room)
+  pub first-ways : (it .rows ≤ length (ways r v)) × (it .words ≡ length (rowsOfWays form (take (it .rows) (ways r v))))
+      × (it .room ≡ rowsOfWays form (take (it .rows) (ways r v)) ++ drop (it .words) room)
   unfolding carriedOut states ways rowsOfWays
   first-ways =
-      let f = first-rows budget (length room) (states r v) ran outcome in
+      let f = first-rows form budget (length room) (states r v) ran outcome in
       let k : founds (states r v) ≡ map (λ (s : Solution). s .bound) (ways r v) = founds-start (r .matcher) (r .pattern) v in
-      let w : ran .written ≡ rowsOfWays (take (ran .rows) (ways r v)) =
-      f .1 ∙ ap (λ l. flatMap row (take (ran .rows) l)) k ∙ ap (flatMap row) (take-map (λ (s : Solution). s .bound) (ran .rows) (ways r v))
-      ∙ flatMap-map row (λ (s : Solution). s .bound) (take (ran .rows) (ways r v)) in
-      subst (λ (x : Matched). (x .rows ≤ length (ways r v)) × (x .words ≡ length (rowsOfWays (take (x .rows) (ways r v))))
-      × (x .room ≡ rowsOfWays (take (x .rows) (ways r v)) ++ drop (x .words) room)) (sym result)
+      let w : ran .written ≡ rowsOfWays form (take (ran .rows) (ways r v)) =
+      f .1 ∙ ap (λ l. flatMap (row form) (take (ran .rows) l)) k ∙ ap (flatMap (row form)) (take-map (λ (s : Solution). s .bound) (ran .rows) (ways r v))
+      ∙ flatMap-map (row form) (λ (s : Solution). s .bound) (take (ran .rows) (ways r v)) in
+      subst (λ (x : Matched). (x .rows ≤ length (ways r v)) × (x .words ≡ length (rowsOfWays form (take (x .rows) (ways r v))))
+      × (x .room ≡ rowsOfWays form (take (x .rows) (ways r v)) ++ drop (x .words) room)) (sym result)
       (omega (arith, f .0, ap length k ∙ length-map (ways r v) (λ (s : Solution). s .bound)), ap length w, ap (λ l. l ++ drop (length (ran .written)) room) w)
 
-  done-rows : Outcome budget (length room) (states r v) ran → ran .answer ≡ 0 → ran .rows ≡ length (ways r v)
+  done-rows : Outcome form budget (length room) (states r v) ran → ran .answer ≡ 0 → ran .rows ≡ length (ways r v)
   unfolding report
   done-rows (done h f q) a = ap (λ (x : Run). x .rows) q ∙ founds-ways r v
   done-rows (spent h f q) a = let b = ap (λ (x : Run). x .answer) q in absurd (omega arith)
@@ -138,7 +140,7 @@ module _ (ms ps ts : List ℤ) (budget : ℕ) (room : List ℤ) (r : Rule) (v : 
   no-row = (
     λ h. (answer-0 .0 (h .0) .0, no-ways r v .0 (sym (all-ways (h .0)) ∙ h .1)),
     λ h. let z = no-ways r v .1 (h .1) in
-        let a = answer-0 .1 (h .0, λ f. let k = full-rows budget (length room) (states r v) f .0 in let l = founds-ways r v in omega arith) in
+        let a = answer-0 .1 (h .0, λ f. let k = full-rows form budget (length room) (states r v) f .0 in let l = founds-ways r v in omega arith) in
         (a, all-ways a ∙ z),
   )
 
@@ -158,8 +160,8 @@ module _ (ms ps ts : List ℤ) (budget : ℕ) (room : List ℤ) (r : Rule) (v : 
   -- One value for each variable.
   pub way-binds : (w : Way) (e : Bindings) → Good (r .matcher) (r .pattern) v w e → length e ≡ variableTags (r .pattern)
   unfolding Good
-  way-binds w e g = follows-binds (r .pattern) (r .matcher) v [] w e 0 [] (sane .rule .fitting .0) true 0 (sane .rule .numbered .0)
-      (sane .rule .fitting .1) (sane .rule .numbered .1) suits g ∙ omega arith
+  way-binds w e g = follows-binds (r .pattern) (r .matcher) (target v) [] w e 0 [] (sane .rule .fitting .0) true 0 (sane .rule .numbered .0)
+      (sane .rule .fitting .1) (sane .rule .numbered .1) (subst (Suits (r .matcher)) (sym (plain-target v)) suits) g ∙ omega arith
 
   -- ---- Review's numbers.
 
@@ -171,22 +173,22 @@ module _ (ms ps ts : List ℤ) (budget : ℕ) (room : List ℤ) (r : Rule) (v : 
     unfolding carriedOut states countOf
     steps-bounded =
         let q = ap (λ (x : Matched). x .steps) result in
-        omega (arith, steps-most budget (length room) (states r v) ran outcome, steps-bound cap (r .matcher) (r .pattern) v fine)
+        omega (arith, steps-most form budget (length room) (states r v) ran outcome, steps-bound cap (r .matcher) (r .pattern) v fine)
 
     pub rows-bounded : it .rows ≤ factor cap 0 (r .pattern) (r .matcher)
     unfolding ways
-    rows-bounded = le-trans (first-ways .0) (rows-bound cap 0 (r .pattern) (r .matcher) v [] fine)
+    rows-bounded = le-trans (first-ways .0) (rows-bound cap 0 (r .pattern) (r .matcher) (target v) [] (fine-target cap (r .matcher) v fine))
 
     pub room-enough : countOf cap r ≤ budget
-        → factor cap 0 (r .pattern) (r .matcher) * variableTags (r .pattern) * length ts ≤ length room → it .answer ≡ 0
+        → factor cap 0 (r .pattern) (r .matcher) * variableTags (r .pattern) * widest form (length ts) ≤ length room → it .answer ≡ 0
     unfolding states countOf
     room-enough b h = answer-0 .1 (
       le-trans (steps-bound cap (r .matcher) (r .pattern) v fine) b,
-      λ f. let k = full-rows budget (length room) (states r v) f .1 in
-          let w = rows-words cap (r .matcher) (r .pattern) v fine in
+      λ f. let k = full-rows form budget (length room) (states r v) f .1 in
+          let w = rows-words form cap (r .matcher) (r .pattern) v fine in
           let l : length ts ≡ size v = ap length (target-read ts v .0 (sane .target .target) .0) ∙ length-words v in
-          let e = ap (λ n. factor cap 0 (r .pattern) (r .matcher) * variableTags (r .pattern) * n) l
-          ∙ mul-assoc (factor cap 0 (r .pattern) (r .matcher)) (variableTags (r .pattern)) (size v) in
+          let e = ap (λ n. factor cap 0 (r .pattern) (r .matcher) * variableTags (r .pattern) * widest form n) l
+          ∙ mul-assoc (factor cap 0 (r .pattern) (r .matcher)) (variableTags (r .pattern)) (widest form (size v)) in
           omega arith,
     )
 

@@ -4,8 +4,8 @@ use Prim.Native.Nat.{ℕ}
 use mathlib.Core.Path.{_≡_, refl, sym, ap, _∙_}
 use mathlib.Core.Bool.{Bool, false}
 use mathlib.Core.List.{List, [], _∷_, _++_, flatMap, List·Memᴰ·head, List·Memᴰ·not-nil}
-use Rattle.rules.specs.Forms.{Matcher, Pattern, never, Value}
-use Rattle.rules.specs.Equality.{Bindings}
+use Rattle.rules.specs.Forms.{Matcher, Pattern, never}
+use Rattle.rules.specs.Origins.{Valueᵒ, Bindings}
 use Rattle.rules.specs.Search.{Atom, atom, endOfNot, State, state}
 use Rattle.rules.specs.Ways.{Way, Follows}
 use Rattle.rules.specs.Following.{Solution, solve}
@@ -38,7 +38,7 @@ no-row (taken (found e) ∷ ms) [] h = no-cons h
 no-row (taken (found e) ∷ ms) (s ∷ ss) h = not-ended h
 no-row (ended ∷ ms) ss h = refl
 
-module _ (p : Pattern) (m : Matcher) (v : Value) (e : Bindings) where
+module _ (p : Pattern) (m : Matcher) (v : Valueᵒ) (e : Bindings) where
   -- The state with which the search inside begins, alone: it ends at its first row.
   abbrev pub inner : State
   inner = state false (atom p m v ∷ endOfNot ∷ []) e

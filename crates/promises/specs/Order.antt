@@ -6,9 +6,9 @@ use mathlib.Core.Bool.{Bool, true, false}
 use mathlib.Core.List.{List, [], _∷_, _++_, map, List·Memᴰ·not-nil, Memᴰ·of-map}
 use Rattle.rules.specs.Forms.{Matcher, something, integer, list, multiset, tupleOf, Matchers, noMatchers, _▸ᵐ_}
 use Rattle.rules.specs.Forms.{Pattern, wildcard, nil, variable, constant, value, cons, join, tuple, both, either, never, Patterns, noPatterns, _▸ᵖ_}
-use Rattle.rules.specs.Forms.{Value, int, collection, tupled, Values, empty, _▸_}
+use Rattle.rules.specs.Origins.{Valueᵒ, intᵒ, collectionᵒ, tupledᵒ, Valuesᵒ, emptyᵒ, _▸ᵒ_, Bindings, plain}
 use Rattle.rules.specs.Fit.{element, members}
-use Rattle.rules.specs.Equality.{Bindings, isConstant, isValue, isEmpty}
+use Rattle.rules.specs.Equality.{isConstant, isValue, isEmpty}
 use Rattle.rules.specs.Search.{Halves, consHalves, joinHalves}
 use Rattle.rules.specs.Ways.{Way, _≺_}
 use Rattle.forms.specs.Lists.{Mem, Pairwise, pairwise-append, pairwise-weaken, pairwise-map, pairwise-flatMap}
@@ -58,14 +58,14 @@ Fine false [] = Unit {0}
 Fine false (h ∷ []) = Unit {0}
 Fine false (h ∷ g ∷ hs) = ⊥
 
-cons-fine : (m : Matcher) (v : Value) → Fine (isMultiset m) (consHalves m v)
+cons-fine : (m : Matcher) (v : Valueᵒ) → Fine (isMultiset m) (consHalves m v)
 unfolding isMultiset consHalves
 cons-fine something v = tt
 cons-fine integer v = tt
-cons-fine (list m) (int x) = tt
-cons-fine (list m) (collection empty) = tt
-cons-fine (list m) (collection (v ▸ vs)) = tt
-cons-fine (list m) (tupled vs) = tt
+cons-fine (list m) (intᵒ o x) = tt
+cons-fine (list m) (collectionᵒ o emptyᵒ) = tt
+cons-fine (list m) (collectionᵒ o (v ▸ᵒ vs)) = tt
+cons-fine (list m) (tupledᵒ o vs) = tt
 cons-fine (multiset m) v = tt
 cons-fine (tupleOf ms) v = tt
 
@@ -79,8 +79,8 @@ chain-in-order w ss g hs hg = pairwise-flatMap Earlier Earlier _ ss hs
     let j = Memᴰ·of-map (extend w r) (g (r .bound)) n in
     subst₂ Earlier (i .2) (j .2) (append-≪ w _ _ (≪-append (s .way) (r .way) _ _ h)))
 
-module _ (f : Value → List Solution) (g : Value → Bindings → List Solution)
-    (hf : (a : Value) → Pairwise Earlier (f a)) (hg : (a : Value) (d : Bindings) → Pairwise Earlier (g a d)) where
+module _ (f : Valueᵒ → List Solution) (g : Valueᵒ → Bindings → List Solution)
+    (hf : (a : Valueᵒ) → Pairwise Earlier (f a)) (hg : (a : Valueᵒ) (d : Bindings) → Pairwise Earlier (g a d)) where
   -- The solutions after one choice.
   abbrev under : Bool → Numbered → List Solution
   under b c = chain (mark b (c .no)) (f (c .halves .first)) (g (c .halves .second))
@@ -127,31 +127,31 @@ single-or-none false e = tt
 mutual
   unfolding solve
 
-  pub solve-in-order : (p : Pattern) (m : Matcher) (v : Value) (e : Bindings) → Pairwise Earlier (solve p m v e)
+  pub solve-in-order : (p : Pattern) (m : Matcher) (v : Valueᵒ) (e : Bindings) → Pairwise Earlier (solve p m v e)
   solve-in-order wildcard m v e = single e
-  solve-in-order nil m v e = single-or-none (isEmpty v) e
+  solve-in-order nil m v e = single-or-none (isEmpty (plain v)) e
   solve-in-order (variable x) m v e = single (e ++ (v ∷ []))
-  solve-in-order (constant c) m v e = single-or-none (isConstant c v) e
-  solve-in-order (value x c) m v e = single-or-none (isValue m e x c v) e
+  solve-in-order (constant c) m v e = single-or-none (isConstant c (plain v)) e
+  solve-in-order (value x c) m v e = single-or-none (isValue m (map plain e) x c (plain v)) e
   solve-in-order (cons p q) m v e =
       in-order (λ a. solve p (element m) a e) (λ a d. solve q m a d) (λ a. solve-in-order p (element m) a e) (λ a d. solve-in-order q m a d) (isMultiset m) (consHalves m v) (cons-fine m v)
   solve-in-order (join p q) m v e =
       in-order (λ a. solve p m a e) (λ a d. solve q m a d) (λ a. solve-in-order p m a e) (λ a d. solve-in-order q m a d) true (joinHalves v) tt
-  solve-in-order (tuple ps) m (int x) e = tt
-  solve-in-order (tuple ps) m (collection vs) e = tt
-  solve-in-order (tuple ps) m (tupled vs) e = each-in-order ps (members m) vs e
+  solve-in-order (tuple ps) m (intᵒ o x) e = tt
+  solve-in-order (tuple ps) m (collectionᵒ o vs) e = tt
+  solve-in-order (tuple ps) m (tupledᵒ o vs) e = each-in-order ps (members m) vs e
   solve-in-order (both p q) m v e =
       chain-in-order [] (solve p m v e) (λ d. solve q m v d) (solve-in-order p m v e) (λ d. solve-in-order q m v d)
   solve-in-order (either p q) m v e = sides-in-order (solve p m v e) (solve q m v e) (solve-in-order p m v e) (solve-in-order q m v e)
   solve-in-order (never p) m v e = single-or-none (noSolution (solve p m v e)) e
 
-  each-in-order : (ps : Patterns) (ms : Matchers) (vs : Values) (e : Bindings) → Pairwise Earlier (solveEach ps ms vs e)
+  each-in-order : (ps : Patterns) (ms : Matchers) (vs : Valuesᵒ) (e : Bindings) → Pairwise Earlier (solveEach ps ms vs e)
   each-in-order noPatterns ms vs e = single e
   each-in-order (p ▸ᵖ ps) noMatchers vs e = single e
-  each-in-order (p ▸ᵖ ps) (m ▸ᵐ ms) empty e = single e
-  each-in-order (p ▸ᵖ ps) (m ▸ᵐ ms) (v ▸ vs) e =
+  each-in-order (p ▸ᵖ ps) (m ▸ᵐ ms) emptyᵒ e = single e
+  each-in-order (p ▸ᵖ ps) (m ▸ᵐ ms) (v ▸ᵒ vs) e =
       chain-in-order [] (solve p m v e) (λ d. solveEach ps ms vs d) (solve-in-order p m v e) (λ d. each-in-order ps ms vs d)
 
 -- Each way once, the smaller first.
-pub solve-increasing : (p : Pattern) (m : Matcher) (v : Value) (e : Bindings) → Pairwise (λ s t. s .way ≺ t .way) (solve p m v e)
+pub solve-increasing : (p : Pattern) (m : Matcher) (v : Valueᵒ) (e : Bindings) → Pairwise (λ s t. s .way ≺ t .way) (solve p m v e)
 solve-increasing p m v e = pairwise-weaken Earlier (λ s t. s .way ≺ t .way) (solve p m v e) (λ s t. ≪-≺ (s .way) (t .way)) (solve-in-order p m v e)

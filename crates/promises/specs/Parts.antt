@@ -4,100 +4,100 @@ use native.Mathlib.Omega.{arith}
 use mathlib.Core.Path.{sym, subst}
 use mathlib.Core.Logic.{⊎-elim}
 use mathlib.Core.List.{List·Memᴰ·not-nil, List·Memᴰ·cases-cons, List·Memᴰ·eq-of-singleton, Memᴰ·of-map}
-use Rattle.rules.specs.Forms.{Matcher, something, integer, list, multiset, tupleOf, Value, int, collection, tupled, Values, empty, _▸_, count, size, sizeAll}
-use Rattle.rules.specs.Equality.{Pick, picks, behind}
-use Rattle.rules.specs.Search.{Cut, cuts, longer, Halves, consHalves, joinHalves}
+use Rattle.rules.specs.Forms.{Matcher, something, integer, list, multiset, tupleOf, count, size, sizeAll}
+use Rattle.rules.specs.Origins.{Valueᵒ, intᵒ, collectionᵒ, tupledᵒ, Valuesᵒ, emptyᵒ, _▸ᵒ_, Origin, plain, plainAll}
+use Rattle.rules.specs.Search.{Taking, takings, behind, Cut, cuts, longer, Halves, consHalves, joinHalves}
 use Rattle.forms.specs.Written.{largest, largestOf}
 use Rattle.forms.specs.Lists.{Mem}
 
 -- Some of the elements, in their order.
-pub data Among : Values → Values → Type 0 where
-  none : {vs : Values} → Among empty vs
-  kept : {v : Value} {us vs : Values} → Among us vs → Among (v ▸ us) (v ▸ vs)
-  left : {v : Value} {us vs : Values} → Among us vs → Among us (v ▸ vs)
+pub data Among : Valuesᵒ → Valuesᵒ → Type 0 where
+  none : {vs : Valuesᵒ} → Among emptyᵒ vs
+  kept : {v : Valueᵒ} {us vs : Valuesᵒ} → Among us vs → Among (v ▸ᵒ us) (v ▸ᵒ vs)
+  left : {v : Valueᵒ} {us vs : Valuesᵒ} → Among us vs → Among us (v ▸ᵒ vs)
 
-pub data Part : Value → Value → Type 0 where
-  element : {v : Value} {vs : Values} → Among (v ▸ empty) vs → Part v (collection vs)
-  elements : {us vs : Values} → Among us vs → Part (collection us) (collection vs)
+pub data Part : Valueᵒ → Valueᵒ → Type 0 where
+  element : {o : Origin} {v : Valueᵒ} {vs : Valuesᵒ} → Among (v ▸ᵒ emptyᵒ) vs → Part v (collectionᵒ o vs)
+  elements : {o : Origin} {us vs : Valuesᵒ} → Among us vs → Part (collectionᵒ o us) (collectionᵒ o vs)
 
-all : (vs : Values) → Among vs vs
-all empty = none
-all (v ▸ vs) = kept (all vs)
+all : (vs : Valuesᵒ) → Among vs vs
+all emptyᵒ = none
+all (v ▸ᵒ vs) = kept (all vs)
 
 -- ---- The halves are parts.
 
-pub pick-among : (vs : Values) (p : Pick) → Mem p (picks vs) → Among (p .one ▸ empty) vs × Among (p .others) vs
-unfolding picks behind
-pick-among empty p m = absurd (List·Memᴰ·not-nil m)
-pick-among (v ▸ vs) p m = ⊎-elim
-    (λ e. subst (λ (p : Pick). Among (p .one ▸ empty) (v ▸ vs) × Among (p .others) (v ▸ vs)) (sym e) (kept none, left (all vs)))
-    (λ n. let r = Memᴰ·of-map (behind v) (picks vs) n in let i = pick-among vs (r .0) (r .1) in
-    subst (λ (p : Pick). Among (p .one ▸ empty) (v ▸ vs) × Among (p .others) (v ▸ vs)) (r .2) (left (i .0), kept (i .1)))
+pub pick-among : (vs : Valuesᵒ) (p : Taking) → Mem p (takings vs) → Among (p .one ▸ᵒ emptyᵒ) vs × Among (p .others) vs
+unfolding takings behind
+pick-among emptyᵒ p m = absurd (List·Memᴰ·not-nil m)
+pick-among (v ▸ᵒ vs) p m = ⊎-elim
+    (λ e. subst (λ (p : Taking). Among (p .one ▸ᵒ emptyᵒ) (v ▸ᵒ vs) × Among (p .others) (v ▸ᵒ vs)) (sym e) (kept none, left (all vs)))
+    (λ n. let r = Memᴰ·of-map (behind v) (takings vs) n in let i = pick-among vs (r .0) (r .1) in
+    subst (λ (p : Taking). Among (p .one ▸ᵒ emptyᵒ) (v ▸ᵒ vs) × Among (p .others) (v ▸ᵒ vs)) (r .2) (left (i .0), kept (i .1)))
     (List·Memᴰ·cases-cons m)
 
-pub cut-among : (vs : Values) (c : Cut) → Mem c (cuts vs) → Among (c .front) vs × Among (c .back) vs
+pub cut-among : (vs : Valuesᵒ) (c : Cut) → Mem c (cuts vs) → Among (c .front) vs × Among (c .back) vs
 unfolding cuts longer
-cut-among empty c m = subst (λ (c : Cut). Among (c .front) empty × Among (c .back) empty) (sym (List·Memᴰ·eq-of-singleton m)) (none, none)
-cut-among (v ▸ vs) c m = ⊎-elim
-    (λ e. subst (λ (c : Cut). Among (c .front) (v ▸ vs) × Among (c .back) (v ▸ vs)) (sym e) (none, all (v ▸ vs)))
+cut-among emptyᵒ c m = subst (λ (c : Cut). Among (c .front) emptyᵒ × Among (c .back) emptyᵒ) (sym (List·Memᴰ·eq-of-singleton m)) (none, none)
+cut-among (v ▸ᵒ vs) c m = ⊎-elim
+    (λ e. subst (λ (c : Cut). Among (c .front) (v ▸ᵒ vs) × Among (c .back) (v ▸ᵒ vs)) (sym e) (none, all (v ▸ᵒ vs)))
     (λ n. let r = Memᴰ·of-map (longer v) (cuts vs) n in let i = cut-among vs (r .0) (r .1) in
-    subst (λ (c : Cut). Among (c .front) (v ▸ vs) × Among (c .back) (v ▸ vs)) (r .2) (kept (i .0), left (i .1)))
+    subst (λ (c : Cut). Among (c .front) (v ▸ᵒ vs) × Among (c .back) (v ▸ᵒ vs)) (r .2) (kept (i .0), left (i .1)))
     (List·Memᴰ·cases-cons m)
 
-pub record Parts (h : Halves) (v : Value) : Type 0 where
+pub record Parts (h : Halves) (v : Valueᵒ) : Type 0 where
   pub first : Part (h .first) v
   pub second : Part (h .second) v
 
-pub cons-parts : (m : Matcher) (v : Value) (h : Halves) → Mem h (consHalves m v) → Parts h v
+pub cons-parts : (m : Matcher) (v : Valueᵒ) (h : Halves) → Mem h (consHalves m v) → Parts h v
 unfolding consHalves
 cons-parts something v h i = absurd (List·Memᴰ·not-nil i)
 cons-parts integer v h i = absurd (List·Memᴰ·not-nil i)
-cons-parts (list m) (int x) h i = absurd (List·Memᴰ·not-nil i)
-cons-parts (list m) (collection empty) h i = absurd (List·Memᴰ·not-nil i)
-cons-parts (list m) (collection (v ▸ vs)) h i =
-    subst (λ (h : Halves). Parts h (collection (v ▸ vs))) (sym (List·Memᴰ·eq-of-singleton i)) (record { first = element (kept none); second = elements (left (all vs)) })
-cons-parts (list m) (tupled vs) h i = absurd (List·Memᴰ·not-nil i)
-cons-parts (multiset m) (int x) h i = absurd (List·Memᴰ·not-nil i)
-cons-parts (multiset m) (collection vs) h i =
-    let r = Memᴰ·of-map _ (picks vs) i in let s = pick-among vs (r .0) (r .1) in
-    subst (λ (h : Halves). Parts h (collection vs)) (r .2) (record { first = element (s .0); second = elements (s .1) })
-cons-parts (multiset m) (tupled vs) h i = absurd (List·Memᴰ·not-nil i)
+cons-parts (list m) (intᵒ o x) h i = absurd (List·Memᴰ·not-nil i)
+cons-parts (list m) (collectionᵒ o emptyᵒ) h i = absurd (List·Memᴰ·not-nil i)
+cons-parts (list m) (collectionᵒ o (v ▸ᵒ vs)) h i =
+    subst (λ (h : Halves). Parts h (collectionᵒ o (v ▸ᵒ vs))) (sym (List·Memᴰ·eq-of-singleton i)) (record { first = element (kept none); second = elements (left (all vs)) })
+cons-parts (list m) (tupledᵒ o vs) h i = absurd (List·Memᴰ·not-nil i)
+cons-parts (multiset m) (intᵒ o x) h i = absurd (List·Memᴰ·not-nil i)
+cons-parts (multiset m) (collectionᵒ o vs) h i =
+    let r = Memᴰ·of-map _ (takings vs) i in let s = pick-among vs (r .0) (r .1) in
+    subst (λ (h : Halves). Parts h (collectionᵒ o vs)) (r .2) (record { first = element (s .0); second = elements (s .1) })
+cons-parts (multiset m) (tupledᵒ o vs) h i = absurd (List·Memᴰ·not-nil i)
 cons-parts (tupleOf ms) v h i = absurd (List·Memᴰ·not-nil i)
 
-pub join-parts : (v : Value) (h : Halves) → Mem h (joinHalves v) → Parts h v
+pub join-parts : (v : Valueᵒ) (h : Halves) → Mem h (joinHalves v) → Parts h v
 unfolding joinHalves
-join-parts (int x) h i = absurd (List·Memᴰ·not-nil i)
-join-parts (collection vs) h i =
+join-parts (intᵒ o x) h i = absurd (List·Memᴰ·not-nil i)
+join-parts (collectionᵒ o vs) h i =
     let r = Memᴰ·of-map _ (cuts vs) i in let s = cut-among vs (r .0) (r .1) in
-    subst (λ (h : Halves). Parts h (collection vs)) (r .2) (record { first = elements (s .0); second = elements (s .1) })
-join-parts (tupled vs) h i = absurd (List·Memᴰ·not-nil i)
+    subst (λ (h : Halves). Parts h (collectionᵒ o vs)) (r .2) (record { first = elements (s .0); second = elements (s .1) })
+join-parts (tupledᵒ o vs) h i = absurd (List·Memᴰ·not-nil i)
 
 -- ---- A part is no larger.
 
-among-count : {us vs : Values} → Among us vs → count us ≤ count vs
-unfolding count
+among-count : {us vs : Valuesᵒ} → Among us vs → count (plainAll us) ≤ count (plainAll vs)
+unfolding count plainAll
 among-count none = omega arith
 among-count (kept a) = omega (arith, among-count a)
 among-count (left a) = omega (arith, among-count a)
 
-among-largest : {us vs : Values} → Among us vs → largestOf us ≤ largestOf vs
-unfolding largestOf
+among-largest : {us vs : Valuesᵒ} → Among us vs → largestOf (plainAll us) ≤ largestOf (plainAll vs)
+unfolding largestOf plainAll
 among-largest none = omega arith
 among-largest (kept a) = omega (arith, among-largest a)
 among-largest (left a) = omega (arith, among-largest a)
 
-among-size : {us vs : Values} → Among us vs → sizeAll us ≤ sizeAll vs
-unfolding sizeAll
+among-size : {us vs : Valuesᵒ} → Among us vs → sizeAll (plainAll us) ≤ sizeAll (plainAll vs)
+unfolding sizeAll plainAll
 among-size none = omega arith
 among-size (kept a) = omega (arith, among-size a)
 among-size (left a) = omega (arith, among-size a)
 
-pub part-largest : {u v : Value} → Part u v → largest u ≤ largest v
-unfolding largest
+pub part-largest : {u v : Valueᵒ} → Part u v → largest (plain u) ≤ largest (plain v)
+unfolding largest plain
 part-largest (element a) = omega (arith, among-largest a)
 part-largest (elements a) = omega (arith, among-largest a, among-count a)
 
-pub part-size : {u v : Value} → Part u v → size u ≤ size v
-unfolding size
+pub part-size : {u v : Valueᵒ} → Part u v → size (plain u) ≤ size (plain v)
+unfolding size plain
 part-size (element a) = omega (arith, among-size a)
 part-size (elements a) = omega (arith, among-size a)

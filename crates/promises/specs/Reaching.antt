@@ -11,9 +11,10 @@ use Rattle.rules.specs.Numbers.{inRange}
 use Rattle.rules.specs.Forms.{integer, multiset, Value, int, collection, words, count, size, sizeAll}
 use Rattle.rules.specs.Reading.{ok, _then_}
 use Rattle.rules.specs.Fit.{fitsAll, fitsValue}
+use Rattle.rules.specs.Rows.{Form, asWords}
 use Rattle.rules.specs.Search.{Run, start}
 use Rattle.rules.specs.Review.{factor, formula}
-use Rattle.rules.specs.Services.{accepted, Rule, ruleOf, targetOf, Matched, match, carriedOut, review}
+use Rattle.rules.specs.Services.{accepted, Rule, ruleOf, targetOf, Matched, matchIn, match, carriedOut, review}
 use Rattle.rules.specs.Tables.{nums}
 use Rattle.forms.specs.Written.{largest, largestOf, deepest, deepestOf, Widths, WidthsAll, variableTags, length-words}
 use Rattle.promises.specs.Trace.{trace}
@@ -22,6 +23,7 @@ use Rattle.forms.specs.ReadTarget.{target-read}
 use Rattle.forms.specs.Faults.{Sane, sane-exactly, rule-accepted, target-accepted}
 use Rattle.promises.specs.Reviewing.{countOf, count-is}
 use Rattle.promises.specs.Matching.{states, outcome, result, answer-0, answer-7, answer-8, room-enough}
+use Rattle.promises.specs.Room.{widest}
 use Rattle.promises.specs.Exact.{wild, ends, link, Chain, copies, states-exact}
 
 -- A collection of so many equal integers: its words are read as it, it fits, and no collection in it has more elements.
@@ -62,7 +64,7 @@ module _ (x : ℤ) where
         fit = copies-fit n 2;
       })
 
-module _ (ms ps : List ℤ) (r : Rule) (rule : ruleOf ms ps ≡ accepted r) (of-integers : r .matcher ≡ multiset integer) (chain : Chain (r .pattern))
+module _ (form : Form) (ms ps : List ℤ) (r : Rule) (rule : ruleOf ms ps ≡ accepted r) (of-integers : r .matcher ≡ multiset integer) (chain : Chain (r .pattern))
     (cap : ℕ) (told : (review ms ps (pos cap)) .answer ≡ 0) (x : ℤ) (word : inRange x ≡ true) where
   -- The words of the target, and what review tells.
   abbrev target : List ℤ
@@ -86,33 +88,33 @@ module _ (ms ps : List ℤ) (r : Rule) (rule : ruleOf ms ps ≡ accepted r) (of-
       ∙ states-exact x word chain (sane .rule .numbered .0) (sane .rule .numbered .1) cap
       ∙ ap (formula cap (r .pattern)) (sym of-integers) ∙ sym (figure-is .0)
 
-  module _ (budget : ℕ) (room : List ℤ) (fits-in : (match ms ps target budget room) .answer ≡ 8 → ⊥) where
-    not-full : Full budget (length room) (states r (equals x cap)) → ⊥
-    not-full f = fits-in (answer-8 ms ps target budget room r (equals x cap) sane .1 f)
+  module _ (budget : ℕ) (room : List ℤ) (fits-in : (matchIn form ms ps target budget room) .answer ≡ 8 → ⊥) where
+    not-full : Full form budget (length room) (states r (equals x cap)) → ⊥
+    not-full f = fits-in (answer-8 form ms ps target budget room r (equals x cap) sane .1 f)
 
     -- With the figure or more as budget, and room for the rows.
-    pub reached : figure ≤ budget → ((match ms ps target budget room) .answer ≡ 0) × ((match ms ps target budget room) .steps ≡ figure)
+    pub reached : figure ≤ budget → ((matchIn form ms ps target budget room) .answer ≡ 0) × ((matchIn form ms ps target budget room) .steps ≡ figure)
     unfolding carriedOut report
     reached b = (
-      answer-0 ms ps target budget room r (equals x cap) sane .1 (omega (arith, states-are), not-full),
-      ap (λ (y : Matched). y .steps) (result ms ps target budget room r (equals x cap) sane)
-          ∙ go (outcome ms ps target budget room r (equals x cap) sane),
+      answer-0 form ms ps target budget room r (equals x cap) sane .1 (omega (arith, states-are), not-full),
+      ap (λ (y : Matched). y .steps) (result form ms ps target budget room r (equals x cap) sane)
+          ∙ go (outcome form ms ps target budget room r (equals x cap) sane),
     )
       where
-        go : {y : Run} → Outcome budget (length room) (states r (equals x cap)) y → y .steps ≡ figure
+        go : {y : Run} → Outcome form budget (length room) (states r (equals x cap)) y → y .steps ≡ figure
         go (done h f q) = ap (λ (y : Run). y .steps) q ∙ states-are
         go (spent h f q) = absurd (omega (arith, states-are))
         go (full f q) = absurd (not-full f)
 
     -- With less, states remain.
-    pub not-before : budget < figure → (match ms ps target budget room) .answer ≡ 7
-    not-before b = answer-7 ms ps target budget room r (equals x cap) sane .1 (omega (arith, states-are), not-full)
+    pub not-before : budget < figure → (matchIn form ms ps target budget room) .answer ≡ 7
+    not-before b = answer-7 form ms ps target budget room r (equals x cap) sane .1 (omega (arith, states-are), not-full)
 
   -- With the figure as budget, and the room that is enough for every target of its length.
-  pub reached-with-room : (room : List ℤ) → factor cap 0 (r .pattern) (r .matcher) * variableTags (r .pattern) * length target ≤ length room
-      → ((match ms ps target figure room) .answer ≡ 0) × ((match ms ps target figure room) .steps ≡ figure)
+  pub reached-with-room : (room : List ℤ) → factor cap 0 (r .pattern) (r .matcher) * variableTags (r .pattern) * widest form (length target) ≤ length room
+      → ((matchIn form ms ps target figure room) .answer ≡ 0) × ((matchIn form ms ps target figure room) .steps ≡ figure)
   reached-with-room room h =
-      let a = room-enough ms ps target figure room r (equals x cap) sane cap (equals-small x cap) (omega (arith, figure-is .0)) h in
+      let a = room-enough form ms ps target figure room r (equals x cap) sane cap (equals-small x cap) (omega (arith, figure-is .0)) h in
       reached figure room (λ e. omega arith) (le-refl figure)
 
 -- Four conses over wildcards on 64 equal integers, by the theorem and not by taking the steps.
@@ -123,6 +125,6 @@ abbrev four : List ℤ
 four = nums (5 ∷ 0 ∷ 5 ∷ 0 ∷ 5 ∷ 0 ∷ 5 ∷ 0 ∷ 0 ∷ [])
 
 pub four-conses-reach : (room : List ℤ) → (match multisetInteger four (words (equals (pos 7) 64)) 77007361 room) .steps ≡ 77007361
-unfolding review ruleOf inRange factor variableTags words equals
+unfolding review ruleOf inRange factor variableTags words equals widest
 four-conses-reach room =
-    reached-with-room multisetInteger four _ refl refl (link wild (link wild (link wild (link wild (ends wild))))) 64 refl (pos 7) refl room zero-le .1
+    reached-with-room asWords multisetInteger four _ refl refl (link wild (link wild (link wild (link wild (ends wild))))) 64 refl (pos 7) refl room zero-le .1

@@ -11,13 +11,14 @@ use lib.IntN.{ℤ, pos, negsuc, pos-ne-negsuc}
 use Rattle.rules.specs.Forms.{Value}
 use Rattle.rules.specs.Reading.{ok}
 use Rattle.rules.specs.Fit.{fitsValue}
-use Rattle.rules.specs.Equality.{Bindings}
+use Rattle.rules.specs.Origins.{Bindings, plain, target}
 use Rattle.rules.specs.Ways.{Way, Good}
 use Rattle.rules.specs.Review.{formula}
 use Rattle.rules.specs.Always.{alwaysTrue}
 use Rattle.rules.specs.Services.{Judged, accepted, refused, Rule, ruleOf, Reviewed, declined, counted, capped, unlessAlwaysTrue, reviewRule, review}
 use Rattle.forms.specs.Tests.{leb-true, leb-false, ltb-true, ltb-false}
-use Rattle.promises.specs.Suited.{fits-suits}
+use Rattle.promises.specs.Suited.{Suits, fits-suits}
+use Rattle.forms.specs.Origins.{plain-target}
 use Rattle.promises.specs.Everybody.{always-passes}
 use Rattle.forms.specs.Faults.{RuleFault, rule-range, WellFormed, rule-accepted, rule-refused}
 
@@ -210,7 +211,7 @@ everybody ms ps cap r w a v f =
     let t = answer-11 ms ps cap .0 a in
     let q : t .rule ≡ r = cc (rule-accepted ms ps (t .rule) .1 (t .wellFormed), rule-accepted ms ps r .1 w) in
     let b = ap (λ (s : Rule). alwaysTrue (s .pattern)) (sym q) ∙ t .always in
-    always-passes (r .pattern) (r .matcher) 0 [] (w .fitting .0) (subst T (sym b) tt) (w .fitting .1) v [] (fits-suits (r .matcher) v 0 f)
+    always-passes (r .pattern) (r .matcher) 0 [] (w .fitting .0) (subst T (sym b) tt) (w .fitting .1) (target v) [] (subst (Suits (r .matcher)) (sym (plain-target v)) (fits-suits (r .matcher) v 0 f))
 
 -- The count of a review that answers 0 is the formula, which fits a budget; and the cap is at most 64.
 pub count-is : (ms ps : List ℤ) (c : ℕ) (r : Rule) → WellFormed ms ps r → (review ms ps (pos c)) .answer ≡ 0

@@ -4,11 +4,11 @@ use native.Mathlib.Nat.{suc-ne-zero}
 use mathlib.Core.Path.{_≡_, refl, sym, ap, ap₂, _∙_}
 use mathlib.Core.Bool.{Bool, true, false}
 use mathlib.Core.List.{List, [], _∷_, _++_, map, flatMap, append-nil}
-use Rattle.rules.specs.Forms.{Matcher, Matchers, noMatchers, _▸ᵐ_}
+use Rattle.rules.specs.Forms.{Matcher, Matchers, noMatchers, _▸ᵐ_, Value}
 use Rattle.rules.specs.Forms.{Pattern, wildcard, nil, variable, constant, value, cons, join, tuple, both, either, never, Patterns, noPatterns, _▸ᵖ_}
-use Rattle.rules.specs.Forms.{Value, int, collection, tupled, Values, empty, _▸_}
+use Rattle.rules.specs.Origins.{Valueᵒ, intᵒ, collectionᵒ, tupledᵒ, Valuesᵒ, emptyᵒ, _▸ᵒ_, Bindings, plain, target}
 use Rattle.rules.specs.Fit.{element, members, isSomething}
-use Rattle.rules.specs.Equality.{Bindings, isConstant, isValue, isEmpty}
+use Rattle.rules.specs.Equality.{isConstant, isValue, isEmpty}
 use Rattle.rules.specs.Search.{Halves, consHalves, joinHalves, start}
 use Rattle.rules.specs.Ways.{Way}
 use Rattle.rules.specs.Following.{Solution, Numbered, up, numbered, isMultiset, mark, extend, chain, onSide, combine, just, whenSo, noSolution, ofParts, solve, solveEach}
@@ -80,7 +80,7 @@ after-chain : (w : Way) (ss : List Solution) (g : Bindings → List Solution) (k
 unfolding chain
 after-chain w ss g k = flatMap-flatMap (λ s. k (s .bound)) _ ss ∙ flatMap-cong _ _ ss (λ s. flatMap-map (λ t. k (t .bound)) (extend w s) (g (s .bound)))
 
-after : (b : Bool) (f : Value → List Solution) (g : Value → Bindings → List Solution) (k : Bindings → List Met) (hs : List Halves)
+after : (b : Bool) (f : Valueᵒ → List Solution) (g : Valueᵒ → Bindings → List Solution) (k : Bindings → List Met) (hs : List Halves)
     → flatMap (λ s. k (s .bound)) (combine b f g hs)
     ≡ flatMap (λ h. flatMap (λ s. flatMap (λ t. k (t .bound)) (g (h .second) (s .bound))) (f (h .first))) hs
 unfolding combine
@@ -119,13 +119,13 @@ nothing ms (s ∷ ss) e k h = inside-ended ms (k e) _ h
 mutual
   unfolding stops visit solve
 
-  pub stops-visit : (p : Pattern) (m : Matcher) (v : Value) (e : Bindings) (k : Bindings → List Met)
+  pub stops-visit : (p : Pattern) (m : Matcher) (v : Valueᵒ) (e : Bindings) (k : Bindings → List Met)
       → stops (visit p m v e k) ≡ flatMap (λ s. stops (k (s .bound))) (solve p m v e)
   stops-visit wildcard m v e k = leaf (isSomething m) e k
-  stops-visit nil m v e k = test (isEmpty v) e k
+  stops-visit nil m v e k = test (isEmpty (plain v)) e k
   stops-visit (variable x) m v e k = leaf (isSomething m) (e ++ (v ∷ [])) k
-  stops-visit (constant c) m v e k = test (isConstant c v) e k
-  stops-visit (value x c) m v e k = test (isValue m e x c v) e k
+  stops-visit (constant c) m v e k = test (isConstant c (plain v)) e k
+  stops-visit (value x c) m v e k = test (isValue m (map plain e) x c (plain v)) e k
   stops-visit (cons p q) m v e k =
       stops-flatMap _ (consHalves m v)
       ∙ flatMap-cong _ _ (consHalves m v) (λ h. stops-visit p (element m) (h .first) e (λ d. visit q m (h .second) d k)
@@ -136,9 +136,9 @@ mutual
       ∙ flatMap-cong _ _ (joinHalves v) (λ h. stops-visit p m (h .first) e (λ d. visit q m (h .second) d k)
       ∙ flatMap-cong _ _ (solve p m (h .first) e) (λ s. stops-visit q m (h .second) (s .bound) k))
       ∙ sym (after true (λ a. solve p m a e) (λ a d. solve q m a d) (λ d. stops (k d)) (joinHalves v))
-  stops-visit (tuple ps) m (int x) e k = refl
-  stops-visit (tuple ps) m (collection vs) e k = refl
-  stops-visit (tuple ps) m (tupled vs) e k = stops-each ps (members m) vs e k
+  stops-visit (tuple ps) m (intᵒ o x) e k = refl
+  stops-visit (tuple ps) m (collectionᵒ o vs) e k = refl
+  stops-visit (tuple ps) m (tupledᵒ o vs) e k = stops-each ps (members m) vs e k
   stops-visit (both p q) m v e k =
       stops-visit p m v e (λ d. visit q m v d k)
       ∙ flatMap-cong _ _ (solve p m v e) (λ s. stops-visit q m v (s .bound) k)
@@ -149,12 +149,12 @@ mutual
       ∙ sym (sides (solve p m v e) (solve q m v e) (λ d. stops (k d)))
   stops-visit (never p) m v e k = nothing (visit p m v e (λ d. ended ∷ [])) (solve p m v e) e k (stops-visit p m v e (λ d. ended ∷ []))
 
-  stops-each : (ps : Patterns) (ms : Matchers) (vs : Values) (e : Bindings) (k : Bindings → List Met)
+  stops-each : (ps : Patterns) (ms : Matchers) (vs : Valuesᵒ) (e : Bindings) (k : Bindings → List Met)
       → stops (visitEach ps ms vs e k) ≡ flatMap (λ s. stops (k (s .bound))) (solveEach ps ms vs e)
   stops-each noPatterns ms vs e k = leaf true e k
   stops-each (p ▸ᵖ ps) noMatchers vs e k = leaf true e k
-  stops-each (p ▸ᵖ ps) (m ▸ᵐ ms) empty e k = leaf true e k
-  stops-each (p ▸ᵖ ps) (m ▸ᵐ ms) (v ▸ vs) e k =
+  stops-each (p ▸ᵖ ps) (m ▸ᵐ ms) emptyᵒ e k = leaf true e k
+  stops-each (p ▸ᵖ ps) (m ▸ᵐ ms) (v ▸ᵒ vs) e k =
       stops-visit p m v e (λ d. visitEach ps ms vs d k)
       ∙ flatMap-cong _ _ (solve p m v e) (λ s. stops-each ps ms vs (s .bound) k)
       ∙ sym (after-chain [] (solve p m v e) (λ d. solveEach ps ms vs d) (λ d. stops (k d)))
@@ -175,6 +175,6 @@ founds-close (taken (found d) ∷ ms) (s ∷ ss) h =
 founds-close (ended ∷ ms) [] h = no-cons h
 founds-close (ended ∷ ms) (s ∷ ss) h = not-ended (sym h)
 
-pub founds-start : (m : Matcher) (p : Pattern) (v : Value) → founds (trace (start m p v ∷ [])) ≡ map (λ s. s .bound) (solve p m v [])
+pub founds-start : (m : Matcher) (p : Pattern) (v : Value) → founds (trace (start m p v ∷ [])) ≡ map (λ s. s .bound) (solve p m (target v) [])
 unfolding trace met start stops
-founds-start m p v = founds-close (visit p m v [] (λ d. taken (found d) ∷ [])) (solve p m v []) (stops-visit p m v [] (λ d. taken (found d) ∷ []))
+founds-start m p v = founds-close (visit p m (target v) [] (λ d. taken (found d) ∷ [])) (solve p m (target v) []) (stops-visit p m (target v) [] (λ d. taken (found d) ∷ []))

@@ -10,8 +10,8 @@ use Rattle.rules.specs.Forms.{Value, int, collection, tupled, Values, empty, _�
 use Rattle.rules.specs.Reading.{Verdict, ok, fault}
 use Rattle.rules.specs.Variables.{demand}
 use Rattle.rules.specs.Fit.{element, members, fitsAll, fitsValue, fitsEach}
-use Rattle.rules.specs.Equality.{picks}
-use Rattle.rules.specs.Search.{cuts, Halves, consHalves, joinHalves}
+use Rattle.rules.specs.Origins.{Valueᵒ, intᵒ, collectionᵒ, tupledᵒ, Valuesᵒ, emptyᵒ, _▸ᵒ_, Origin, plain, plainAll}
+use Rattle.rules.specs.Search.{takings, cuts, Halves, consHalves, joinHalves}
 use Rattle.forms.specs.Lists.{Mem}
 use Rattle.forms.specs.Readers.{then-ok}
 use Rattle.forms.specs.Numbering.{demand-ok}
@@ -88,30 +88,30 @@ mutual
 
 -- ---- The halves of a value that fits.
 
-every-among : (P : Value → Type 0) {us vs : Values} → Among us vs → Every P vs → Every P us
-unfolding Every
+every-among : (P : Value → Type 0) {us vs : Valuesᵒ} → Among us vs → Every P (plainAll vs) → Every P (plainAll us)
+unfolding Every plainAll
 every-among P none h = tt
 every-among P (kept a) h = (h .0, every-among P a (h .1))
 every-among P (left a) h = every-among P a (h .1)
 
-pub cons-suits : (m : Matcher) (v : Value) (h : Halves) → Mem h (consHalves m v) → Suits m v → Suits (element m) (h .first) × Suits m (h .second)
-unfolding consHalves element Suits Every
+pub cons-suits : (m : Matcher) (v : Valueᵒ) (h : Halves) → Mem h (consHalves m v) → Suits m (plain v) → Suits (element m) (plain (h .first)) × Suits m (plain (h .second))
+unfolding consHalves element Suits Every plain
 cons-suits something v h i s = absurd (List·Memᴰ·not-nil i)
 cons-suits integer v h i s = absurd (List·Memᴰ·not-nil i)
-cons-suits (list m) (int x) h i s = absurd s
-cons-suits (list m) (collection empty) h i s = absurd (List·Memᴰ·not-nil i)
-cons-suits (list m) (collection (v ▸ vs)) h i s =
-    subst (λ (h : Halves). Suits m (h .first) × Suits (list m) (h .second)) (sym (List·Memᴰ·eq-of-singleton i)) s
-cons-suits (list m) (tupled vs) h i s = absurd s
-cons-suits (multiset m) (int x) h i s = absurd s
-cons-suits (multiset m) (collection vs) h i s =
-    let r = Memᴰ·of-map _ (picks vs) i in let a = pick-among vs (r .0) (r .1) in
-    subst (λ (h : Halves). Suits m (h .first) × Suits (multiset m) (h .second)) (r .2) (every-among (Suits m) (a .0) s .0, every-among (Suits m) (a .1) s)
-cons-suits (multiset m) (tupled vs) h i s = absurd s
+cons-suits (list m) (intᵒ o x) h i s = absurd s
+cons-suits (list m) (collectionᵒ o emptyᵒ) h i s = absurd (List·Memᴰ·not-nil i)
+cons-suits (list m) (collectionᵒ o (v ▸ᵒ vs)) h i s =
+    subst (λ (h : Halves). Suits m (plain (h .first)) × Suits (list m) (plain (h .second))) (sym (List·Memᴰ·eq-of-singleton i)) s
+cons-suits (list m) (tupledᵒ o vs) h i s = absurd s
+cons-suits (multiset m) (intᵒ o x) h i s = absurd s
+cons-suits (multiset m) (collectionᵒ o vs) h i s =
+    let r = Memᴰ·of-map _ (takings vs) i in let a = pick-among vs (r .0) (r .1) in
+    subst (λ (h : Halves). Suits m (plain (h .first)) × Suits (multiset m) (plain (h .second))) (r .2) (every-among (Suits m) (a .0) s .0, every-among (Suits m) (a .1) s)
+cons-suits (multiset m) (tupledᵒ o vs) h i s = absurd s
 cons-suits (tupleOf ms) v h i s = absurd (List·Memᴰ·not-nil i)
 
 -- A join's two halves are such collections as the whole, whatever the matcher is of.
-cut-suits : (m : Matcher) {us vs : Values} → Among us vs → Suits m (collection vs) → Suits m (collection us)
+cut-suits : (m : Matcher) {us vs : Valuesᵒ} → Among us vs → Suits m (collection (plainAll vs)) → Suits m (collection (plainAll us))
 unfolding Suits
 cut-suits something a s = tt
 cut-suits integer a s = s
@@ -119,13 +119,13 @@ cut-suits (list m) a s = every-among (Suits m) a s
 cut-suits (multiset m) a s = every-among (Suits m) a s
 cut-suits (tupleOf ms) a s = s
 
-pub join-suits : (m : Matcher) (v : Value) (h : Halves) → Mem h (joinHalves v) → Suits m v → Suits m (h .first) × Suits m (h .second)
-unfolding joinHalves
-join-suits m (int x) h i s = absurd (List·Memᴰ·not-nil i)
-join-suits m (collection vs) h i s =
+pub join-suits : (m : Matcher) (v : Valueᵒ) (h : Halves) → Mem h (joinHalves v) → Suits m (plain v) → Suits m (plain (h .first)) × Suits m (plain (h .second))
+unfolding joinHalves plain
+join-suits m (intᵒ o x) h i s = absurd (List·Memᴰ·not-nil i)
+join-suits m (collectionᵒ o vs) h i s =
     let r = Memᴰ·of-map _ (cuts vs) i in let a = cut-among vs (r .0) (r .1) in
-    subst (λ (h : Halves). Suits m (h .first) × Suits m (h .second)) (r .2) (cut-suits m (a .0) s, cut-suits m (a .1) s)
-join-suits m (tupled vs) h i s = absurd (List·Memᴰ·not-nil i)
+    subst (λ (h : Halves). Suits m (plain (h .first)) × Suits m (plain (h .second))) (r .2) (cut-suits m (a .0) s, cut-suits m (a .1) s)
+join-suits m (tupledᵒ o vs) h i s = absurd (List·Memᴰ·not-nil i)
 
 -- The parts of a tuple that fits. (Under something a tuple has no matchers for its parts.)
 pub tuple-suits : (m : Matcher) (vs : Values) → Suits m (tupled vs) → SuitsEach (members m) vs

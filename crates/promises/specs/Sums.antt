@@ -2,11 +2,12 @@
 use mathlib.Core.Path.{_≡_}
 use mathlib.Core.Bool.{true, false}
 use mathlib.Core.Option.{none, some}
+use mathlib.Core.List.{List}
 use lib.IntN.{ℤ, _+ℤ_}
 use Rattle.rules.specs.Numbers.{same, inRange, plus-inside, plus-outside}
 use Rattle.rules.specs.Forms.{integer, Value, int}
 use Rattle.rules.specs.Reading.{entry}
-use Rattle.rules.specs.Equality.{Bindings, equal, raised, equalTo, isValue}
+use Rattle.rules.specs.Equality.{equal, raised, equalTo, isValue}
 
 raised-inside : (x c : ℤ) → inRange (x +ℤ c) ≡ true → raised c (int x) ≡ some (int (x +ℤ c))
 unfolding raised
@@ -16,7 +17,7 @@ raised-outside : (x c : ℤ) → inRange (x +ℤ c) ≡ false → raised c (int 
 unfolding raised
 raised-outside x c h = rw (plus-outside x c h, raised)
 
-module _ (e : Bindings) (v : ℤ) (x c : ℤ) (held : entry e v ≡ some (int x)) where
+module _ (e : List Value) (v : ℤ) (x c : ℤ) (held : entry e v ≡ some (int x)) where
   pub sum-inside : inRange (x +ℤ c) ≡ true → (y : ℤ) → isValue integer e v c (int y) ≡ same (x +ℤ c) y
   unfolding isValue equalTo equal
   sum-inside h y = rw (held, isValue, raised-inside x c h)

@@ -8,11 +8,12 @@ use lib.ListN.{length, take}
 use lib.Dec.{leb}
 use Rattle.rules.specs.Forms.{Matcher, something, Matchers, noMatchers, _▸ᵐ_}
 use Rattle.rules.specs.Forms.{Pattern, wildcard, nil, variable, constant, value, cons, join, tuple, both, either, never, Patterns, noPatterns, _▸ᵖ_}
-use Rattle.rules.specs.Forms.{Value, int, collection, tupled, Values, empty, _▸_}
+use Rattle.rules.specs.Origins.{Valueᵒ, intᵒ, collectionᵒ, tupledᵒ, Valuesᵒ, emptyᵒ, _▸ᵒ_, Bindings, plain}
 use Rattle.rules.specs.Fit.{element, members, isSomething}
-use Rattle.rules.specs.Equality.{Bindings, isConstant, isValue, isEmpty}
+use Rattle.rules.specs.Equality.{isConstant, isValue, isEmpty}
 use Rattle.rules.specs.Search.{Halves, consHalves, joinHalves, Atom, atom, endOfNot, State, state, dropIf, atoms, apart, after, leaveNot}
-use Rattle.rules.specs.Search.{row, Run, stopped, step, rowStep, run}
+use Rattle.rules.specs.Rows.{Form, row}
+use Rattle.rules.specs.Search.{Run, stopped, step, rowStep, run}
 use Rattle.rules.specs.Following.{ofParts}
 
 -- A state that was taken up: one with atoms left, or one with none, whose row is found.
@@ -42,12 +43,12 @@ inside (ended ∷ ms) next = pass ∷ []
 unfoldable mutual
   unfolding isSomething isConstant isValue isEmpty consHalves joinHalves element members flatMap onlyIf ofParts inside
 
-  pub visit : Pattern → Matcher → Value → Bindings → (Bindings → List Met) → List Met
+  pub visit : Pattern → Matcher → Valueᵒ → Bindings → (Bindings → List Met) → List Met
   visit wildcard m v e k = pass ∷ elim (isSomething m) [ true ↦ k e | false ↦ pass ∷ k e ]
   visit (variable x) m v e k = pass ∷ elim (isSomething m) [ true ↦ k (e ++ (v ∷ [])) | false ↦ pass ∷ k (e ++ (v ∷ [])) ]
-  visit (constant c) m v e k = pass ∷ onlyIf (isConstant c v) (k e)
-  visit (value x c) m v e k = pass ∷ onlyIf (isValue m e x c v) (k e)
-  visit nil m v e k = pass ∷ onlyIf (isEmpty v) (k e)
+  visit (constant c) m v e k = pass ∷ onlyIf (isConstant c (plain v)) (k e)
+  visit (value x c) m v e k = pass ∷ onlyIf (isValue m (map plain e) x c (plain v)) (k e)
+  visit nil m v e k = pass ∷ onlyIf (isEmpty (plain v)) (k e)
   visit (cons p q) m v e k = pass ∷ flatMap (λ h. visit p (element m) (h .first) e (λ d. visit q m (h .second) d k)) (consHalves m v)
   visit (join p q) m v e k = pass ∷ flatMap (λ h. visit p m (h .first) e (λ d. visit q m (h .second) d k)) (joinHalves v)
   visit (tuple ps) m v e k = pass ∷ ofParts (λ vs. visitEach ps (members m) vs e k) v
@@ -56,11 +57,11 @@ unfoldable mutual
   visit (never p) m v e k = pass ∷ inside (visit p m v e (λ d. ended ∷ [])) (k e)
 
   -- The atoms of a tuple's parts, in order.
-  pub visitEach : Patterns → Matchers → Values → Bindings → (Bindings → List Met) → List Met
+  pub visitEach : Patterns → Matchers → Valuesᵒ → Bindings → (Bindings → List Met) → List Met
   visitEach noPatterns ms vs e k = k e
   visitEach (p ▸ᵖ ps) noMatchers vs e k = k e
-  visitEach (p ▸ᵖ ps) (m ▸ᵐ ms) empty e k = k e
-  visitEach (p ▸ᵖ ps) (m ▸ᵐ ms) (v ▸ vs) e k = visit p m v e (λ d. visitEach ps ms vs d k)
+  visitEach (p ▸ᵖ ps) (m ▸ᵐ ms) emptyᵒ e k = k e
+  visitEach (p ▸ᵖ ps) (m ▸ᵐ ms) (v ▸ᵒ vs) e k = visit p m v e (λ d. visitEach ps ms vs d k)
 
 unfoldable pub visitAll : List Atom → Bindings → List Met
 unfolding visit
@@ -91,14 +92,14 @@ unfolding met close
 trace ss = close (met [] ss)
 
 -- A walk along the list, by a budget and with `free` words of the room left.
-unfoldable pub walk : ℕ → List Taken → ℕ → Run
+unfoldable pub walk : Form → ℕ → List Taken → ℕ → Run
 unfolding stopped step rowStep row
-walk zero [] free = stopped 0 0
-walk zero (t ∷ ts) free = stopped 7 0
-walk (suc n) [] free = stopped 0 0
-walk (suc n) (passed ∷ ts) free = step (walk n ts free)
-walk (suc n) (found e ∷ ts) free = elim (leb (length (row e)) free) [
-  | true ↦ rowStep (row e) (walk n ts (free - length (row e)))
+walk f zero [] free = stopped 0 0
+walk f zero (t ∷ ts) free = stopped 7 0
+walk f (suc n) [] free = stopped 0 0
+walk f (suc n) (passed ∷ ts) free = step (walk f n ts free)
+walk f (suc n) (found e ∷ ts) free = elim (leb (length (row f e)) free) [
+  | true ↦ rowStep (row f e) (walk f n ts (free - length (row f e)))
   | false ↦ stopped 8 1
 ]
 
@@ -154,28 +155,28 @@ halves : (p : Pattern) (m : Matcher) (q : Pattern) (k : Matcher) (older : List A
 unfolding visitAll
 halves p m q k older e hs = sym (met-each (λ h. atom p m (h .first) ∷ atom q k (h .second) ∷ older) e [] hs)
 
-each : (ps : Patterns) (ms : Matchers) (vs : Values) (older : List Atom) (e : Bindings)
+each : (ps : Patterns) (ms : Matchers) (vs : Valuesᵒ) (older : List Atom) (e : Bindings)
     → visitEach ps ms vs e (λ d. visitAll older d) ≡ visitAll (atoms ps ms vs ++ older) e
 unfolding visitEach visitAll atoms
 each noPatterns ms vs older e = refl
 each (p ▸ᵖ ps) noMatchers vs older e = refl
-each (p ▸ᵖ ps) (m ▸ᵐ ms) empty older e = refl
-each (p ▸ᵖ ps) (m ▸ᵐ ms) (v ▸ vs) older e = ap (visit p m v e) (fun-ext (λ d. each ps ms vs older d))
+each (p ▸ᵖ ps) (m ▸ᵐ ms) emptyᵒ older e = refl
+each (p ▸ᵖ ps) (m ▸ᵐ ms) (v ▸ᵒ vs) older e = ap (visit p m v e) (fun-ext (λ d. each ps ms vs older d))
 
-parted : (ps : Patterns) (ms : Matchers) (v : Value) (older : List Atom) (e : Bindings)
+parted : (ps : Patterns) (ms : Matchers) (v : Valueᵒ) (older : List Atom) (e : Bindings)
     → ofParts (λ vs. visitEach ps ms vs e (λ d. visitAll older d)) v ≡ met [] (apart ps ms v older e)
 unfolding ofParts apart met
-parted ps ms (int x) older e = refl
-parted ps ms (collection vs) older e = refl
-parted ps ms (tupled vs) older e = each ps ms vs older e
+parted ps ms (intᵒ o x) older e = refl
+parted ps ms (collectionᵒ o vs) older e = refl
+parted ps ms (tupledᵒ o vs) older e = each ps ms vs older e
 
-pub tree : (p : Pattern) (m : Matcher) (v : Value) (older : List Atom) (e : Bindings) → visitAll (atom p m v ∷ older) e ≡ pass ∷ met [] (after p m v older e)
+pub tree : (p : Pattern) (m : Matcher) (v : Valueᵒ) (older : List Atom) (e : Bindings) → visitAll (atom p m v ∷ older) e ≡ pass ∷ met [] (after p m v older e)
 unfolding visitAll after met
 tree wildcard m v older e = ap {B = List Met} (λ r. pass ∷ r) (leaf (isSomething m) (atom wildcard something v) older e e refl)
-tree nil m v older e = ap {B = List Met} (λ r. pass ∷ r) (test (isEmpty v) older e)
+tree nil m v older e = ap {B = List Met} (λ r. pass ∷ r) (test (isEmpty (plain v)) older e)
 tree (variable x) m v older e = ap {B = List Met} (λ r. pass ∷ r) (leaf (isSomething m) (atom (variable x) something v) older (e ++ (v ∷ [])) e refl)
-tree (constant c) m v older e = ap {B = List Met} (λ r. pass ∷ r) (test (isConstant c v) older e)
-tree (value x c) m v older e = ap {B = List Met} (λ r. pass ∷ r) (test (isValue m e x c v) older e)
+tree (constant c) m v older e = ap {B = List Met} (λ r. pass ∷ r) (test (isConstant c (plain v)) older e)
+tree (value x c) m v older e = ap {B = List Met} (λ r. pass ∷ r) (test (isValue m (map plain e) x c (plain v)) older e)
 tree (cons p q) m v older e = ap {B = List Met} (λ r. pass ∷ r) (halves p (element m) q m older e (consHalves m v))
 tree (join p q) m v older e = ap {B = List Met} (λ r. pass ∷ r) (halves p m q m older e (joinHalves v))
 tree (tuple ps) m v older e = ap {B = List Met} (λ r. pass ∷ r) (parted ps (members m) v older e)
@@ -198,7 +199,7 @@ module _ (g : Bool) (e : Bindings) (ss : List State) where
   unfolding trace visitAll
   trace-cut older = ap close (met-first g (endOfNot ∷ older) e ss) ∙ met-ended [] ss
 
-  trace-atom : (p : Pattern) (m : Matcher) (v : Value) (older : List Atom)
+  trace-atom : (p : Pattern) (m : Matcher) (v : Valueᵒ) (older : List Atom)
       → trace (state g (atom p m v ∷ older) e ∷ ss) ≡ passed ∷ trace (after p m v older e ++ ss)
   unfolding trace
   trace-atom p m v older = ap close (met-first g (atom p m v ∷ older) e ss ∙ ap (λ r. met r ss) (tree p m v older e)
@@ -206,17 +207,17 @@ module _ (g : Bool) (e : Bindings) (ss : List State) where
 
 -- ---- A run walks along the trace.
 
-pub run-walks : (n : ℕ) (ss : List State) (free : ℕ) → run n ss free ≡ walk n (trace ss) free
+pub run-walks : (f : Form) (n : ℕ) (ss : List State) (free : ℕ) → run f n ss free ≡ walk f n (trace ss) free
 unfolding run walk
-run-walks zero [] free = rw trace-none
-run-walks zero (state g [] e ∷ ss) free = rw (trace-found g e ss)
-run-walks zero (state g (endOfNot ∷ older) e ∷ ss) free = rw (trace-cut g e ss older)
-run-walks zero (state g (atom p m v ∷ older) e ∷ ss) free = rw (trace-atom g e ss p m v older)
-run-walks (suc n) [] free = rw trace-none
-run-walks (suc n) (state g [] e ∷ ss) free = rw (trace-found g e ss)
-    (ap (λ z. elim (leb (length (row e)) free) as (λ _. Run) [ true ↦ rowStep (row e) z | false ↦ stopped 8 1 ]) (run-walks n ss (free - length (row e))))
-run-walks (suc n) (state g (endOfNot ∷ older) e ∷ ss) free = rw (trace-cut g e ss older) (ap step (run-walks n (leaveNot ss) free))
-run-walks (suc n) (state g (atom p m v ∷ older) e ∷ ss) free = rw (trace-atom g e ss p m v older) (ap step (run-walks n (after p m v older e ++ ss) free))
+run-walks f zero [] free = rw trace-none
+run-walks f zero (state g [] e ∷ ss) free = rw (trace-found g e ss)
+run-walks f zero (state g (endOfNot ∷ older) e ∷ ss) free = rw (trace-cut g e ss older)
+run-walks f zero (state g (atom p m v ∷ older) e ∷ ss) free = rw (trace-atom g e ss p m v older)
+run-walks f (suc n) [] free = rw trace-none
+run-walks f (suc n) (state g [] e ∷ ss) free = rw (trace-found g e ss)
+    (ap (λ z. elim (leb (length (row f e)) free) as (λ _. Run) [ true ↦ rowStep (row f e) z | false ↦ stopped 8 1 ]) (run-walks f n ss (free - length (row f e))))
+run-walks f (suc n) (state g (endOfNot ∷ older) e ∷ ss) free = rw (trace-cut g e ss older) (ap step (run-walks f n (leaveNot ss) free))
+run-walks f (suc n) (state g (atom p m v ∷ older) e ∷ ss) free = rw (trace-atom g e ss p m v older) (ap step (run-walks f n (after p m v older e ++ ss) free))
 
 -- ---- The same list by section 4's own words: the first of the waiting states is taken up, and what follows it comes before any older one.
 

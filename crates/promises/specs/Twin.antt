@@ -5,10 +5,11 @@ use mathlib.Core.Bool.{Bool, true, false}
 use mathlib.Core.Logic.{_↔_, inl, inr, ⊎-elim}
 use mathlib.Core.List.{List, [], _∷_, _++_, map, List·Memᴰ·head, List·Memᴰ·tail, List·Memᴰ·not-nil, List·Memᴰ·append-cases, List·Memᴰ·eq-of-singleton, Memᴰ·cast, Memᴰ·map, Memᴰ·of-map, Memᴰ·append-left, Memᴰ·append-right}
 use lib.Dec.{T}
-use Rattle.rules.specs.Forms.{Matcher, Matchers, noMatchers, _▸ᵐ_, Value, int, collection, tupled, Values, empty, _▸_}
+use Rattle.rules.specs.Forms.{Matcher, Matchers, noMatchers, _▸ᵐ_, Value}
+use Rattle.rules.specs.Origins.{Valueᵒ, intᵒ, collectionᵒ, tupledᵒ, Valuesᵒ, emptyᵒ, _▸ᵒ_, Bindings, plain, target}
 use Rattle.rules.specs.Forms.{Pattern, wildcard, nil, variable, constant, value, cons, join, tuple, both, either, never, Patterns, noPatterns, _▸ᵖ_}
 use Rattle.rules.specs.Fit.{element, members}
-use Rattle.rules.specs.Equality.{Bindings, isConstant, isValue, isEmpty}
+use Rattle.rules.specs.Equality.{isConstant, isValue, isEmpty}
 use Rattle.rules.specs.Search.{Halves, consHalves, joinHalves}
 use Rattle.rules.specs.Ways.{Way, ConsBy, JoinBy, Halved, Next, Side, Follows, FollowsAll, Good}
 use Rattle.forms.specs.Lists.{Mem, mem-flatMap, of-flatMap}
@@ -54,12 +55,12 @@ when-complete false e w d t p q = absurd t
 
 -- ---- Cons and join: a choice, then the first part, then the second. What the two share, over how they divide (By) and how the parts are followed.
 
-module _ (b : Bool) (hs : List Halves) (By : Way → Value → Value → Type 0)
-    (First Second : Value → Bindings → Way → Bindings → Type 0) (e : Bindings)
-    (f : Value → List Solution) (g : Value → Bindings → List Solution) where
+module _ (b : Bool) (hs : List Halves) (By : Way → Valueᵒ → Valueᵒ → Type 0)
+    (First Second : Valueᵒ → Bindings → Way → Bindings → Type 0) (e : Bindings)
+    (f : Valueᵒ → List Solution) (g : Valueᵒ → Bindings → List Solution) where
   halved-sound : ((c : Numbered) → Mem c (numbered hs) → By (mark b (c .no)) (c .halves .first) (c .halves .second))
-      → ((a : Value) (s : Solution) → Mem s (f a) → First a e (s .way) (s .bound))
-      → ((a : Value) (d : Bindings) (s : Solution) → Mem s (g a d) → Second a d (s .way) (s .bound))
+      → ((a : Valueᵒ) (s : Solution) → Mem s (f a) → First a e (s .way) (s .bound))
+      → ((a : Valueᵒ) (d : Bindings) (s : Solution) → Mem s (g a d) → Second a d (s .way) (s .bound))
       → (s : Solution) → Mem s (combine b f g hs) → Halved By First Second e (s .way) (s .bound)
   unfolding combine extend
   halved-sound made hf hg s i =
@@ -79,9 +80,9 @@ module _ (b : Bool) (hs : List Halves) (By : Way → Value → Value → Type 0)
         way = ap (λ (t : Solution). t .way) (y .4);
       }
 
-  halved-complete : ((here : Way) (x y : Value) → By here x y → Made b hs here x y)
-      → ((a : Value) (w : Way) (d : Bindings) → First a e w d → Mem (solution w d) (f a))
-      → ((a : Value) (c : Bindings) (w : Way) (d : Bindings) → Second a c w d → Mem (solution w d) (g a c))
+  halved-complete : ((here : Way) (x y : Valueᵒ) → By here x y → Made b hs here x y)
+      → ((a : Valueᵒ) (w : Way) (d : Bindings) → First a e w d → Mem (solution w d) (f a))
+      → ((a : Valueᵒ) (c : Bindings) (w : Way) (d : Bindings) → Second a c w d → Mem (solution w d) (g a c))
       → (w : Way) (d : Bindings) → Halved By First Second e w d → Mem (solution w d) (combine b f g hs)
   unfolding combine extend
   halved-complete made hf hg w d h =
@@ -153,21 +154,21 @@ noSolution-complete (s ∷ ss) h = absurd (h s (List·Memᴰ·head refl))
 mutual
   unfolding solve Follows
 
-  pub sound : (p : Pattern) (m : Matcher) (v : Value) (e : Bindings) (s : Solution) → Mem s (solve p m v e) → Follows p m v e (s .way) (s .bound)
+  pub sound : (p : Pattern) (m : Matcher) (v : Valueᵒ) (e : Bindings) (s : Solution) → Mem s (solve p m v e) → Follows p m v e (s .way) (s .bound)
   sound wildcard m v e s i = just-sound e s i
-  sound nil m v e s i = when-sound (isEmpty v) e s i
+  sound nil m v e s i = when-sound (isEmpty (plain v)) e s i
   sound (variable x) m v e s i = just-sound (e ++ (v ∷ [])) s i
-  sound (constant c) m v e s i = when-sound (isConstant c v) e s i
-  sound (value x c) m v e s i = when-sound (isValue m e x c v) e s i
+  sound (constant c) m v e s i = when-sound (isConstant c (plain v)) e s i
+  sound (value x c) m v e s i = when-sound (isValue m (map plain e) x c (plain v)) e s i
   sound (cons p q) m v e s i =
       halved-sound (isMultiset m) (consHalves m v) (ConsBy m v) (Follows p (element m)) (Follows q m) e (λ a. solve p (element m) a e) (solve q m)
       (cons-sound m v) (λ a t j. sound p (element m) a e t j) (λ a d t j. sound q m a d t j) s i
   sound (join p q) m v e s i =
       halved-sound true (joinHalves v) (JoinBy v) (Follows p m) (Follows q m) e (λ a. solve p m a e) (solve q m)
       (join-sound v) (λ a t j. sound p m a e t j) (λ a d t j. sound q m a d t j) s i
-  sound (tuple ps) m (int x) e s i = absurd (List·Memᴰ·not-nil i)
-  sound (tuple ps) m (collection vs) e s i = absurd (List·Memᴰ·not-nil i)
-  sound (tuple ps) m (tupled vs) e s i = sound-each ps (members m) vs e s i
+  sound (tuple ps) m (intᵒ o x) e s i = absurd (List·Memᴰ·not-nil i)
+  sound (tuple ps) m (collectionᵒ o vs) e s i = absurd (List·Memᴰ·not-nil i)
+  sound (tuple ps) m (tupledᵒ o vs) e s i = sound-each ps (members m) vs e s i
   sound (both p q) m v e s i = next-sound (Follows p m v) (Follows q m v) e (solve p m v e) (solve q m v)
       (λ t j. sound p m v e t j) (λ d t j. sound q m v d t j) s i
   sound (either p q) m v e s i = ⊎-elim
@@ -178,30 +179,30 @@ mutual
       let r = when-sound (noSolution (solve p m v e)) e s i in
       ((λ u c h. noSolution-sound (solve p m v e) (r .0) (solution u c) (complete p m v e u c h)), r .1, r .2)
 
-  sound-each : (ps : Patterns) (ms : Matchers) (vs : Values) (e : Bindings) (s : Solution) → Mem s (solveEach ps ms vs e)
+  sound-each : (ps : Patterns) (ms : Matchers) (vs : Valuesᵒ) (e : Bindings) (s : Solution) → Mem s (solveEach ps ms vs e)
       → FollowsAll ps ms vs e (s .way) (s .bound)
   sound-each noPatterns ms vs e s i = just-sound e s i
   sound-each (p ▸ᵖ ps) noMatchers vs e s i = just-sound e s i
-  sound-each (p ▸ᵖ ps) (m ▸ᵐ ms) empty e s i = just-sound e s i
-  sound-each (p ▸ᵖ ps) (m ▸ᵐ ms) (v ▸ vs) e s i =
+  sound-each (p ▸ᵖ ps) (m ▸ᵐ ms) emptyᵒ e s i = just-sound e s i
+  sound-each (p ▸ᵖ ps) (m ▸ᵐ ms) (v ▸ᵒ vs) e s i =
       next-sound (Follows p m v) (FollowsAll ps ms vs) e (solve p m v e) (solveEach ps ms vs)
       (λ t j. sound p m v e t j) (λ d t j. sound-each ps ms vs d t j) s i
 
-  pub complete : (p : Pattern) (m : Matcher) (v : Value) (e : Bindings) (w : Way) (d : Bindings) → Follows p m v e w d → Mem (solution w d) (solve p m v e)
+  pub complete : (p : Pattern) (m : Matcher) (v : Valueᵒ) (e : Bindings) (w : Way) (d : Bindings) → Follows p m v e w d → Mem (solution w d) (solve p m v e)
   complete wildcard m v e w d h = just-complete e w d (h .0) (h .1)
-  complete nil m v e w d h = when-complete (isEmpty v) e w d (h .0) (h .1) (h .2)
+  complete nil m v e w d h = when-complete (isEmpty (plain v)) e w d (h .0) (h .1) (h .2)
   complete (variable x) m v e w d h = just-complete (e ++ (v ∷ [])) w d (h .0) (h .1)
-  complete (constant c) m v e w d h = when-complete (isConstant c v) e w d (h .0) (h .1) (h .2)
-  complete (value x c) m v e w d h = when-complete (isValue m e x c v) e w d (h .0) (h .1) (h .2)
+  complete (constant c) m v e w d h = when-complete (isConstant c (plain v)) e w d (h .0) (h .1) (h .2)
+  complete (value x c) m v e w d h = when-complete (isValue m (map plain e) x c (plain v)) e w d (h .0) (h .1) (h .2)
   complete (cons p q) m v e w d h =
       halved-complete (isMultiset m) (consHalves m v) (ConsBy m v) (Follows p (element m)) (Follows q m) e (λ a. solve p (element m) a e) (solve q m)
       (cons-complete m v) (λ a u c j. complete p (element m) a e u c j) (λ a b u c j. complete q m a b u c j) w d h
   complete (join p q) m v e w d h =
       halved-complete true (joinHalves v) (JoinBy v) (Follows p m) (Follows q m) e (λ a. solve p m a e) (solve q m)
       (join-complete v) (λ a u c j. complete p m a e u c j) (λ a b u c j. complete q m a b u c j) w d h
-  complete (tuple ps) m (int x) e w d h = absurd h
-  complete (tuple ps) m (collection vs) e w d h = absurd h
-  complete (tuple ps) m (tupled vs) e w d h = complete-each ps (members m) vs e w d h
+  complete (tuple ps) m (intᵒ o x) e w d h = absurd h
+  complete (tuple ps) m (collectionᵒ o vs) e w d h = absurd h
+  complete (tuple ps) m (tupledᵒ o vs) e w d h = complete-each ps (members m) vs e w d h
   complete (both p q) m v e w d h = next-complete (Follows p m v) (Follows q m v) e (solve p m v e) (solve q m v)
       (λ u c j. complete p m v e u c j) (λ b u c j. complete q m v b u c j) w d h
   complete (either p q) m v e w d (inl h) = Memᴰ·append-left (map (onSide 1) (solve q m v e))
@@ -211,16 +212,16 @@ mutual
   complete (never p) m v e w d h = when-complete (noSolution (solve p m v e)) e w d
       (noSolution-complete (solve p m v e) (λ s i. h .0 (s .way) (s .bound) (sound p m v e s i))) (h .1) (h .2)
 
-  complete-each : (ps : Patterns) (ms : Matchers) (vs : Values) (e : Bindings) (w : Way) (d : Bindings) → FollowsAll ps ms vs e w d
+  complete-each : (ps : Patterns) (ms : Matchers) (vs : Valuesᵒ) (e : Bindings) (w : Way) (d : Bindings) → FollowsAll ps ms vs e w d
       → Mem (solution w d) (solveEach ps ms vs e)
   complete-each noPatterns ms vs e w d h = just-complete e w d (h .0) (h .1)
   complete-each (p ▸ᵖ ps) noMatchers vs e w d h = just-complete e w d (h .0) (h .1)
-  complete-each (p ▸ᵖ ps) (m ▸ᵐ ms) empty e w d h = just-complete e w d (h .0) (h .1)
-  complete-each (p ▸ᵖ ps) (m ▸ᵐ ms) (v ▸ vs) e w d h = next-complete (Follows p m v) (FollowsAll ps ms vs) e (solve p m v e) (solveEach ps ms vs)
+  complete-each (p ▸ᵖ ps) (m ▸ᵐ ms) emptyᵒ e w d h = just-complete e w d (h .0) (h .1)
+  complete-each (p ▸ᵖ ps) (m ▸ᵐ ms) (v ▸ᵒ vs) e w d h = next-complete (Follows p m v) (FollowsAll ps ms vs) e (solve p m v e) (solveEach ps ms vs)
       (λ u c j. complete p m v e u c j) (λ b u c j. complete-each ps ms vs b u c j) w d h
 
 -- ---- The theorem.
 
 pub good-is-computed : (m : Matcher) (p : Pattern) (v : Value) (w : Way) (e : Bindings) → Good m p v w e ↔ Mem (solution w e) (goodWays m p v)
 unfolding Good goodWays
-good-is-computed m p v w e = (complete p m v [] w e, sound p m v [] (solution w e))
+good-is-computed m p v w e = (complete p m (target v) [] w e, sound p m (target v) [] (solution w e))

@@ -9,11 +9,13 @@ use Rattle.rules.specs.Forms.{Value, int, tupled, empty, _▸_}
 use Rattle.rules.specs.Reading.{ok}
 use Rattle.rules.specs.Variables.{variables}
 use Rattle.rules.specs.Review.{factor}
-use Rattle.rules.specs.Services.{accepted, Rule, ruleOf, targetOf, match, review}
+use Rattle.rules.specs.Services.{accepted, Rule, ruleOf, targetOf, matchIn, review}
+use Rattle.rules.specs.Rows.{Form}
 use Rattle.forms.specs.Written.{largest, variableTags, pair-largest}
 use Rattle.forms.specs.Faults.{sane-exactly, rule-accepted}
 use Rattle.promises.specs.Reviewing.{countOf}
 use Rattle.promises.specs.Matching.{steps-bounded, rows-bounded, room-enough, tags-counted}
+use Rattle.promises.specs.Room.{widest}
 use mathlib.Core.Path.{subst}
 use Rattle.promises.specs.Main.Reviews.{count-is-formula}
 
@@ -27,26 +29,26 @@ pub pair-keeps-cap : (x y : ℤ) → largest (tupled (int x ▸ int y ▸ empty)
 pair-keeps-cap = pair-largest
 
 -- The count bounds every run on a target whose collections, nested ones and those inside a tuple too, have at most `cap` elements.
-module _ (ms ps ts : List ℤ) (budget : ℕ) (room : List ℤ) (r : Rule) (v : Value)
+module _ (form : Form) (ms ps ts : List ℤ) (budget : ℕ) (room : List ℤ) (r : Rule) (v : Value)
     (rule : ruleOf ms ps ≡ accepted r) (target : targetOf (r .matcher) ts ≡ accepted v)
     (cap : ℕ) (small : largest v ≤ cap) where
-  pub steps-at-most : (match ms ps ts budget room) .steps ≤ countOf cap r
-  steps-at-most = steps-bounded ms ps ts budget room r v (sane-exactly ms ps ts r v .0 (rule, target)) cap small
+  pub steps-at-most : (matchIn form ms ps ts budget room) .steps ≤ countOf cap r
+  steps-at-most = steps-bounded form ms ps ts budget room r v (sane-exactly ms ps ts r v .0 (rule, target)) cap small
 
-  pub rows-at-most : (match ms ps ts budget room) .rows ≤ factor cap 0 (r .pattern) (r .matcher)
-  rows-at-most = rows-bounded ms ps ts budget room r v (sane-exactly ms ps ts r v .0 (rule, target)) cap small
+  pub rows-at-most : (matchIn form ms ps ts budget room) .rows ≤ factor cap 0 (r .pattern) (r .matcher)
+  rows-at-most = rows-bounded form ms ps ts budget room r v (sane-exactly ms ps ts r v .0 (rule, target)) cap small
 
-  -- ---- Room enough: with the count as budget, and (product of factors) × (variables) × (target words) words of room, match answers 0.
+  -- ---- Room enough: with the count as budget, and (product of factors) × (variables) × (target words) words of room, or in form 2 × 3, match answers 0.
 
-  pub enough : countOf cap r ≤ budget → factor cap 0 (r .pattern) (r .matcher) * variableTags (r .pattern) * length ts ≤ length room
-      → (match ms ps ts budget room) .answer ≡ 0
-  enough = room-enough ms ps ts budget room r v (sane-exactly ms ps ts r v .0 (rule, target)) cap small
+  pub enough : countOf cap r ≤ budget → factor cap 0 (r .pattern) (r .matcher) * variableTags (r .pattern) * widest form (length ts) ≤ length room
+      → (matchIn form ms ps ts budget room) .answer ≡ 0
+  enough = room-enough form ms ps ts budget room r v (sane-exactly ms ps ts r v .0 (rule, target)) cap small
 
   -- ---- The same in review's own number: what it counts is enough.
 
-  pub steps-reviewed : (review ms ps (pos cap)) .answer ≡ 0 → (match ms ps ts budget room) .steps ≤ (review ms ps (pos cap)) .count
-  steps-reviewed a = subst (λ n. (match ms ps ts budget room) .steps ≤ n) (sym (count-is-formula ms ps cap r rule a)) steps-at-most
+  pub steps-reviewed : (review ms ps (pos cap)) .answer ≡ 0 → (matchIn form ms ps ts budget room) .steps ≤ (review ms ps (pos cap)) .count
+  steps-reviewed a = subst (λ n. (matchIn form ms ps ts budget room) .steps ≤ n) (sym (count-is-formula ms ps cap r rule a)) steps-at-most
 
   pub enough-reviewed : (review ms ps (pos cap)) .answer ≡ 0 → (review ms ps (pos cap)) .count ≤ budget
-      → factor cap 0 (r .pattern) (r .matcher) * variableTags (r .pattern) * length ts ≤ length room → (match ms ps ts budget room) .answer ≡ 0
+      → factor cap 0 (r .pattern) (r .matcher) * variableTags (r .pattern) * widest form (length ts) ≤ length room → (matchIn form ms ps ts budget room) .answer ≡ 0
   enough-reviewed a b = enough (subst (λ n. n ≤ budget) (count-is-formula ms ps cap r rule a) b)

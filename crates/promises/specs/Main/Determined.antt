@@ -3,13 +3,13 @@ use Prim.Native.Nat.{ℕ}
 use mathlib.Core.Path.{_≡_, sym, _∙_}
 use mathlib.Core.List.{List}
 use lib.IntN.{ℤ}
-use Rattle.rules.specs.Services.{Matched, match, Reviewed, review}
+use Rattle.rules.specs.Services.{Matched, matchWith, Reviewed, review}
 
 -- ---- Determined: two results that a contract allows agree in every number and every word of the room.
 
-pub match-determined : (ms ps ts : List ℤ) (budget : ℕ) (room : List ℤ) (x y : Matched)
-    → x ≡ match ms ps ts budget room → y ≡ match ms ps ts budget room → x ≡ y
-match-determined ms ps ts budget room x y p q = p ∙ sym q
+pub match-determined : (form : ℕ) (ms ps ts : List ℤ) (budget : ℕ) (room : List ℤ) (x y : Matched)
+    → x ≡ matchWith form ms ps ts budget room → y ≡ matchWith form ms ps ts budget room → x ≡ y
+match-determined form ms ps ts budget room x y p q = p ∙ sym q
 
 pub review-determined : (ms ps : List ℤ) (cap : ℤ) (x y : Reviewed) → x ≡ review ms ps cap → y ≡ review ms ps cap → x ≡ y
 review-determined ms ps cap x y p q = p ∙ sym q

@@ -8,7 +8,8 @@ use lib.IntN.{ℤ}
 use Rattle.rules.specs.Forms.{Value}
 use Rattle.rules.specs.Reading.{ok, fault, readTarget}
 use Rattle.rules.specs.Causes.{Cause, causeNumber, causeOf}
-use Rattle.rules.specs.Services.{accepted, Rule, ruleOf, causeIn, turnedAway, match}
+use Rattle.rules.specs.Services.{accepted, Rule, ruleOf, causeIn, turnedAway, matchIn}
+use Rattle.rules.specs.Rows.{Form}
 use Rattle.forms.specs.Faults.{Fault, Judgement, Sane, match-turned, match-judged, refused-exactly, fault-once, not-both}
 use Rattle.forms.specs.Wrong.{Wrong, Says, wrong-says}
 use Rattle.promises.specs.Causes.{cause-none, cause-at, cause-length, cause-5, cause-other, answer-5}
@@ -16,16 +17,16 @@ use Rattle.promises.specs.Causes.{cause-none, cause-at, cause-length, ca
 -- ---- Refusals: for every input exactly one of a refusal, by the first fault in the fixed order, or a run.
 
 module _ (ms ps ts : List ℤ) where
-  pub refused-or-run : (budget : ℕ) (room : List ℤ) → Judgement ms ps ts budget room (match ms ps ts budget room)
-  refused-or-run = match-judged ms ps ts
+  pub refused-or-run : (form : Form) (budget : ℕ) (room : List ℤ) → Judgement form ms ps ts budget room (matchIn form ms ps ts budget room)
+  refused-or-run form = match-judged form ms ps ts
 
   -- Answers 1 to 6 exactly with their fault and at its place; then nothing else is given, and the room is as it was.
-  pub first-fault-exactly : (budget : ℕ) (room : List ℤ) (a i : ℕ)
-      → Fault ms ps ts a i ↔ (1 ≤ a) × (a ≤ 6) × ((match ms ps ts budget room) .answer ≡ a) × ((match ms ps ts budget room) .place ≡ i)
-  first-fault-exactly = refused-exactly ms ps ts
+  pub first-fault-exactly : (form : Form) (budget : ℕ) (room : List ℤ) (a i : ℕ)
+      → Fault ms ps ts a i ↔ (1 ≤ a) × (a ≤ 6) × ((matchIn form ms ps ts budget room) .answer ≡ a) × ((matchIn form ms ps ts budget room) .place ≡ i)
+  first-fault-exactly form = refused-exactly form ms ps ts
 
-  pub room-as-it-was : (budget : ℕ) (room : List ℤ) (a i : ℕ) → Fault ms ps ts a i → match ms ps ts budget room ≡ turnedAway a i (causeIn a ts) room
-  room-as-it-was = match-turned ms ps ts
+  pub room-as-it-was : (form : Form) (budget : ℕ) (room : List ℤ) (a i : ℕ) → Fault ms ps ts a i → matchIn form ms ps ts budget room ≡ turnedAway a i (causeIn a ts) room
+  room-as-it-was form = match-turned form ms ps ts
 
   pub one-fault : (a i b j : ℕ) → Fault ms ps ts a i → Fault ms ps ts b j → (a ≡ b) × (i ≡ j)
   one-fault = fault-once ms ps ts
@@ -49,14 +50,14 @@ module _ (ts : List ℤ) where
   cause-says i c p q = wrong-says (cause-at ts i c .0 (p, q))
 
 -- Match's sixth number is a cause exactly in answer 5, with its place, and else 0.
-module _ (ms ps ts : List ℤ) (budget : ℕ) (room : List ℤ) where
-  pub cause-told-exactly : (match ms ps ts budget room) .answer ≡ 5
-      ↔ (1 ≤ (match ms ps ts budget room) .cause) × ((match ms ps ts budget room) .cause ≤ 7)
-  cause-told-exactly = cause-5 ms ps ts budget room
+module _ (form : Form) (ms ps ts : List ℤ) (budget : ℕ) (room : List ℤ) where
+  pub cause-told-exactly : (matchIn form ms ps ts budget room) .answer ≡ 5
+      ↔ (1 ≤ (matchIn form ms ps ts budget room) .cause) × ((matchIn form ms ps ts budget room) .cause ≤ 7)
+  cause-told-exactly = cause-5 form ms ps ts budget room
 
-  pub no-cause-else : ((match ms ps ts budget room) .answer ≡ 5 → ⊥) → (match ms ps ts budget room) .cause ≡ 0
-  no-cause-else = cause-other ms ps ts budget room
+  pub no-cause-else : ((matchIn form ms ps ts budget room) .answer ≡ 5 → ⊥) → (matchIn form ms ps ts budget room) .cause ≡ 0
+  no-cause-else = cause-other form ms ps ts budget room
 
   pub target-fault-exactly : (i : ℕ) (c : Cause) → ((r : Rule) × (ruleOf ms ps ≡ accepted r)) × Wrong ts i c
-      ↔ ((match ms ps ts budget room) .answer ≡ 5) × ((match ms ps ts budget room) .place ≡ i) × ((match ms ps ts budget room) .cause ≡ causeNumber c)
-  target-fault-exactly = answer-5 ms ps ts budget room
+      ↔ ((matchIn form ms ps ts budget room) .answer ≡ 5) × ((matchIn form ms ps ts budget room) .place ≡ i) × ((matchIn form ms ps ts budget room) .cause ≡ causeNumber c)
+  target-fault-exactly = answer-5 form ms ps ts budget room

@@ -8,9 +8,10 @@ use lib.IntN.{ℤ, pos}
 use Rattle.rules.specs.Forms.{Value}
 use Rattle.rules.specs.Reading.{ok}
 use Rattle.rules.specs.Fit.{fitsValue}
-use Rattle.rules.specs.Equality.{Bindings}
+use Rattle.rules.specs.Origins.{Bindings}
 use Rattle.rules.specs.Ways.{Way, Good}
-use Rattle.rules.specs.Services.{accepted, Rule, ruleOf, targetOf, match, review}
+use Rattle.rules.specs.Services.{accepted, Rule, ruleOf, targetOf, matchIn, review}
+use Rattle.rules.specs.Rows.{Form}
 use Rattle.forms.specs.Faults.{sane-exactly, rule-accepted}
 use Rattle.promises.specs.Reviewing.{Review, TooBig, AlwaysTrue, countOf, review-judged, count-is, answer-10, answer-11, everybody}
 use Rattle.promises.specs.Matching.{some-row}
@@ -53,7 +54,7 @@ pub everybody-passes : (ms ps : List ℤ) (cap : ℤ) (r : Rule) → ruleOf ms p
 everybody-passes ms ps cap r e = everybody ms ps cap r (rule-accepted ms ps r .0 e)
 
 -- So match finds a row on every target that is not refused, wherever it comes to an end by itself (answer 0).
-pub everybody-has-a-row : (ms ps ts : List ℤ) (cap : ℤ) (budget : ℕ) (room : List ℤ) (r : Rule) (v : Value)
+pub everybody-has-a-row : (form : Form) (ms ps ts : List ℤ) (cap : ℤ) (budget : ℕ) (room : List ℤ) (r : Rule) (v : Value)
     → ruleOf ms ps ≡ accepted r → targetOf (r .matcher) ts ≡ accepted v → (review ms ps cap) .answer ≡ 11
-    → (match ms ps ts budget room) .answer ≡ 0 → 1 ≤ (match ms ps ts budget room) .rows
-everybody-has-a-row ms ps ts cap budget room r v rule target = some-row ms ps ts budget room r v (sane-exactly ms ps ts r v .0 (rule, target)) cap
+    → (matchIn form ms ps ts budget room) .answer ≡ 0 → 1 ≤ (matchIn form ms ps ts budget room) .rows
+everybody-has-a-row form ms ps ts cap budget room r v rule target = some-row form ms ps ts budget room r v (sane-exactly ms ps ts r v .0 (rule, target)) cap

@@ -11,7 +11,7 @@ use lib.IntN.{ℤ, _+ℤ_}
 use Rattle.rules.specs.Numbers.{same, inRange}
 use Rattle.rules.specs.Forms.{Matcher, integer, Pattern, Value, Values, int, collection, multiset, words}
 use Rattle.rules.specs.Reading.{ok, entry, readMatcher, readPattern, readTarget}
-use Rattle.rules.specs.Equality.{Bindings, equal, isValue}
+use Rattle.rules.specs.Equality.{equal, isValue}
 use Rattle.forms.specs.Written.{matcherWords, patternWords, levels, largest, deepest, Widthsᵐ, Widthsᵖ, Widths}
 use Rattle.promises.specs.Sums.{sum-inside, sum-outside}
 use Rattle.forms.specs.Pairing.{greedy, equal-equiv, multisets-greedy}
@@ -32,10 +32,10 @@ equal-transitive m = equal-equiv m .tran
 
 -- ---- Sums: under integer a tag 3 compares the sum of the integers; outside the signed 32-bit range it equals nothing.
 
-pub sum-in-range : (e : Bindings) (v x c : ℤ) → entry e v ≡ some (int x) → inRange (x +ℤ c) ≡ true → (y : ℤ) → isValue integer e v c (int y) ≡ same (x +ℤ c) y
+pub sum-in-range : (e : List Value) (v x c : ℤ) → entry e v ≡ some (int x) → inRange (x +ℤ c) ≡ true → (y : ℤ) → isValue integer e v c (int y) ≡ same (x +ℤ c) y
 sum-in-range = sum-inside
 
-pub sum-out-of-range : (e : Bindings) (v x c : ℤ) → entry e v ≡ some (int x) → inRange (x +ℤ c) ≡ false → (w : Value) → isValue integer e v c w ≡ false
+pub sum-out-of-range : (e : List Value) (v x c : ℤ) → entry e v ≡ some (int x) → inRange (x +ℤ c) ≡ false → (w : Value) → isValue integer e v c w ≡ false
 sum-out-of-range = sum-outside
 
 -- ---- Words are read one way: what is read is what some matcher, pattern or value in the limits writes out, and no words are written by two. `Widths`:

@@ -5,7 +5,7 @@ use mathlib.Core.Bool.{Bool, false}
 use mathlib.Core.List.{List, [], _∷_, _++_, map}
 use lib.ListN.{take}
 use Rattle.rules.specs.Forms.{Matcher, Pattern, never, Value}
-use Rattle.rules.specs.Equality.{Bindings}
+use Rattle.rules.specs.Origins.{Valueᵒ, Bindings}
 use Rattle.rules.specs.Search.{Atom, atom, State, state, start}
 use Rattle.rules.specs.Ways.{Way, Follows, Good}
 use Rattle.rules.specs.Services.{Rule}
@@ -46,7 +46,7 @@ module _ (r : Rule) (v : Value) where
 -- ---- A not: its state, then the states of the search inside it up to its first row, which write nothing; then the state that follows it exactly if p
 -- has no way from the bindings held. `inner` is the state with which the search inside begins.
 
-module _ (p : Pattern) (m : Matcher) (v : Value) (e : Bindings) where
+module _ (p : Pattern) (m : Matcher) (v : Valueᵒ) (e : Bindings) where
   pub not-writes-nothing : founds (trace (inner p m v e ∷ [])) ≡ []
   not-writes-nothing = inner-writes-nothing p m v e
 
