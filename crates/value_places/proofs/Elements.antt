@@ -29,6 +29,13 @@ nth-firsts (suc n) j empty h = refl
 nth-firsts (suc n) zero (v ▸ vs) h = refl
 nth-firsts (suc n) (suc j) (v ▸ vs) h = nth-firsts n j vs (omega arith)
 
+firsts-firsts : (n j : ℕ) (vs : Values) → j ≤ n → firsts j (firsts n vs) ≡ firsts j vs
+unfolding firsts
+firsts-firsts n zero vs h = refl
+firsts-firsts zero (suc j) vs h = absurd (omega arith)
+firsts-firsts (suc n) (suc j) empty h = refl
+firsts-firsts (suc n) (suc j) (v ▸ vs) h = ap (λ (z : Values). v ▸ z) (firsts-firsts n j vs (omega arith))
+
 forest-node : (t x : ℤ) (l : List ℤ) → forest (t ∷ x ∷ l) ≡ node (tagZ t) x (forest l)
 unfolding forest
 forest-node t x l = refl
@@ -187,6 +194,13 @@ module _ (s : List ℤ) (at j : ℕ) (g : Target s) (w : Tag s at) (h : j < coun
   element-value = place-value s j (countAt s at) (at + 2) g (standing-at s at g w (countAt s at) (omega arith)) h ∙ if-some s at g w _
       (λ e. absurd (omega (arith, rw e at h)))
       (λ f. rw (elements-firsts s at g w f) (sym (nth-firsts (tagAt s (at + 1)) j (forest (drop (at + 2) s)) (omega (arith, rw (count-some (tagAt s at) (tagAt s (at + 1)) f) at h)))))
+
+  -- It stands behind the elements before it.
+  pub element-place : elementAt s at j ≡ at + 2 + sizeAll (firsts j (elements (valueAt s at)))
+  unfolding elementAt hops countAt
+  element-place = ap (λ (vs : Values). at + 2 + sizeAll vs) (if-some s at g w _
+      (λ e. absurd (omega (arith, rw e at h)))
+      (λ f. rw (elements-firsts s at g w f) (sym (firsts-firsts (tagAt s (at + 1)) j (forest (drop (at + 2) s)) (omega (arith, rw (count-some (tagAt s at) (tagAt s (at + 1)) f) at h))))))
 
 -- ---- The words of a value stand from its tag up to its end.
 

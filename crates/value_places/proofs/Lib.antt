@@ -4,4 +4,5 @@ pub mod Counting
 pub mod Ends
 pub mod Filling
 pub mod Held
+pub mod Origins
 pub mod Accepted

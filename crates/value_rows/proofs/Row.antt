@@ -14,7 +14,7 @@ use lib.Count.{ones, trailingZeros}
 use mir.Syntax.{w64}
 use mir.Val.{Fits}
 use Rattle.rules.specs.Forms.{Value, int, collection, Values, empty, _▸_, words, wordsAll, size, sizeAll}
-use Rattle.rules.specs.Search.{row}
+use Rattle.rules.specs.Rows.{asWords, told, row}
 use Rattle.words.specs.Words.{tagAt}
 use Rattle.words.specs.Marks.{clear}
 use Rattle.words.specs.Marked.{marked}
@@ -23,12 +23,13 @@ use Rattle.words.proofs.marks.Marked.{count-marked}
 use Rattle.value_places.specs.Places.{valueAt, elements, countAt, Target, Tag, elementAt}
 use Rattle.value_places.specs.Tables.{Ends, Places}
 use Rattle.value_places.specs.Held.{Held, heldAt, left, sizeLeft, wordsLeft, put, part}
-use Rattle.value_rows.specs.Row.{holds, bound, boundFrom, nothing, Bound}
+use Rattle.value_rows.specs.Row.{originOf, bound, boundFrom, nothing, Bound}
 use Rattle.value_rows.specs.declared.Binding.{Binding}
 use Rattle.forms.specs.Written.{length-words}
 use Rattle.value_places.proofs.Forest.{is-here, two-words}
 use Rattle.value_places.proofs.Elements.{second, by-tag, int-at, collection-at, tag-small, slice-words}
 use Rattle.value_places.proofs.Held.{held-int, held-collection, held-tuple, held-tag, held-clear, held-some, left-none, next-in, next-less, next-tag, next-left}
+use Rattle.value_places.proofs.Origins.{plain-origin}
 use Rattle.value_places.proofs.Filling.{find-half, find-half-mul}
 use Rattle.value_rows.proofs.Room.{length-put, put-append, put-none}
 
@@ -221,33 +222,33 @@ module _ (s : List ℤ) (b : List Binding) (n v : ℕ) (q : Bound s b n) (h : v 
   pub row-mul : Fits w64 (v * 16)
   row-mul = let z = row-16 in record { fits = omega arith }
 
-  row-step : row (boundFrom s b v n) ≡ words (heldAt s (getD b v nothing .at) (getD b v nothing .marks)) ++ row (boundFrom s b (v + 1) n)
-  unfolding boundFrom holds row
+  row-step : row asWords (boundFrom s b v n) ≡ words (heldAt s (getD b v nothing .at) (getD b v nothing .marks)) ++ row asWords (boundFrom s b (v + 1) n)
+  unfolding boundFrom originOf told row
   row-step =
       let l : v < length (take n b) = rw length-take (omega (arith, q .most, q .long)) in
-      rw (drop-cons (take n b) v nothing l, getD-take n b v nothing h, add-one v)
+      rw (drop-cons (take n b) v nothing l, getD-take n b v nothing h, add-one v, plain-origin s (getD b v nothing .at) (getD b v nothing .marks) 0)
 
-  step-length : length (row (boundFrom s b v n)) ≡ size (heldAt s (getD b v nothing .at) (getD b v nothing .marks)) + length (row (boundFrom s b (v + 1) n))
+  step-length : length (row asWords (boundFrom s b v n)) ≡ size (heldAt s (getD b v nothing .at) (getD b v nothing .marks)) + length (row asWords (boundFrom s b (v + 1) n))
   step-length =
       let x = heldAt s (getD b v nothing .at) (getD b v nothing .marks) in
-      ap length row-step ∙ length-append (words x) (row (boundFrom s b (v + 1) n)) ∙ ap (λ (k : ℕ). k + length (row (boundFrom s b (v + 1) n))) (length-words x)
+      ap length row-step ∙ length-append (words x) (row asWords (boundFrom s b (v + 1) n)) ∙ ap (λ (k : ℕ). k + length (row asWords (boundFrom s b (v + 1) n))) (length-words x)
 
-  pub row-room : (o y l : ℕ) → y ≡ o + length (row (boundFrom s b v n)) → y ≤ l → o + size (heldAt s (getD b v nothing .at) (getD b v nothing .marks)) ≤ l
+  pub row-room : (o y l : ℕ) → y ≡ o + length (row asWords (boundFrom s b v n)) → y ≤ l → o + size (heldAt s (getD b v nothing .at) (getD b v nothing .marks)) ≤ l
   row-room o y l i k = omega (arith, step-length)
 
-  pub row-turn-size : (o o′ y : ℕ) → y ≡ o + length (row (boundFrom s b v n)) → o′ ≡ o + size (heldAt s (getD b v nothing .at) (getD b v nothing .marks))
-      → y ≡ o′ + length (row (boundFrom s b (v + 1) n))
+  pub row-turn-size : (o o′ y : ℕ) → y ≡ o + length (row asWords (boundFrom s b v n)) → o′ ≡ o + size (heldAt s (getD b v nothing .at) (getD b v nothing .marks))
+      → y ≡ o′ + length (row asWords (boundFrom s b (v + 1) n))
   row-turn-size o o′ y i k = omega (arith, step-length)
 
-  pub row-turn : (room room′ x : List ℤ) (o o′ : ℕ) → x ≡ put room o (row (boundFrom s b v n)) → o′ ≡ o + size (heldAt s (getD b v nothing .at) (getD b v nothing .marks))
-      → room′ ≡ put room o (words (heldAt s (getD b v nothing .at) (getD b v nothing .marks))) → x ≡ put room′ o′ (row (boundFrom s b (v + 1) n))
+  pub row-turn : (room room′ x : List ℤ) (o o′ : ℕ) → x ≡ put room o (row asWords (boundFrom s b v n)) → o′ ≡ o + size (heldAt s (getD b v nothing .at) (getD b v nothing .marks))
+      → room′ ≡ put room o (words (heldAt s (getD b v nothing .at) (getD b v nothing .marks))) → x ≡ put room′ o′ (row asWords (boundFrom s b (v + 1) n))
   row-turn room room′ x o o′ i k j =
       let y = heldAt s (getD b v nothing .at) (getD b v nothing .marks) in
-      i ∙ rw (k, j, ← length-words y, row-step) (put-append (words y) (row (boundFrom s b (v + 1) n)) room o)
+      i ∙ rw (k, j, ← length-words y, row-step) (put-append (words y) (row asWords (boundFrom s b (v + 1) n)) room o)
 
-row-none : (s : List ℤ) (b : List Binding) (n v : ℕ) → Bound s b n → n ≤ v → row (boundFrom s b v n) ≡ []
+row-none : (s : List ℤ) (b : List Binding) (n v : ℕ) → Bound s b n → n ≤ v → row asWords (boundFrom s b v n) ≡ []
 unfolding boundFrom row
-row-none s b n v q h = ap (λ (l : List Binding). row (map (holds s) l)) (all-dropped (take n b) v (rw length-take (omega (arith, q .most, q .long))))
+row-none s b n v q h = ap (λ (l : List Binding). row asWords (map (originOf s) l)) (all-dropped (take n b) v (rw length-take (omega (arith, q .most, q .long))))
   where
     all-dropped : (l : List Binding) (k : ℕ) → length l ≤ k → drop k l ≡ []
     all-dropped [] zero h = refl
@@ -255,24 +256,24 @@ row-none s b n v q h = ap (λ (l : List Binding). row (map (holds s) l)) (all-dr
     all-dropped (x ∷ l) zero h = absurd (omega arith)
     all-dropped (x ∷ l) (suc k) h = all-dropped l k (omega arith)
 
-pub row-out : (s room x : List ℤ) (b : List Binding) (n v o : ℕ) → Bound s b n → x ≡ put room o (row (boundFrom s b v n)) → n ≤ v → room ≡ x
+pub row-out : (s room x : List ℤ) (b : List Binding) (n v o : ℕ) → Bound s b n → x ≡ put room o (row asWords (boundFrom s b v n)) → n ≤ v → room ≡ x
 row-out s room x b n v o q i h = sym (i ∙ rw (row-none s b n v q h) (put-none room o))
 
-pub row-out-size : (s : List ℤ) (b : List Binding) (n v o y : ℕ) → Bound s b n → y ≡ o + length (row (boundFrom s b v n)) → n ≤ v → o ≡ y
+pub row-out-size : (s : List ℤ) (b : List Binding) (n v o y : ℕ) → Bound s b n → y ≡ o + length (row asWords (boundFrom s b v n)) → n ≤ v → o ≡ y
 row-out-size s b n v o y q i h = omega (arith, ap length (row-none s b n v q h))
 
 module _ (s : List ℤ) (b : List Binding) (n : ℕ) where
-  row-start : row (bound s b n) ≡ row (boundFrom s b 0 n)
+  row-start : row asWords (bound s b n) ≡ row asWords (boundFrom s b 0 n)
   unfolding bound boundFrom
   row-start = refl
 
-  pub row-start-size : (o : ℕ) → o + length (row (bound s b n)) ≡ o + length (row (boundFrom s b 0 n))
+  pub row-start-size : (o : ℕ) → o + length (row asWords (bound s b n)) ≡ o + length (row asWords (boundFrom s b 0 n))
   row-start-size o = rw row-start
 
-  pub row-start-sum : length (row (bound s b n)) ≡ 0 + length (row (boundFrom s b 0 n))
+  pub row-start-sum : length (row asWords (bound s b n)) ≡ 0 + length (row asWords (boundFrom s b 0 n))
   row-start-sum = omega (arith, ap length row-start)
 
-  pub row-start-room : (room : List ℤ) (o : ℕ) → put room o (row (bound s b n)) ≡ put room o (row (boundFrom s b 0 n))
+  pub row-start-room : (room : List ℤ) (o : ℕ) → put room o (row asWords (bound s b n)) ≡ put room o (row asWords (boundFrom s b 0 n))
   row-start-room room o = rw row-start
 
 -- ---- The size of the row.
@@ -285,14 +286,14 @@ held-within s at m g w = by-tag s at g (w .tag) _
 
 -- A row has no more words than its variables have targets.
 module _ (s : List ℤ) (b : List Binding) (n : ℕ) (q : Bound s b n) (g : Target s) where
-  row-most : (k v : ℕ) → v + k ≡ n → length (row (boundFrom s b v n)) ≤ k * length s
+  row-most : (k v : ℕ) → v + k ≡ n → length (row asWords (boundFrom s b v n)) ≤ k * length s
   row-most zero v e = rw (row-none s b n v q (omega arith)) (omega arith)
   row-most (suc k) v e =
       let h : v < n = omega arith in
       rw (suc-mul k (length s))
       (omega (arith, step-length s b n v q h, held-within s (getD b v nothing .at) (getD b v nothing .marks) g (q .are v h), row-most k (v + 1) (omega arith)))
 
-  pub row-within : length (row (bound s b n)) ≤ n * length s
+  pub row-within : length (row asWords (bound s b n)) ≤ n * length s
   row-within = rw (row-start s b n) (row-most n 0 (omega arith))
 
 pub targets-fit : (s : List ℤ) (n : ℕ) → Target s → n ≤ 16 → Fits w64 (n * length s)
@@ -309,7 +310,7 @@ module _ (s : List ℤ) (b : List Binding) (n v k r : ℕ) (q : Bound s b n) (h 
   pub sum-bound : k ≤ v * 1024 → k + r ≤ (v + 1) * 1024
   sum-bound a = omega (arith, small)
 
-  pub sum-turn : (y : ℕ) → y ≡ k + length (row (boundFrom s b v n)) → y ≡ k + r + length (row (boundFrom s b (v + 1) n))
+  pub sum-turn : (y : ℕ) → y ≡ k + length (row asWords (boundFrom s b v n)) → y ≡ k + r + length (row asWords (boundFrom s b (v + 1) n))
   sum-turn y i = omega (arith, step-length s b n v q h)
 
 pub ruleset sum-rules = (sum-fits, sum-bound, sum-turn, row-held, row-16, row-mul, row-out-size, row-start-sum, needs)

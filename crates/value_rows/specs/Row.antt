@@ -4,24 +4,29 @@ use mathlib.Core.Path.{_≡_}
 use mathlib.Core.List.{List, map}
 use lib.ListN.{length, getD, take, drop}
 use lib.IntN.{ℤ}
-use Rattle.rules.specs.Equality.{Bindings}
+use Rattle.rules.specs.Origins.{Valueᵒ, Bindings}
 use Rattle.rules.specs.Forms.{Value}
 use Rattle.value_places.specs.Held.{heldAt, Held}
+use Rattle.value_places.specs.Origins.{originAt}
 use Rattle.value_rows.specs.declared.Binding.{Binding}
 
--- The value of a binding, and the bindings of the first n variables.
+-- The value of a binding; the same with its origin; and the bindings of the first n variables. (A row does not tell a value's place in its collection.)
 unfoldable pub holds : List ℤ → Binding → Value
 unfolding heldAt
 holds s x = heldAt s (x .at) (x .marks)
 
+unfoldable pub originOf : List ℤ → Binding → Valueᵒ
+unfolding originAt
+originOf s x = originAt s (x .at) (x .marks) 0
+
 unfoldable pub bound : List ℤ → List Binding → ℕ → Bindings
-unfolding holds
-bound s b n = map (holds s) (take n b)
+unfolding originOf
+bound s b n = map (originOf s) (take n b)
 
 -- Those from variable v on.
 unfoldable pub boundFrom : List ℤ → List Binding → ℕ → ℕ → Bindings
-unfolding holds
-boundFrom s b v n = map (holds s) (drop v (take n b))
+unfolding originOf
+boundFrom s b v n = map (originOf s) (drop v (take n b))
 
 abbrev pub nothing : Binding
 nothing = record { at = 0; marks = 0 }

@@ -13,7 +13,7 @@ ghost use lib.ListN.{length};
 ghost use lib.IntN.{pos};
 ghost use lib.Count.{ones};
 ghost use Rattle.rules.specs.Forms.{size, words};
-ghost use Rattle.rules.specs.Search.{row};
+ghost use Rattle.rules.specs.Rows.{asWords, row};
 ghost use Rattle.value_places.specs.Places.{valueAt, Target, Tag};
 ghost use Rattle.value_places.specs.Tables.{Ends, Places};
 ghost use Rattle.value_places.specs.Held.{Held, heldAt, sizeLeft, wordsLeft, put, part};
@@ -169,7 +169,7 @@ pub fn row_size(
     n: usize,
 ) -> usize
     requires { ⌜ Target (now s) ⌝ ∗ ⌜ Ends (now s) (now ends) ⌝ ∗ ⌜ Places (now s) (now base) (now places) ⌝ ∗ ⌜ Bound (now s) b n ⌝ }
-    ensures { λ r. ⌜ r ≡ length (row (bound (now (s .entry)) b n)) ⌝ }
+    ensures { λ r. ⌜ r ≡ length (row asWords (bound (now (s .entry)) b n)) ⌝ }
 {
     let mut size: usize = 0;
     let mut v: usize = 0;

@@ -2,8 +2,6 @@
 use Prim.Native.Nat.{ℕ, zero, suc, _/_, _%_}
 use lib.IntN.{ℤ, pos}
 use Rattle.rules.specs.Forms.{Value, int, collection, tupled, Values, empty, _▸_}
-use Rattle.rules.specs.Search.{Halves}
-use Rattle.words.specs.Marks.{clear, Split}
 
 -- Element k. (Past the end there is none.)
 unfoldable pub nth : Values → ℕ → Value
@@ -25,12 +23,3 @@ unfolding marked
 held (int x) m = int x
 held (collection vs) m = collection (marked vs m)
 held (tupled vs) m = tupled vs
-
--- The halves of what marks m hold, where a cons takes place k; and where a join parts the marks.
-unfoldable pub choiceAt : Values → ℕ → ℕ → Halves
-unfolding nth held
-choiceAt vs m k = record { first = nth vs k; second = held (collection vs) (clear k m) }
-
-unfoldable pub partsAt : Values → Split → Halves
-unfolding held
-partsAt vs s = record { first = held (collection vs) (s .front); second = held (collection vs) (s .back) }

@@ -2,7 +2,7 @@
 use Prim.Native.Nat.{_≤_, _+_, _-_, _*_}
 use mathlib.Core.Path.{_≡_}
 use lib.ListN.{length}
-use Rattle.rules.specs.Search.{row}
+use Rattle.rules.specs.Rows.{asWords, row}
 use Rattle.value_rows.specs.Row.{bound, boundFrom, Bound}
 use Rattle.value_rows.proofs.Row.{sum-rules}
 use Rattle.value_rows.proofs.row_size.Statement.{statement}
@@ -10,7 +10,7 @@ use Rattle.value_rows.proofs.row_size.Tie as tie
 use Rattle.value_rows.proofs.size_of.Reads as size-of-reads
 
 abbrev Inv-loop : tie.InvT-loop
-Inv-loop s ends base places n b size₀ v₀ size v = (v ≤ n) × Bound s b n × (length (row (bound s b n)) ≡ size + length (row (boundFrom s b v n))) × (size ≤ v * 1024)
+Inv-loop s ends base places n b size₀ v₀ size v = (v ≤ n) × Bound s b n × (length (row asWords (bound s b n)) ≡ size + length (row asWords (boundFrom s b v n))) × (size ≤ v * 1024)
 
 abbrev μ-loop : tie.MeasureT-loop
 μ-loop s ends base places n b size₀ v₀ size v = n - v
