@@ -6,10 +6,11 @@ use mathlib.Core.Option.{some}
 use mathlib.Core.List.{List, [], _∷_, _++_, map}
 use lib.ListN.{length, getElem?}
 use lib.IntN.{ℤ, pos}
-use Rattle.rules.specs.Forms.{Matcher, something, integer, list, multiset, tupleOf, Matchers, noMatchers, _▸ᵐ_, countᵐ, Value}
+use Rattle.rules.specs.Forms.{Matcher, something, integer, list, multiset, tupleOf, Matchers, noMatchers, _▸ᵐ_, countᵐ}
 use Rattle.rules.specs.Forms.{Pattern, wildcard, nil, variable, constant, value, cons, join, tuple, both, either, never, Patterns, noPatterns, _▸ᵖ_, countᵖ}
 use Rattle.rules.specs.Fit.{element, takes, withoutSomething, sameShape, isSomething}
-use Rattle.rules.specs.Equality.{Bindings, isConstant, isValue, isEmpty}
+use Rattle.rules.specs.Equality.{isConstant, isValue, isEmpty}
+use Rattle.rules.specs.Origins.{Valueᵒ, Bindings, plain}
 use Rattle.rules.specs.Search.{Halves, consHalves, joinHalves, Atom, atom, endOfNot, State, state, dropIf, after, leaveNot}
 
 -- What waits when a state has been taken up and `ss` waited behind it.
@@ -38,7 +39,7 @@ whole (listCons m) p q = cons p q
 whole (multisetCons m) p q = cons p q
 whole (joins m) p q = join p q
 
-unfoldable pub halves : Kind → Value → List Halves
+unfoldable pub halves : Kind → Valueᵒ → List Halves
 unfolding consHalves joinHalves
 halves (listCons m) v = consHalves (list m) v
 halves (multisetCons m) v = consHalves (multiset m) v
@@ -48,7 +49,7 @@ unfoldable pub branch : Kind → Pattern → Pattern → List Atom → Bindings 
 unfolding over firstBy
 branch k p q older e h = state false (atom p (firstBy k) (h .first) ∷ atom q (over k) (h .second) ∷ older) e
 
-pub after-whole : (k : Kind) (p q : Pattern) (v : Value) (older : List Atom) (e : Bindings)
+pub after-whole : (k : Kind) (p q : Pattern) (v : Valueᵒ) (older : List Atom) (e : Bindings)
     → after (whole k p q) (over k) v older e ≡ map (branch k p q older e) (halves k v)
 unfolding after whole over firstBy halves branch element
 after-whole (listCons m) p q v older e = refl
@@ -71,11 +72,11 @@ testBy (asConstant c) = integer
 testBy (asValue m x c) = m
 testBy (asNil m) = m
 
-unfoldable pub passes : Test → Bindings → Value → Bool
-unfolding isConstant isValue isEmpty
-passes (asConstant c) e v = isConstant c v
-passes (asValue m x c) e v = isValue m e (pos x) c v
-passes (asNil m) e v = isEmpty v
+unfoldable pub passes : Test → Bindings → Valueᵒ → Bool
+unfolding plain isConstant isValue isEmpty
+passes (asConstant c) e v = isConstant c (plain v)
+passes (asValue m x c) e v = isValue m (map plain e) (pos x) c (plain v)
+passes (asNil m) e v = isEmpty (plain v)
 
 -- What the fit of the pattern says of a test, `ms` being the matchers of the variables to its left.
 unfoldable pub Sound : Test → List Matcher → Type 0
@@ -84,7 +85,7 @@ Sound (asConstant c) ms = Unit {0}
 Sound (asValue m x c) ms = (k : Matcher) × (getElem? ms x ≡ some k) × (sameShape m k ≡ true) × (withoutSomething m ≡ true)
 Sound (asNil m) ms = takes m 4 ≡ true
 
-pub after-test : (t : Test) (v : Value) (older : List Atom) (e : Bindings)
+pub after-test : (t : Test) (v : Valueᵒ) (older : List Atom) (e : Bindings)
     → after (tested t) (testBy t) v older e ≡ dropIf (passes t e v) older e
 unfolding after tested testBy passes
 after-test (asConstant c) v older e = refl
@@ -96,7 +97,7 @@ pub data Loose : Pattern → Type 0 where
   loose-wildcard : Loose wildcard
   loose-variable : {x : ℤ} → Loose (variable x)
 
-pub after-loose : {p : Pattern} → Loose p → (m : Matcher) (v : Value) (older : List Atom) (e : Bindings) → isSomething m ≡ false
+pub after-loose : {p : Pattern} → Loose p → (m : Matcher) (v : Valueᵒ) (older : List Atom) (e : Bindings) → isSomething m ≡ false
     → after p m v older e ≡ state false (atom p something v ∷ older) e ∷ []
 unfolding after
 after-loose loose-wildcard m v older e h = ap (λ b. elim b as (λ _. List State) [ true ↦ state false older e ∷ [] | false ↦ state false (atom wildcard something v ∷ older) e ∷ [] ]) h

@@ -9,26 +9,28 @@ use borrow.Author.Tests.{eq-eqb, ne-eqb}
 use lib.Pow.{pow-pos, pow-lt}
 use lib.Count.{trailingZeros}
 use lib.IntN.{ℤ}
-use Rattle.rules.specs.Forms.{Matcher, list, multiset, Value, collection, Values}
+use Rattle.rules.specs.Forms.{Matcher, list, multiset, count}
+use Rattle.rules.specs.Origins.{Origin, Valueᵒ, collectionᵒ, Valuesᵒ, plain, plainAll}
 use Rattle.rules.specs.Fit.{takes, tagsOf, among}
 use Rattle.rules.specs.Search.{Halves, consHalves, joinHalves}
 use Rattle.words.specs.Words.{tagAt}
 use Rattle.words.specs.Marks.{clear, positions, raise, splits, Longer}
-use Rattle.words.specs.Marked.{held, choiceAt, partsAt}
 use Rattle.words.proofs.marks.Places.{low-digit, clear-add, positions-one, positions-low, positions-none}
 use Rattle.words.proofs.marks.Fronts.{raise-none, splits-next, splits-last}
-use Rattle.words.proofs.marks.Marked.{cons-multiset, cons-list, cons-list-none, join-splits}
 use Rattle.value_places.specs.Places.{valueAt, elements, countAt, Target, elementAt}
-use Rattle.value_places.specs.Held.{Held, heldAt, left}
-use Rattle.value_rows.specs.Row.{holds}
+use Rattle.value_places.specs.Held.{Held}
+use Rattle.value_places.specs.Origins.{nthᵒ, markedᵒ, originAt, elementsᵒ}
+use Rattle.forms.specs.Origins.{plain-placedAll}
 use Rattle.value_rows.specs.declared.Binding.{Binding}
-use Rattle.value_places.proofs.Held.{held-collection, marks-all, held-64, held-less, held-clear, held-some, whole-held, whole-value, next-in, next-64, next-tag, next-value}
+use Rattle.value_places.proofs.Held.{marks-all, held-64, held-less, held-clear, held-some, whole-held, next-in, next-64, next-tag}
+use Rattle.value_places.proofs.Origins.{origin-collection, origin-whole, element-origin}
 use Rattle.program_rules.specs.Points.{Kind, listCons, multisetCons, joins, over, firstBy, halves}
 use Rattle.search_machine.specs.Held.{Picked, Opened}
 use Rattle.search_atom.specs.Leaves.{when, opensOf, noneOf, longerOf}
 use Rattle.search_machine.specs.Fitting.{Fine}
-use Rattle.search_machine.specs.Operations.{Is, code, someOf, opensBy, opens, partOf, takePlace, takeFront, pick, elementsAt, LeftPlaces, LeftFronts, Left}
+use Rattle.search_machine.specs.Operations.{Is, code, someOf, opensBy, opens, partOf, takePlace, takeFront, pick, originBy, choiceAt, partsAt, elementsAt, LeftPlaces, LeftFronts, Left}
 use Rattle.search_machine.proofs.Fitting.{halves-fine}
+use Rattle.search_machine.proofs.Marked.{cons-multiset, cons-list, cons-list-none, join-splits}
 use Rattle.search_machine.proofs.Tests.{is-many}
 
 -- What a pick says of the choices.
@@ -52,38 +54,47 @@ by-zero P (suc c) f h = h (omega arith)
 
 module _ (s : List ℤ) (g : Target s) where
   -- What is held of a collection.
-  of-elements : (at m : ℕ) → Held s at m → tagAt s at ≡ 1 → heldAt s at m ≡ held (collection (elements (valueAt s at))) m
-  unfolding held left
-  of-elements at m w f = held-collection s at m g (w .tag) f
+  of-elements : (h : Binding) (place m : ℕ) → Held s (h .at) m → tagAt s (h .at) ≡ 1 → originAt s (h .at) m place ≡ collectionᵒ (originBy h place) (markedᵒ (elementsAt s h) m)
+  of-elements h place m w f = origin-collection s (h .at) m place g (w .tag) f
+
+  some-of : (at m : ℕ) → Held s at m → m < 2 ^ count (plainAll (elementsᵒ s at))
+  unfolding elementsᵒ
+  some-of at m w = rw (plain-placedAll (at + 2) 0 (elements (valueAt s at))) (held-some s at m g w)
 
   -- ---- Cons: places.
 
-  module _ (k : Kind) (h : Binding) (c : ℕ) (w : Held s (h .at) (h .marks)) (f : tagAt s (h .at) ≡ 1) (hs : List Halves) (fine : Fine k hs) where
-    places-opened : Held s (h .at) c → hs ≡ map (choiceAt (elementsAt s h) (h .marks)) (positions 64 c)
+  module _ (k : Kind) (h : Binding) (place c : ℕ) (w : Held s (h .at) (h .marks)) (f : tagAt s (h .at) ≡ 1) (hs : List Halves) (fine : Fine k hs) where
+    places-opened : Held s (h .at) c → hs ≡ map (choiceAt (originBy h place) (elementsAt s h) (h .marks)) (positions 64 c)
         → ((c : ℕ) → LeftPlaces s k h c hs → Left s k h c hs) → Opened (Left s k h) (someOf c) hs
     unfolding Opened
     places-opened u e into = by-zero _ c
         (λ z. rw (some-none c z) (e ∙ rw (z, positions-none 64)))
-        (λ z. rw (some-some c z) (into c (record { held = w; many = f; some = z; choices = u; are = e; fine = fine })))
+        (λ z. rw (some-some c z) (into c (record { place = place; held = w; many = f; some = z; choices = u; are = e; fine = fine })))
 
   place-taken : (k : Kind) (h : Binding) (c : ℕ) (hs : List Halves) → ((c : ℕ) (us : List Halves) → LeftPlaces s k h c us → Left s k h c us)
       → LeftPlaces s k h c hs → Picks s k h (takePlace s h c (trailingZeros 64 c)) hs
-  unfolding takePlace partOf holds choiceAt Fine
+  unfolding takePlace partOf choiceAt Fine
   place-taken k h c hs into l =
       let t = trailingZeros 64 c in
       let e = elementAt s (h .at) t in
       let vs = elementsAt s h in
+      let o = originBy h (l .place) in
       let tag = next-tag s (h .at) c t g (l .choices) refl (l .some) e refl in
-      let here = l .are ∙ ap (map (choiceAt vs (h .marks))) (positions-low 64 c (l .some) (held-64 s (h .at) c g (l .choices))) in
-      let fine : Fine k (choiceAt vs (h .marks) t ∷ map (choiceAt vs (h .marks)) (positions 64 (clear t c))) = subst (Fine k) here (l .fine) in
+      let here = l .are ∙ ap (map (choiceAt o vs (h .marks))) (positions-low 64 c (l .some) (held-64 s (h .at) c g (l .choices))) in
+      let fine : Fine k (choiceAt o vs (h .marks) t ∷ map (choiceAt o vs (h .marks)) (positions 64 (clear t c))) = subst (Fine k) here (l .fine) in
       let u = held-clear s (h .at) c t (clear t c) (l .choices) refl in
       let two = held-clear s (h .at) (h .marks) t (clear t (h .marks)) (l .held) refl in (
-        choiceAt vs (h .marks) t,
-        map (choiceAt vs (h .marks)) (positions 64 (clear t c)),
+        choiceAt o vs (h .marks) t,
+        map (choiceAt o vs (h .marks)) (positions 64 (clear t c)),
         here,
-        record { held = whole-held s e g tag; is = whole-value s e g tag ∙ next-value s (h .at) c t g (l .choices) refl (l .some) e refl; fits = fine .0 },
-        record { held = two; is = of-elements (h .at) (clear t (h .marks)) two (l .many); fits = fine .1 },
-        places-opened k h (clear t c) (l .held) (l .many) (map (choiceAt vs (h .marks)) (positions 64 (clear t c))) (fine .2) u refl (λ d. into d _),
+        record {
+          held = whole-held s e g tag;
+          place = t;
+          is = origin-whole s e t g tag ∙ sym (element-origin s (h .at) t g (l .held .tag) (next-in s (h .at) c t g (l .choices) refl (l .some)));
+          fits = fine .0;
+        },
+        record { held = two; place = l .place; is = of-elements h (l .place) (clear t (h .marks)) two (l .many); fits = fine .1 },
+        places-opened k h (l .place) (clear t c) (l .held) (l .many) (map (choiceAt o vs (h .marks)) (positions 64 (clear t c))) (fine .2) u refl (λ d. into d _),
       )
 
   -- ---- Join: fronts.
@@ -96,10 +107,10 @@ module _ (s : List ℤ) (g : Target s) where
     longer-is : (f b : ℕ) → 0 < b → b < 2 ^ 64 → Longer f b (f + 2 ^ trailingZeros 64 b) (clear (trailingZeros 64 b) b)
     longer-is f b z l = let c = clear-add (trailingZeros 64 b) b (low-digit 64 b z l) in record { front = refl; back = refl; sum = omega arith }
 
-    front-halves : (f b : ℕ) → Held s (h .at) f → Held s (h .at) b → tagAt s (h .at) ≡ 1 → partsAt (elementsAt s h) (record { front = f + 0; back = b })
-        ≡ record { first = heldAt s (h .at) f; second = heldAt s (h .at) b }
+    front-halves : (place f b : ℕ) → Held s (h .at) f → Held s (h .at) b → tagAt s (h .at) ≡ 1 → partsAt (originBy h place) (elementsAt s h) (record { front = f + 0; back = b })
+        ≡ record { first = originAt s (h .at) f place; second = originAt s (h .at) b place }
     unfolding partsAt
-    front-halves f b u w n = rw (add-zero f, of-elements (h .at) f u n, of-elements (h .at) b w n)
+    front-halves place f b u w n = rw (add-zero f, of-elements h place f u n, of-elements h place b w n)
 
     more-none : (f b : ℕ) → b ≡ 0 → someOf (longerOf f b) ≡ none
     unfolding longerOf when
@@ -110,40 +121,43 @@ module _ (s : List ℤ) (g : Target s) where
     more-some f b z = ap someOf (rw (ne-eqb b 0 (λ y. omega arith))) ∙ some-some (f + 2 ^ trailingZeros 64 b) (omega (arith, pow-pos (trailingZeros 64 b)))
 
     front-taken : (f : ℕ) (hs : List Halves) → LeftFronts s (joins m) h f hs → Picks s (joins m) h (takeFront h f) hs
-    unfolding takeFront holds Fine Opened
+    unfolding takeFront Fine Opened
     front-taken f hs l = by-zero _ b
         (λ z.
-        let here = l .are ∙ ap (λ (x : ℕ). map (partsAt vs) (map (raise f) (splits 64 x))) z ∙ ap (map (partsAt vs)) (splits-last f) ∙ ap (λ (x : Halves). x ∷ [])
-        (ap (λ (x : ℕ). partsAt vs (record { front = f + 0; back = x })) (sym z) ∙ front-halves f b one two (l .many)) in
-        let fine : Fine (joins m) (record { first = heldAt s (h .at) f; second = heldAt s (h .at) b } ∷ []) = subst (Fine (joins m)) here (l .fine) in (
-          record { first = heldAt s (h .at) f; second = heldAt s (h .at) b },
+        let here = l .are ∙ ap (λ (x : ℕ). map (partsAt o vs) (map (raise f) (splits 64 x))) z ∙ ap (map (partsAt o vs)) (splits-last f) ∙ ap (λ (x : Halves). x ∷ [])
+        (ap (λ (x : ℕ). partsAt o vs (record { front = f + 0; back = x })) (sym z) ∙ front-halves (l .place) f b one two (l .many)) in
+        let fine : Fine (joins m) (record { first = originAt s (h .at) f (l .place); second = originAt s (h .at) b (l .place) } ∷ []) = subst (Fine (joins m)) here (l .fine) in (
+          record { first = originAt s (h .at) f (l .place); second = originAt s (h .at) b (l .place) },
           [],
           here,
-          record { held = one; is = refl; fits = fine .0 },
-          record { held = two; is = refl; fits = fine .1 },
+          record { held = one; place = l .place; is = refl; fits = fine .0 },
+          record { held = two; place = l .place; is = refl; fits = fine .1 },
           subst (λ (o : Option ℕ). Opened (Left s (joins m) h) o []) (sym (more-none f b z)) refl,
         ))
         (λ z.
         let t = 2 ^ trailingZeros 64 b in
         let n = longer-is f b z (held-64 s (h .at) b g two) in
         let q : h .marks - (f + t) ≡ clear (trailingZeros 64 b) b = omega (arith, n .sum, l .within) in
-        let rest = map (partsAt vs) (map (raise (f + t)) (splits 64 (h .marks - (f + t)))) in
-        let here = l .are ∙ ap (map (partsAt vs)) (splits-next f b (f + t) (clear (trailingZeros 64 b) b) z (held-64 s (h .at) b g two) n)
-        ∙ ap₂ (λ (x : Halves) (y : List Halves). x ∷ y) (front-halves f b one two (l .many)) (ap (λ (x : ℕ). map (partsAt vs) (map (raise (f + t)) (splits 64 x))) (sym q)) in
-        let fine : Fine (joins m) (record { first = heldAt s (h .at) f; second = heldAt s (h .at) b } ∷ rest) = subst (Fine (joins m)) here (l .fine) in (
-          record { first = heldAt s (h .at) f; second = heldAt s (h .at) b },
+        let rest = map (partsAt o vs) (map (raise (f + t)) (splits 64 (h .marks - (f + t)))) in
+        let here = l .are ∙ ap (map (partsAt o vs)) (splits-next f b (f + t) (clear (trailingZeros 64 b) b) z (held-64 s (h .at) b g two) n)
+        ∙ ap₂ (λ (x : Halves) (y : List Halves). x ∷ y) (front-halves (l .place) f b one two (l .many)) (ap (λ (x : ℕ). map (partsAt o vs) (map (raise (f + t)) (splits 64 x))) (sym q)) in
+        let fine : Fine (joins m) (record { first = originAt s (h .at) f (l .place); second = originAt s (h .at) b (l .place) } ∷ rest) = subst (Fine (joins m)) here (l .fine) in (
+          record { first = originAt s (h .at) f (l .place); second = originAt s (h .at) b (l .place) },
           rest,
           here,
-          record { held = one; is = refl; fits = fine .0 },
-          record { held = two; is = refl; fits = fine .1 },
+          record { held = one; place = l .place; is = refl; fits = fine .0 },
+          record { held = two; place = l .place; is = refl; fits = fine .1 },
           subst (λ (o : Option ℕ). Opened (Left s (joins m) h) o rest) (sym (more-some f b z))
-              (fronts-left (f + t) rest (record { held = l .held; many = l .many; within = omega (arith, n .sum); are = refl; fine = fine .2 })),
+              (fronts-left (f + t) rest (record { place = l .place; held = l .held; many = l .many; within = omega (arith, n .sum); are = refl; fine = fine .2 })),
         ))
       where
         b : ℕ
         b = h .marks - f
 
-        vs : Values
+        o : Origin
+        o = originBy h (l .place)
+
+        vs : Valuesᵒ
         vs = elementsAt s h
 
         one : Held s (h .at) f
@@ -160,32 +174,34 @@ module _ (s : List ℤ) (g : Target s) where
   pick-ok (multisetCons m) h c hs l = place-taken (multisetCons m) h c hs (λ d us u. u) l
   pick-ok (joins m) h f hs l = front-taken m h f hs l
 
-  pub opens-ok : (k : Kind) (h : Binding) (v : Value) → Is s (over k) h v → Opened (Left s k h) (opens k h) (halves k v)
-  unfolding opens code opensBy noneOf opensOf when Opened Left halves over holds takes tagsOf among
+  pub opens-ok : (k : Kind) (h : Binding) (v : Valueᵒ) → Is s (over k) h v → Opened (Left s k h) (opens k h) (halves k v)
+  unfolding opens code opensBy noneOf opensOf when Opened Left halves over takes tagsOf among
   opens-ok (listCons m) h v i =
       let f = is-many s g (list m) h v refl i in
-      let e = sym (i .is) ∙ of-elements (h .at) (h .marks) (i .held) f in
+      let e = sym (i .is) ∙ of-elements h (i .place) (h .marks) (i .held) f in
       by-zero _ (h .marks)
-      (λ z. rw (eq-eqb (h .marks) 0 z) (ap (consHalves (list m)) (e ∙ ap (held (collection (elementsAt s h))) z) ∙ cons-list-none (elementsAt s h) m))
+      (λ z. rw (eq-eqb (h .marks) 0 z) (ap (consHalves (list m)) (e ∙ ap (λ (x : ℕ). collectionᵒ (originBy h (i .place)) (markedᵒ (elementsAt s h) x)) z) ∙ cons-list-none (originBy h (i .place)) (elementsAt s h) m))
       (λ z.
       let t = trailingZeros 64 (h .marks) in
       let l : t < countAt s (h .at) = next-in s (h .at) (h .marks) t g (i .held) refl z in
       rw (ne-eqb (h .marks) 0 (λ y. omega arith)) (record {
+        place = i .place;
         held = i .held;
         many = f;
         some = pow-pos t;
         choices = record { tag = i .held .tag; marks = rw (marks-all s (h .at) f) (pow-lt l) };
-        are = ap (consHalves (list m)) e ∙ cons-list (elementsAt s h) (h .marks) (held-some s (h .at) (h .marks) g (i .held)) (held-64 s (h .at) (h .marks) g (i .held)) m z
-            ∙ ap (map (choiceAt (elementsAt s h) (h .marks))) (sym (positions-one 64 t (next-64 s (h .at) (h .marks) t g (i .held) refl z)));
+        are = ap (consHalves (list m)) e ∙ cons-list (originBy h (i .place)) (elementsAt s h) (h .marks) (some-of (h .at) (h .marks) (i .held)) (held-64 s (h .at) (h .marks) g (i .held)) m z
+            ∙ ap (map (choiceAt (originBy h (i .place)) (elementsAt s h) (h .marks))) (sym (positions-one 64 t (next-64 s (h .at) (h .marks) t g (i .held) refl z)));
         fine = halves-fine (listCons m) v (i .fits);
       }))
   opens-ok (multisetCons m) h v i =
       let f = is-many s g (multiset m) h v refl i in
-      let e = ap (consHalves (multiset m)) (sym (i .is) ∙ of-elements (h .at) (h .marks) (i .held) f)
-      ∙ cons-multiset (elementsAt s h) (h .marks) (held-some s (h .at) (h .marks) g (i .held)) (held-64 s (h .at) (h .marks) g (i .held)) m in
+      let e = ap (consHalves (multiset m)) (sym (i .is) ∙ of-elements h (i .place) (h .marks) (i .held) f)
+      ∙ cons-multiset (originBy h (i .place)) (elementsAt s h) (h .marks) (some-of (h .at) (h .marks) (i .held)) (held-64 s (h .at) (h .marks) g (i .held)) m in
       by-zero _ (h .marks)
-      (λ z. rw (eq-eqb (h .marks) 0 z) (e ∙ ap (map (choiceAt (elementsAt s h) (h .marks))) (ap (positions 64) z ∙ positions-none 64)))
+      (λ z. rw (eq-eqb (h .marks) 0 z) (e ∙ ap (map (choiceAt (originBy h (i .place)) (elementsAt s h) (h .marks))) (ap (positions 64) z ∙ positions-none 64)))
       (λ z. rw (ne-eqb (h .marks) 0 (λ y. omega arith)) (record {
+        place = i .place;
         held = i .held;
         many = f;
         some = z;
@@ -196,11 +212,12 @@ module _ (s : List ℤ) (g : Target s) where
   opens-ok (joins m) h v i =
       let f = is-many s g (list m) h v refl i in
       record {
+        place = i .place;
         held = i .held;
         many = f;
         within = omega arith;
-        are = ap joinHalves (sym (i .is) ∙ of-elements (h .at) (h .marks) (i .held) f)
-            ∙ join-splits (elementsAt s h) (h .marks) (held-some s (h .at) (h .marks) g (i .held)) (held-64 s (h .at) (h .marks) g (i .held))
-            ∙ ap (map (partsAt (elementsAt s h))) (sym (raise-none (splits 64 (h .marks)))) ∙ ap (λ (x : ℕ). map (partsAt (elementsAt s h)) (map (raise 0) (splits 64 x))) (minus-none (h .marks));
+        are = ap joinHalves (sym (i .is) ∙ of-elements h (i .place) (h .marks) (i .held) f)
+            ∙ join-splits (originBy h (i .place)) (elementsAt s h) (h .marks) (some-of (h .at) (h .marks) (i .held)) (held-64 s (h .at) (h .marks) g (i .held))
+            ∙ ap (map (partsAt (originBy h (i .place)) (elementsAt s h))) (sym (raise-none (splits 64 (h .marks)))) ∙ ap (λ (x : ℕ). map (partsAt (originBy h (i .place)) (elementsAt s h)) (map (raise 0) (splits 64 x))) (minus-none (h .marks));
         fine = halves-fine (joins m) v (i .fits);
       }

@@ -10,8 +10,8 @@ use Rattle.rules.specs.Forms.{Matcher, something, integer, list, multiset, tupl
 use Rattle.rules.specs.Reading.{Verdict, ok, _then_}
 use Rattle.rules.specs.Variables.{demand}
 use Rattle.rules.specs.Fit.{fitsAll, fitsValue, fitsEach}
-use Rattle.rules.specs.Equality.{Pick, picks, behind}
-use Rattle.rules.specs.Search.{consHalves, joinHalves, Cut, cuts, longer}
+use Rattle.rules.specs.Origins.{Origin, Valueᵒ, intᵒ, collectionᵒ, tupledᵒ, Valuesᵒ, emptyᵒ, _▸ᵒ_, plain, plainAll}
+use Rattle.rules.specs.Search.{Taking, takings, behind, consHalves, joinHalves, Cut, cuts, longer}
 use Rattle.forms.specs.Readers.{then-ok}
 use Rattle.program_rules.specs.Points.{Kind, listCons, multisetCons, joins, over, firstBy, halves}
 use Rattle.search_machine.specs.Fitting.{Each, Fitting, FittingEach, Fine}
@@ -59,55 +59,55 @@ mutual
 
 -- ---- Picks and cuts of elements that fit.
 
-EachPick : (P : Value → Type 0) → List Pick → Type 0
+EachPick : (P : Value → Type 0) → List Taking → Type 0
 EachPick P [] = Unit {0}
-EachPick P (p ∷ ps) = P (p .one) × Each P (p .others) × EachPick P ps
+EachPick P (p ∷ ps) = P (plain (p .one)) × Each P (plainAll (p .others)) × EachPick P ps
 
-behind-each : (P : Value → Type 0) (v : Value) → P v → (ps : List Pick) → EachPick P ps → EachPick P (map (behind v) ps)
-unfolding EachPick behind Each
+behind-each : (P : Value → Type 0) (v : Valueᵒ) → P (plain v) → (ps : List Taking) → EachPick P ps → EachPick P (map (behind v) ps)
+unfolding EachPick behind Each plainAll
 behind-each P v h [] g = tt
 behind-each P v h (p ∷ ps) g = (g .0, (h, g .1), behind-each P v h ps (g .2))
 
-picks-each : (P : Value → Type 0) (vs : Values) → Each P vs → EachPick P (picks vs)
-unfolding picks Each EachPick
-picks-each P empty a = tt
-picks-each P (v ▸ vs) a = (a .0, a .1, behind-each P v (a .0) (picks vs) (picks-each P vs (a .1)))
+takings-each : (P : Value → Type 0) (vs : Valuesᵒ) → Each P (plainAll vs) → EachPick P (takings vs)
+unfolding takings Each EachPick plainAll
+takings-each P emptyᵒ a = tt
+takings-each P (v ▸ᵒ vs) a = (a .0, a .1, behind-each P v (a .0) (takings vs) (takings-each P vs (a .1)))
 
 EachCut : (P : Value → Type 0) → List Cut → Type 0
 EachCut P [] = Unit {0}
-EachCut P (c ∷ cs) = Each P (c .front) × Each P (c .back) × EachCut P cs
+EachCut P (c ∷ cs) = Each P (plainAll (c .front)) × Each P (plainAll (c .back)) × EachCut P cs
 
-longer-each : (P : Value → Type 0) (v : Value) → P v → (cs : List Cut) → EachCut P cs → EachCut P (map (longer v) cs)
-unfolding EachCut longer Each
+longer-each : (P : Value → Type 0) (v : Valueᵒ) → P (plain v) → (cs : List Cut) → EachCut P cs → EachCut P (map (longer v) cs)
+unfolding EachCut longer Each plainAll
 longer-each P v h [] g = tt
 longer-each P v h (c ∷ cs) g = ((h, g .0), g .1, longer-each P v h cs (g .2))
 
-cuts-each : (P : Value → Type 0) (vs : Values) → Each P vs → EachCut P (cuts vs)
-unfolding cuts Each EachCut
-cuts-each P empty a = (tt, tt, tt)
-cuts-each P (v ▸ vs) a = (tt, a, longer-each P v (a .0) (cuts vs) (cuts-each P vs (a .1)))
+cuts-each : (P : Value → Type 0) (vs : Valuesᵒ) → Each P (plainAll vs) → EachCut P (cuts vs)
+unfolding cuts Each EachCut plainAll
+cuts-each P emptyᵒ a = (tt, tt, tt)
+cuts-each P (v ▸ᵒ vs) a = (tt, a, longer-each P v (a .0) (cuts vs) (cuts-each P vs (a .1)))
 
-multiset-fine : (m : Matcher) (ps : List Pick) → EachPick (λ v. Fitting m v) ps
-    → Fine (multisetCons m) (map (λ p. record { first = p .one; second = collection (p .others) }) ps)
-unfolding EachPick Fitting Fine over firstBy
-multiset-fine m [] g = tt
-multiset-fine m (p ∷ ps) g = (g .0, g .1, multiset-fine m ps (g .2))
+multiset-fine : (o : Origin) (m : Matcher) (ps : List Taking) → EachPick (λ v. Fitting m v) ps
+    → Fine (multisetCons m) (map (λ p. record { first = p .one; second = collectionᵒ o (p .others) }) ps)
+unfolding EachPick Fitting Fine over firstBy plain
+multiset-fine o m [] g = tt
+multiset-fine o m (p ∷ ps) g = (g .0, g .1, multiset-fine o m ps (g .2))
 
-join-fine : (m : Matcher) (cs : List Cut) → EachCut (λ v. Fitting m v) cs
-    → Fine (joins m) (map (λ c. record { first = collection (c .front); second = collection (c .back) }) cs)
-unfolding EachCut Fitting Fine over firstBy
-join-fine m [] g = tt
-join-fine m (c ∷ cs) g = (g .0, g .1, join-fine m cs (g .2))
+join-fine : (o : Origin) (m : Matcher) (cs : List Cut) → EachCut (λ v. Fitting m v) cs
+    → Fine (joins m) (map (λ c. record { first = collectionᵒ o (c .front); second = collectionᵒ o (c .back) }) cs)
+unfolding EachCut Fitting Fine over firstBy plain
+join-fine o m [] g = tt
+join-fine o m (c ∷ cs) g = (g .0, g .1, join-fine o m cs (g .2))
 
-pub halves-fine : (k : Kind) (v : Value) → Fitting (over k) v → Fine k (halves k v)
-unfolding halves over firstBy Fitting Fine Each consHalves joinHalves
-halves-fine (listCons m) (int x) f = tt
-halves-fine (listCons m) (collection empty) f = tt
-halves-fine (listCons m) (collection (v ▸ vs)) f = (f .0, f .1, tt)
-halves-fine (listCons m) (tupled vs) f = tt
-halves-fine (multisetCons m) (int x) f = tt
-halves-fine (multisetCons m) (collection vs) f = multiset-fine m (picks vs) (picks-each (λ v. Fitting m v) vs f)
-halves-fine (multisetCons m) (tupled vs) f = tt
-halves-fine (joins m) (int x) f = tt
-halves-fine (joins m) (collection vs) f = join-fine m (cuts vs) (cuts-each (λ v. Fitting m v) vs f)
-halves-fine (joins m) (tupled vs) f = tt
+pub halves-fine : (k : Kind) (v : Valueᵒ) → Fitting (over k) (plain v) → Fine k (halves k v)
+unfolding halves over firstBy Fitting Fine Each consHalves joinHalves plain
+halves-fine (listCons m) (intᵒ o x) f = tt
+halves-fine (listCons m) (collectionᵒ o emptyᵒ) f = tt
+halves-fine (listCons m) (collectionᵒ o (v ▸ᵒ vs)) f = (f .0, f .1, tt)
+halves-fine (listCons m) (tupledᵒ o vs) f = tt
+halves-fine (multisetCons m) (intᵒ o x) f = tt
+halves-fine (multisetCons m) (collectionᵒ o vs) f = multiset-fine o m (takings vs) (takings-each (λ v. Fitting m v) vs f)
+halves-fine (multisetCons m) (tupledᵒ o vs) f = tt
+halves-fine (joins m) (intᵒ o x) f = tt
+halves-fine (joins m) (collectionᵒ o vs) f = join-fine o m (cuts vs) (cuts-each (λ v. Fitting m v) vs f)
+halves-fine (joins m) (tupledᵒ o vs) f = tt

@@ -1,4 +1,5 @@
 pub mod Fitting
+pub mod Marked
 pub mod Tests
 pub mod Tuples
 pub mod Choices

@@ -1,9 +1,9 @@
 -- The tests on held values are the definitions' tests on what is held. Assumes nothing.
-use Prim.Native.Nat.{ℕ, _+_, _<_}
-use mathlib.Core.Path.{_≡_, refl, sym, _∙_, ap}
+use Prim.Native.Nat.{ℕ, _+_, _/_, _%_, _^_, _<_}
+use mathlib.Core.Path.{_≡_, refl, sym, _∙_, ap, ap₂}
 use mathlib.Core.Bool.{Bool, true, false}
 use mathlib.Core.Option.{Option, none, some}
-use mathlib.Core.List.{List}
+use mathlib.Core.List.{List, [], _∷_}
 use native.Mathlib.Omega.{arith}
 use borrow.Author.Tests.{eq-eqb, ne-eqb, eqb-true, eqb-false}
 use lib.Dec.{eqb}
@@ -11,17 +11,20 @@ use lib.ListN.{getD}
 use lib.IntN.{ℤ, pos, negsuc}
 use Rattle.rules.specs.Numbers.{same, plus}
 use Rattle.rules.specs.Forms.{Matcher, something, integer, list, multiset, tupleOf, Matchers, Value, int, collection, tupled, words}
+use Rattle.rules.specs.Origins.{Valueᵒ, plain, origin, marks}
+use Rattle.rules.specs.Rows.{Form, asWords, asOrigins, told, bits}
 use Rattle.rules.specs.Fit.{takes, tagsOf, among, withoutSomething, isInteger, ofCollection, ofTuple, sameShape}
 use Rattle.rules.specs.Equality.{equal, raised, equalTo, isConstant, isEmpty}
 use Rattle.words.specs.Words.{tagAt, sameTo}
 use Rattle.words.proofs.marks.Marked.{empty-marked}
 use Rattle.value_places.specs.Places.{valueAt, elements, Target}
 use Rattle.value_places.specs.Held.{left}
-use Rattle.value_rows.specs.Row.{holds}
+use Rattle.value_rows.specs.Row.{holds, originOf}
 use Rattle.value_equality.specs.Equality.{isSum}
 use Rattle.value_rows.specs.declared.Binding.{Binding}
 use Rattle.value_places.proofs.Elements.{tagOf}
 use Rattle.value_equality.proofs.ByTag.{wants, tag-held}
+use Rattle.value_places.proofs.Origins.{plain-origin, origin-index, origin-marks}
 use Rattle.value_places.proofs.Held.{held-int, held-collection, held-some}
 use Rattle.search_machine.specs.Fitting.{Fitting}
 use Rattle.search_machine.specs.Operations.{Is, isNone, isNumber, isSame}
@@ -111,42 +114,47 @@ same-comm (negsuc a) (pos b) = refl
 same-comm (negsuc a) (negsuc b) = eqb-comm a b
 
 module _ (s : List ℤ) (g : Target s) where
-  value-tag : (m : Matcher) (h : Binding) (v : Value) (t : ℕ) → wants m ≡ t → t < 3 → Is s m h v → tagOf v ≡ t
-  value-tag m h v t e l i = fits-tag m v (λ z. omega arith) (i .fits) ∙ e
-
-  pub is-tag : (m : Matcher) (h : Binding) (v : Value) (t : ℕ) → wants m ≡ t → t < 3 → Is s m h v → tagAt s (h .at) ≡ t
+  -- What is held is the value without its origin.
+  pub is-plain : (m : Matcher) (h : Binding) (v : Valueᵒ) → Is s m h v → holds s h ≡ plain v
   unfolding holds
-  is-tag m h v t e l i = tag-held s (h .at) (h .marks) g (i .held) ∙ ap tagOf (i .is) ∙ value-tag m h v t e l i
+  is-plain m h v i = sym (plain-origin s (h .at) (h .marks) (i .place)) ∙ ap plain (i .is)
+
+  value-tag : (m : Matcher) (h : Binding) (v : Valueᵒ) (t : ℕ) → wants m ≡ t → t < 3 → Is s m h v → tagOf (plain v) ≡ t
+  value-tag m h v t e l i = fits-tag m (plain v) (λ z. omega arith) (i .fits) ∙ e
+
+  pub is-tag : (m : Matcher) (h : Binding) (v : Valueᵒ) (t : ℕ) → wants m ≡ t → t < 3 → Is s m h v → tagAt s (h .at) ≡ t
+  unfolding holds
+  is-tag m h v t e l i = tag-held s (h .at) (h .marks) g (i .held) ∙ ap tagOf (is-plain m h v i) ∙ value-tag m h v t e l i
 
   -- Under a list or multiset a collection is held.
-  pub is-many : (m : Matcher) (h : Binding) (v : Value) → takes m 4 ≡ true → Is s m h v → tagAt s (h .at) ≡ 1
+  pub is-many : (m : Matcher) (h : Binding) (v : Valueᵒ) → takes m 4 ≡ true → Is s m h v → tagAt s (h .at) ≡ 1
   is-many m h v t i = is-tag m h v 1 (nil-wants m t) (omega arith) i
 
-  pub is-collection : (m : Matcher) (h : Binding) (v : Value) → takes m 4 ≡ true → Is s m h v → v ≡ collection (left s (h .at) (h .marks))
+  pub is-collection : (m : Matcher) (h : Binding) (v : Valueᵒ) → takes m 4 ≡ true → Is s m h v → plain v ≡ collection (left s (h .at) (h .marks))
   unfolding holds
-  is-collection m h v t i = sym (i .is) ∙ held-collection s (h .at) (h .marks) g (i .held .tag) (is-many m h v t i)
+  is-collection m h v t i = sym (is-plain m h v i) ∙ held-collection s (h .at) (h .marks) g (i .held .tag) (is-many m h v t i)
 
   -- Under integer an integer.
-  pub is-int : (m : Matcher) (h : Binding) (v : Value) → wants m ≡ 0 → Is s m h v → v ≡ int (getD s (h .at + 1) (pos 0))
+  pub is-int : (m : Matcher) (h : Binding) (v : Valueᵒ) → wants m ≡ 0 → Is s m h v → plain v ≡ int (getD s (h .at + 1) (pos 0))
   unfolding holds
-  is-int m h v e i = sym (i .is) ∙ held-int s (h .at) (h .marks) g (i .held .tag) (is-tag m h v 0 e (omega arith) i)
+  is-int m h v e i = sym (is-plain m h v i) ∙ held-int s (h .at) (h .marks) g (i .held .tag) (is-tag m h v 0 e (omega arith) i)
 
-  pub none-ok : (m : Matcher) (h : Binding) (v : Value) → takes m 4 ≡ true → Is s m h v → isNone h ≡ isEmpty v
+  pub none-ok : (m : Matcher) (h : Binding) (v : Valueᵒ) → takes m 4 ≡ true → Is s m h v → isNone h ≡ isEmpty (plain v)
   unfolding isNone left
   none-ok m h v t i = sym (ap isEmpty (is-collection m h v t i) ∙ empty-marked (elements (valueAt s (h .at))) (h .marks) (held-some s (h .at) (h .marks) g (i .held)))
 
-  pub number-ok : (c : ℤ) (h : Binding) (v : Value) → Is s integer h v → isNumber s c h ≡ isConstant c v
+  pub number-ok : (c : ℤ) (h : Binding) (v : Valueᵒ) → Is s integer h v → isNumber s c h ≡ isConstant c (plain v)
   unfolding isNumber isConstant equal
   number-ok c h v i = rw (is-int integer h v refl i) (same-comm (getD s (h .at + 1) (pos 0)) c)
 
   -- What is not an integer is compared as it is held.
-  whole-ok : (m k : Matcher) (c : ℤ) (a h : Binding) (w v : Value) (t : ℕ) → wants k ≡ t → 0 < t → t < 3 → Is s k a w → Is s m h v
-      → equal m (holds s a) (holds s h) ≡ equalTo m (raised c w) v
+  whole-ok : (m k : Matcher) (c : ℤ) (a h : Binding) (w v : Valueᵒ) (t : ℕ) → wants k ≡ t → 0 < t → t < 3 → Is s k a w → Is s m h v
+      → equal m (holds s a) (holds s h) ≡ equalTo m (raised c (plain w)) (plain v)
   unfolding equalTo
-  whole-ok m k c a h w v t e l n i j = rw (i .is, j .is, raised-same c w (λ z. omega (arith, value-tag k a w t e n i)))
+  whole-ok m k c a h w v t e l n i j = rw (is-plain k a w i, is-plain m h v j, raised-same c (plain w) (λ z. omega (arith, value-tag k a w t e n i)))
 
-  pub same-ok : (m k : Matcher) (c : ℤ) (a h : Binding) (w v : Value) → withoutSomething m ≡ true → sameShape m k ≡ true → Is s k a w → Is s m h v
-      → isSame s m c a h ≡ equalTo m (raised c w) v
+  pub same-ok : (m k : Matcher) (c : ℤ) (a h : Binding) (w v : Valueᵒ) → withoutSomething m ≡ true → sameShape m k ≡ true → Is s k a w → Is s m h v
+      → isSame s m c a h ≡ equalTo m (raised c (plain w)) (plain v)
   unfolding isSame isSum withoutSomething sameShape
   same-ok something k c a h w v t x i j = clash cc
   same-ok integer k c a h w v t x i j = rw (is-int k a w (integer-wants k x) i, is-int integer h v refl j) (raised-sum _ c _)
@@ -154,5 +162,15 @@ module _ (s : List ℤ) (g : Target s) where
   same-ok (multiset m) k c a h w v t x i j = whole-ok (multiset m) k c a h w v 1 (collection-wants _ k x) (omega arith) (omega arith) i j
   same-ok (tupleOf ms) k c a h w v t x i j = whole-ok (tupleOf ms) k c a h w v 2 (tuple-wants _ k x) (omega arith) (omega arith) i j
 
-  pub words-ok : (m : Matcher) (h : Binding) (v : Value) → Is s m h v → words (holds s h) ≡ words v
-  words-ok m h v i = ap words (i .is)
+  -- In either form a row tells the same of what is held, whatever its place in its collection is.
+  index-is : (m : Matcher) (h : Binding) (v : Valueᵒ) → Is s m h v → h .at ≡ origin v .at
+  index-is m h v i = sym (origin-index s (h .at) (h .marks) (i .place)) ∙ ap (λ (u : Valueᵒ). origin u .at) (i .is)
+
+  marks-are : (m : Matcher) (h : Binding) (v : Valueᵒ) → Is s m h v → h .marks ≡ marks v
+  marks-are m h v i = sym (origin-marks s (h .at) (h .marks) (i .place) g (i .held)) ∙ ap marks (i .is)
+
+  pub words-ok : (form : Form) (m : Matcher) (h : Binding) (v : Valueᵒ) → Is s m h v → told form (originOf s h) ≡ told form v
+  unfolding told originOf
+  words-ok asWords m h v i = ap words (plain-origin s (h .at) (h .marks) 0 ∙ sym (plain-origin s (h .at) (h .marks) (i .place)) ∙ ap plain (i .is))
+  words-ok asOrigins m h v i = ap₂ (λ (a n : ℕ). pos a ∷ bits (n % 2 ^ 32) ∷ bits (n / 2 ^ 32) ∷ [])
+      (origin-index s (h .at) (h .marks) 0 ∙ index-is m h v i) (origin-marks s (h .at) (h .marks) 0 g (i .held) ∙ marks-are m h v i)

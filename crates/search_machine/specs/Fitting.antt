@@ -1,6 +1,7 @@
 -- Document 01, section 2, Fit of target to matcher, as a relation without places.
 use mathlib.Core.List.{List, [], _∷_}
 use Rattle.rules.specs.Forms.{Matcher, something, integer, list, multiset, tupleOf, Matchers, noMatchers, _▸ᵐ_, Value, int, collection, tupled, Values, empty, _▸_}
+use Rattle.rules.specs.Origins.{plain}
 use Rattle.rules.specs.Search.{Halves}
 use Rattle.program_rules.specs.Points.{Kind, over, firstBy}
 
@@ -36,6 +37,6 @@ unfoldable mutual
 
 -- Both parts of every choice fit the matchers that they stand under.
 unfoldable pub Fine : Kind → List Halves → Type 0
-unfolding over firstBy Fitting
+unfolding over firstBy Fitting plain
 Fine k [] = Unit {0}
-Fine k (h ∷ hs) = Fitting (firstBy k) (h .first) × Fitting (over k) (h .second) × Fine k hs
+Fine k (h ∷ hs) = Fitting (firstBy k) (plain (h .first)) × Fitting (over k) (plain (h .second)) × Fine k hs

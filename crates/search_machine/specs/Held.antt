@@ -5,7 +5,9 @@ use mathlib.Core.Bool.{Bool, true}
 use mathlib.Core.Option.{Option, none, some}
 use mathlib.Core.List.{List, [], _∷_}
 use lib.IntN.{ℤ}
-use Rattle.rules.specs.Forms.{Matcher, integer, tupleOf, Matchers, noMatchers, _▸ᵐ_, countᵐ, Value, tupled, Values, empty, _▸_, words}
+use Rattle.rules.specs.Forms.{Matcher, integer, tupleOf, Matchers, noMatchers, _▸ᵐ_, countᵐ}
+use Rattle.rules.specs.Origins.{Valueᵒ, tupledᵒ, Valuesᵒ, emptyᵒ, _▸ᵒ_, Origin, plain}
+use Rattle.rules.specs.Rows.{Form, told}
 use Rattle.rules.specs.Fit.{takes, withoutSomething, sameShape}
 use Rattle.rules.specs.Equality.{raised, equalTo, isConstant, isEmpty}
 use Rattle.rules.specs.Search.{Halves}
@@ -23,11 +25,11 @@ Opened L none hs = hs ≡ []
 Opened L (some r) hs = L r hs
 
 -- Each part of a tuple under its matcher: f holds the parts, the first of them as number n.
-unfoldable pub Parts : {Held : Type 0} → (Matcher → Held → Value → Type 0) → (f : ℕ → Held) → (n : ℕ) → Matchers → Values → Type 0
-Parts I f n noMatchers empty = Unit {0}
-Parts I f n noMatchers (v ▸ vs) = ⊥
-Parts I f n (m ▸ᵐ ms) empty = ⊥
-Parts I f n (m ▸ᵐ ms) (v ▸ vs) = I m (f n) v × Parts I f (suc n) ms vs
+unfoldable pub Parts : {Held : Type 0} → (Matcher → Held → Valueᵒ → Type 0) → (f : ℕ → Held) → (n : ℕ) → Matchers → Valuesᵒ → Type 0
+Parts I f n noMatchers emptyᵒ = Unit {0}
+Parts I f n noMatchers (v ▸ᵒ vs) = ⊥
+Parts I f n (m ▸ᵐ ms) emptyᵒ = ⊥
+Parts I f n (m ▸ᵐ ms) (v ▸ᵒ vs) = I m (f n) v × Parts I f (suc n) ms vs
 
 -- `Is m h v`: what is held in h is v, and v fits m. `Left k h r hs`: when the value held in h is divided by k, hs are the choices still to come at r.
 -- `isSame m c g h` compares under m; what is held in g may stand under another matcher k of the same shape. `isWide k h`: the value held in h has k parts; `part h i` is part i, counted from 0. `stale` is what a slot keeps of one of its two values when the
@@ -35,25 +37,26 @@ Parts I f n (m ▸ᵐ ms) (v ▸ vs) = I m (f n) v × Parts I f (suc n) ms vs
 pub record Data : Type 1 where
   pub Held : Type 0
   pub Rem : Type 0
-  pub Is : Matcher → Held → Value → Type 0
+  pub Is : Matcher → Held → Valueᵒ → Type 0
   pub Left : Kind → Held → Rem → List Halves → Type 0
   pub isEmptyHeld : Held → Bool
-  pub isEmptyHeld-ok : (m : Matcher) (h : Held) (v : Value) → takes m 4 ≡ true → Is m h v → isEmptyHeld h ≡ isEmpty v
+  pub isEmptyHeld-ok : (m : Matcher) (h : Held) (v : Valueᵒ) → takes m 4 ≡ true → Is m h v → isEmptyHeld h ≡ isEmpty (plain v)
   pub isNumber : ℤ → Held → Bool
-  pub isNumber-ok : (c : ℤ) (h : Held) (v : Value) → Is integer h v → isNumber c h ≡ isConstant c v
+  pub isNumber-ok : (c : ℤ) (h : Held) (v : Valueᵒ) → Is integer h v → isNumber c h ≡ isConstant c (plain v)
   pub isSame : Matcher → ℤ → Held → Held → Bool
-  pub isSame-ok : (m k : Matcher) (c : ℤ) (g h : Held) (w v : Value) → withoutSomething m ≡ true → sameShape m k ≡ true → Is k g w → Is m h v
-      → isSame m c g h ≡ equalTo m (raised c w) v
+  pub isSame-ok : (m k : Matcher) (c : ℤ) (g h : Held) (w v : Valueᵒ) → withoutSomething m ≡ true → sameShape m k ≡ true → Is k g w → Is m h v
+      → isSame m c g h ≡ equalTo m (raised c (plain w)) (plain v)
   pub opens : Kind → Held → Option Rem
-  pub opens-ok : (k : Kind) (h : Held) (v : Value) → Is (over k) h v → Opened (Left k h) (opens k h) (halves k v)
+  pub opens-ok : (k : Kind) (h : Held) (v : Valueᵒ) → Is (over k) h v → Opened (Left k h) (opens k h) (halves k v)
   pub pick : Kind → Held → Rem → Picked Held Rem
   pub pick-ok : (k : Kind) (h : Held) (r : Rem) (hs : List Halves) → Left k h r hs
       → (f : Halves) × (rest : List Halves) × (hs ≡ f ∷ rest) × Is (firstBy k) ((pick k h r) .one) (f .first)
       × Is (over k) ((pick k h r) .two) (f .second) × Opened (Left k h) ((pick k h r) .more) rest
   pub isWide : ℕ → Held → Bool
   pub part : Held → ℕ → Held
-  pub parts-ok : (ms : Matchers) (h : Held) (v : Value) → Is (tupleOf ms) h v
-      → (isWide (countᵐ ms) h ≡ true) × (vs : Values) × (v ≡ tupled vs) × Parts Is (part h) 0 ms vs
+  pub parts-ok : (ms : Matchers) (h : Held) (v : Valueᵒ) → Is (tupleOf ms) h v
+      → (isWide (countᵐ ms) h ≡ true) × (o : Origin) × (vs : Valuesᵒ) × (v ≡ tupledᵒ o vs) × Parts Is (part h) 0 ms vs
   pub stale : (now before : Held) → Held
+  pub form : Form
   pub wordsOf : Held → List ℤ
-  pub wordsOf-ok : (m : Matcher) (h : Held) (v : Value) → Is m h v → wordsOf h ≡ words v
+  pub wordsOf-ok : (m : Matcher) (h : Held) (v : Valueᵒ) → Is m h v → wordsOf h ≡ told form v

@@ -9,7 +9,8 @@ use mathlib.Core.List.{List, [], _∷_, _++_, append-nil, append-assoc}
 use lib.ListN.{length}
 use lib.Dec.{leb}
 use lib.IntN.{ℤ}
-use Rattle.rules.specs.Search.{atom, endOfNot, State, state, after, leaveNot, row, Run, stopped, step, rowStep, run}
+use Rattle.rules.specs.Rows.{Form, row}
+use Rattle.rules.specs.Search.{atom, endOfNot, State, state, after, leaveNot, Run, stopped, step, rowStep, run}
 
 -- The waiting states, the free words, the rows, steps and words so far; `full` is set by a row that does not fit.
 pub record Machine : Type 0 where
@@ -31,21 +32,21 @@ unfoldable pub filling : Machine → List State → Machine
 filling k ss = record { waiting = ss; left = k .left; rows = k .rows; steps = suc (k .steps); written = k .written; full = true }
 
 -- One step. A machine that has ended stays as it is.
-unfoldable pub stepOn : Machine → List State → Machine
+unfoldable pub stepOn : Form → Machine → List State → Machine
 unfolding passing writing filling after leaveNot row
-stepOn k [] = k
-stepOn k (state g [] e ∷ ss) = elim (leb (length (row e)) (k .left)) [ true ↦ writing k (row e) ss | false ↦ filling k ss ]
-stepOn k (state g (endOfNot ∷ older) e ∷ ss) = passing k (leaveNot ss)
-stepOn k (state g (atom p m v ∷ older) e ∷ ss) = passing k (after p m v older e ++ ss)
+stepOn form k [] = k
+stepOn form k (state g [] e ∷ ss) = elim (leb (length (row form e)) (k .left)) [ true ↦ writing k (row form e) ss | false ↦ filling k ss ]
+stepOn form k (state g (endOfNot ∷ older) e ∷ ss) = passing k (leaveNot ss)
+stepOn form k (state g (atom p m v ∷ older) e ∷ ss) = passing k (after p m v older e ++ ss)
 
-unfoldable pub once : Machine → Machine
+unfoldable pub once : Form → Machine → Machine
 unfolding stepOn
-once k = elim (k .full) [ true ↦ k | false ↦ stepOn k (k .waiting) ]
+once form k = elim (k .full) [ true ↦ k | false ↦ stepOn form k (k .waiting) ]
 
-unfoldable pub times : ℕ → Machine → Machine
+unfoldable pub times : Form → ℕ → Machine → Machine
 unfolding once
-times zero k = k
-times (suc n) k = times n (once k)
+times form zero k = k
+times form (suc n) k = times form n (once form k)
 
 -- The answer: 8 once full, 0 with no state left, else 7.
 unfoldable pub answerBy : Bool → List State → ℕ
@@ -61,16 +62,16 @@ unfoldable pub opened : State → ℕ → Machine
 opened s room = record { waiting = s ∷ []; left = room; rows = 0; steps = 0; written = []; full = false }
 
 -- Portions add up.
-pub times-add : (a b : ℕ) (k : Machine) → times (a + b) k ≡ times b (times a k)
+pub times-add : (form : Form) (a b : ℕ) (k : Machine) → times form (a + b) k ≡ times form b (times form a k)
 unfolding times
-times-add zero b k = rw (zero-add b)
-times-add (suc a) b k = rw (suc-add a b) (times-add a b (once k))
+times-add form zero b k = rw (zero-add b)
+times-add form (suc a) b k = rw (suc-add a b) (times-add form a b (once form k))
 
 -- A machine that has ended stays as it is.
-still : (n : ℕ) (k : Machine) → once k ≡ k → times n k ≡ k
+still : (form : Form) (n : ℕ) (k : Machine) → once form k ≡ k → times form n k ≡ k
 unfolding times
-still zero k h = refl
-still (suc n) k h = ap (times n) h ∙ still n k h
+still form zero k h = refl
+still form (suc n) k h = ap (times form n) h ∙ still form n k h
 
 -- What a run adds to what a machine has done.
 on : ℕ → ℕ → List ℤ → Run → Run
@@ -92,33 +93,33 @@ unfolding on rowStep
 on-row rows steps written ws r = same-run (r .answer) (omega arith) (omega arith) (append-assoc written ws (r .written))
 
 -- n steps give what the run gives.
-goes-on : (n : ℕ) (ss : List State) (left rows steps : ℕ) (written : List ℤ)
-    → told (times n (machine ss left rows steps written false)) ≡ on rows steps written (run n ss left)
+goes-on : (form : Form) (n : ℕ) (ss : List State) (left rows steps : ℕ) (written : List ℤ)
+    → told (times form n (machine ss left rows steps written false)) ≡ on rows steps written (run form n ss left)
 unfolding told times run machine on
-goes-on zero [] left rows steps written = same-run 0 (sym (add-zero rows)) (sym (add-zero steps)) (sym (append-nil written))
-goes-on zero (s ∷ ss) left rows steps written = same-run 7 (sym (add-zero rows)) (sym (add-zero steps)) (sym (append-nil written))
-goes-on (suc n) [] left rows steps written =
-    ap told (still n (machine [] left rows steps written false) refl) ∙ same-run 0 (sym (add-zero rows)) (sym (add-zero steps)) (sym (append-nil written))
-goes-on (suc n) (state g [] e ∷ ss) left rows steps written =
-    go (leb (length (row e)) left) (goes-on n ss (left - length (row e)) (suc rows) (suc steps) (written ++ row e))
+goes-on form zero [] left rows steps written = same-run 0 (sym (add-zero rows)) (sym (add-zero steps)) (sym (append-nil written))
+goes-on form zero (s ∷ ss) left rows steps written = same-run 7 (sym (add-zero rows)) (sym (add-zero steps)) (sym (append-nil written))
+goes-on form (suc n) [] left rows steps written =
+    ap told (still form n (machine [] left rows steps written false) refl) ∙ same-run 0 (sym (add-zero rows)) (sym (add-zero steps)) (sym (append-nil written))
+goes-on form (suc n) (state g [] e ∷ ss) left rows steps written =
+    go (leb (length (row form e)) left) (goes-on form n ss (left - length (row form e)) (suc rows) (suc steps) (written ++ row form e))
   where
     k : Machine
     k = machine (state g [] e ∷ ss) left rows steps written false
 
-    go : (b : Bool) → told (times n (writing k (row e) ss)) ≡ on (suc rows) (suc steps) (written ++ row e) (run n ss (left - length (row e)))
-        → told (times n (elim b as (λ _. Machine) [ true ↦ writing k (row e) ss | false ↦ filling k ss ]))
-        ≡ on rows steps written (elim b as (λ _. Run) [ true ↦ rowStep (row e) (run n ss (left - length (row e))) | false ↦ stopped 8 1 ])
-    go true h = h ∙ on-row rows steps written (row e) (run n ss (left - length (row e)))
-    go false h = ap told (still n (filling k ss) refl) ∙ same-run 8 (sym (add-zero rows)) (omega arith) (sym (append-nil written))
-goes-on (suc n) (state g (endOfNot ∷ older) e ∷ ss) left rows steps written =
-    goes-on n (leaveNot ss) left rows (suc steps) written ∙ on-step rows steps written (run n (leaveNot ss) left)
-goes-on (suc n) (state g (atom p m v ∷ older) e ∷ ss) left rows steps written =
-    goes-on n (after p m v older e ++ ss) left rows (suc steps) written ∙ on-step rows steps written (run n (after p m v older e ++ ss) left)
+    go : (b : Bool) → told (times form n (writing k (row form e) ss)) ≡ on (suc rows) (suc steps) (written ++ row form e) (run form n ss (left - length (row form e)))
+        → told (times form n (elim b as (λ _. Machine) [ true ↦ writing k (row form e) ss | false ↦ filling k ss ]))
+        ≡ on rows steps written (elim b as (λ _. Run) [ true ↦ rowStep (row form e) (run form n ss (left - length (row form e))) | false ↦ stopped 8 1 ])
+    go true h = h ∙ on-row rows steps written (row form e) (run form n ss (left - length (row form e)))
+    go false h = ap told (still form n (filling k ss) refl) ∙ same-run 8 (sym (add-zero rows)) (omega arith) (sym (append-nil written))
+goes-on form (suc n) (state g (endOfNot ∷ older) e ∷ ss) left rows steps written =
+    goes-on form n (leaveNot ss) left rows (suc steps) written ∙ on-step rows steps written (run form n (leaveNot ss) left)
+goes-on form (suc n) (state g (atom p m v ∷ older) e ∷ ss) left rows steps written =
+    goes-on form n (after p m v older e ++ ss) left rows (suc steps) written ∙ on-step rows steps written (run form n (after p m v older e ++ ss) left)
 
 -- The whole run, by steps; and in portions.
-pub run-steps : (n : ℕ) (s : State) (room : ℕ) → told (times n (opened s room)) ≡ run n (s ∷ []) room
+pub run-steps : (form : Form) (n : ℕ) (s : State) (room : ℕ) → told (times form n (opened s room)) ≡ run form n (s ∷ []) room
 unfolding machine on opened
-run-steps n s room = goes-on n (s ∷ []) room 0 0 [] ∙ same-run ((run n (s ∷ []) room) .answer) (zero-add _) (zero-add _) refl
+run-steps form n s room = goes-on form n (s ∷ []) room 0 0 [] ∙ same-run ((run form n (s ∷ []) room) .answer) (zero-add _) (zero-add _) refl
 
-pub portions : (a b : ℕ) (s : State) (room : ℕ) → told (times b (times a (opened s room))) ≡ run (a + b) (s ∷ []) room
-portions a b s room = ap told (sym (times-add a b (opened s room))) ∙ run-steps (a + b) s room
+pub portions : (form : Form) (a b : ℕ) (s : State) (room : ℕ) → told (times form b (times form a (opened s room))) ≡ run form (a + b) (s ∷ []) room
+portions form a b s room = ap told (sym (times-add form a b (opened s room))) ∙ run-steps form (a + b) s room

@@ -9,14 +9,15 @@ use lib.Dec.{eqb}
 use lib.Count.{trailingZeros}
 use lib.IntN.{ℤ, pos}
 use Rattle.rules.specs.Numbers.{same}
-use Rattle.rules.specs.Forms.{Matcher, something, integer, list, multiset, tupleOf, Value, Values}
+use Rattle.rules.specs.Forms.{Matcher, something, integer, list, multiset, tupleOf}
+use Rattle.rules.specs.Origins.{Origin, Valueᵒ, collectionᵒ, Valuesᵒ, plain}
 use Rattle.rules.specs.Equality.{equal}
 use Rattle.rules.specs.Search.{Halves}
 use Rattle.words.specs.Words.{tagAt}
-use Rattle.words.specs.Marks.{clear, positions, raise, splits}
-use Rattle.words.specs.Marked.{choiceAt, partsAt}
-use Rattle.value_places.specs.Places.{valueAt, elements, countAt, elementAt}
+use Rattle.words.specs.Marks.{clear, positions, raise, Split, splits}
+use Rattle.value_places.specs.Places.{countAt, elementAt}
 use Rattle.value_places.specs.Held.{Held, wholeAt}
+use Rattle.value_places.specs.Origins.{nthᵒ, markedᵒ, originAt, elementsᵒ}
 use Rattle.value_rows.specs.Row.{holds}
 use Rattle.value_equality.specs.Equality.{isSum}
 use Rattle.value_rows.specs.declared.Binding.{Binding}
@@ -28,11 +29,12 @@ use Rattle.search_machine.specs.Fitting.{Fitting, Fine}
 abbrev pub binding : ℕ → ℕ → Binding
 binding at m = record { at = at; marks = m }
 
--- What is held in h is v, and v fits m.
-pub record Is (s : List ℤ) (m : Matcher) (h : Binding) (v : Value) : Type 0 where
+-- What is held in h is v, with its origin, and v fits m. (The place of v in its collection is not held.)
+pub record Is (s : List ℤ) (m : Matcher) (h : Binding) (v : Valueᵒ) : Type 0 where
   pub held : Held s (h .at) (h .marks)
-  pub is : holds s h ≡ v
-  pub fits : Fitting m v
+  pub place : ℕ
+  pub is : originAt s (h .at) (h .marks) place ≡ v
+  pub fits : Fitting m (plain v)
 
 -- ---- Tests.
 
@@ -108,22 +110,36 @@ pick s (joins m) h f = takeFront h f
 
 -- ---- The choices that are left.
 
-abbrev pub elementsAt : List ℤ → Binding → Values
-elementsAt s h = elements (valueAt s (h .at))
+abbrev pub originBy : Binding → ℕ → Origin
+originBy h place = record { at = h .at; place = place }
+
+-- The halves of what marks m hold of a collection, where a cons takes place k; and where a join parts the marks.
+unfoldable pub choiceAt : Origin → Valuesᵒ → ℕ → ℕ → Halves
+unfolding nthᵒ markedᵒ
+choiceAt o vs m k = record { first = nthᵒ vs k; second = collectionᵒ o (markedᵒ vs (clear k m)) }
+
+unfoldable pub partsAt : Origin → Valuesᵒ → Split → Halves
+unfolding markedᵒ
+partsAt o vs s = record { first = collectionᵒ o (markedᵒ vs (s .front)); second = collectionᵒ o (markedᵒ vs (s .back)) }
+
+abbrev pub elementsAt : List ℤ → Binding → Valuesᵒ
+elementsAt s h = elementsᵒ s (h .at)
 
 pub record LeftPlaces (s : List ℤ) (k : Kind) (h : Binding) (c : ℕ) (hs : List Halves) : Type 0 where
+  pub place : ℕ
   pub held : Held s (h .at) (h .marks)
   pub many : tagAt s (h .at) ≡ 1
   pub some : 0 < c
   pub choices : Held s (h .at) c
-  pub are : hs ≡ map (choiceAt (elementsAt s h) (h .marks)) (positions 64 c)
+  pub are : hs ≡ map (choiceAt (originBy h place) (elementsAt s h) (h .marks)) (positions 64 c)
   pub fine : Fine k hs
 
 pub record LeftFronts (s : List ℤ) (k : Kind) (h : Binding) (f : ℕ) (hs : List Halves) : Type 0 where
+  pub place : ℕ
   pub held : Held s (h .at) (h .marks)
   pub many : tagAt s (h .at) ≡ 1
   pub within : f ≤ h .marks
-  pub are : hs ≡ map (partsAt (elementsAt s h)) (map (raise f) (splits 64 (h .marks - f)))
+  pub are : hs ≡ map (partsAt (originBy h place) (elementsAt s h)) (map (raise f) (splits 64 (h .marks - f)))
   pub fine : Fine k hs
 
 unfoldable pub Left : List ℤ → Kind → Binding → ℕ → List Halves → Type 0

@@ -7,8 +7,8 @@ use mathlib.Core.Option.{Option, none, some}
 use mathlib.Core.List.{List, [], _∷_, _++_, map}
 use lib.ListN.{length}
 use lib.Dec.{eqb, T, eqb→eq, eqb-refl}
-use Rattle.rules.specs.Forms.{Matcher, Pattern, Value}
-use Rattle.rules.specs.Equality.{Bindings}
+use Rattle.rules.specs.Forms.{Matcher, Pattern}
+use Rattle.rules.specs.Origins.{Valueᵒ, Bindings}
 use Rattle.rules.specs.Search.{Halves, Atom, atom, endOfNot, State, state}
 use Rattle.program_rules.specs.Points.{Kind, over, firstBy, branch, Instr, split, choice, deny, Item, item, orElse, endOr, stop, Point, point, cutting, finish, enter, from, known, within, inside}
 use Rattle.search_machine.specs.Held.{Data}
@@ -18,23 +18,23 @@ module _ (D : Data) where
   -- The later atoms: their values wait in slots below n. At the end of a search inside the not at j, the not's own value waits there.
   pub data Waits (slots : ℕ → Slot D) (n : ℕ) : List Item → List Atom → Type 0 where
     waits-none : Waits slots n [] []
-    waits : {p : Pattern} {m : Matcher} {c : ℕ} {v : Value} {ts : List Item} {older : List Atom}
+    waits : {p : Pattern} {m : Matcher} {c : ℕ} {v : Valueᵒ} {ts : List Item} {older : List Atom}
         → c < n → D .Is m ((slots c) .second) v → Waits slots n ts older → Waits slots n (item p m c ∷ ts) (atom p m v ∷ older)
     waits-else : {q : Pattern} {m : Matcher} {ts : List Item} {older : List Atom} → Waits slots n ts older → Waits slots n (orElse q m ∷ ts) older
     waits-end : {ts : List Item} {older : List Atom} → Waits slots n ts older → Waits slots n (endOr ∷ ts) older
-    waits-cut : {m : Matcher} {j : ℕ} {v : Value} {ts : List Item} → j < n → D .Is m ((slots j) .second) v → Waits slots n (stop j ∷ ts) (endOfNot ∷ [])
+    waits-cut : {m : Matcher} {j : ℕ} {v : Valueᵒ} {ts : List Item} → j < n → D .Is m ((slots j) .second) v → Waits slots n (stop j ∷ ts) (endOfNot ∷ [])
 
   -- The bindings, from entry i on; entries after them are left over.
   pub data Bound (binds : ℕ → D .Held) : ℕ → List Matcher → Bindings → Type 0 where
     bound-none : {i : ℕ} → Bound binds i [] []
-    bound : {i : ℕ} {m : Matcher} {v : Value} {ms : List Matcher} {e : Bindings}
+    bound : {i : ℕ} {m : Matcher} {v : Valueᵒ} {ms : List Matcher} {e : Bindings}
         → D .Is m (binds i) v → Bound binds (suc i) ms e → Bound binds i (m ∷ ms) (v ∷ e)
 
   -- The state at a place of the program.
   pub data At (slots : ℕ → Slot D) (binds : ℕ → D .Held) (pc : ℕ) (h : D .Held) : Point → State → Type 0 where
-    at : {g : Bool} {ms : List Matcher} {p : Pattern} {m k : Matcher} {ts : List Item} {v : Value} {older : List Atom} {e : Bindings}
+    at : {g : Bool} {ms : List Matcher} {p : Pattern} {m k : Matcher} {ts : List Item} {v : Valueᵒ} {older : List Atom} {e : Bindings}
         → D .Is k h v → Waits slots pc ts older → Bound binds 0 ms e → At slots binds pc h (point ms p m k ts) (state g (atom p m v ∷ older) e)
-    at-cut : {g : Bool} {ms : List Matcher} {m : Matcher} {j : ℕ} {ts : List Item} {v : Value} {e : Bindings}
+    at-cut : {g : Bool} {ms : List Matcher} {m : Matcher} {j : ℕ} {ts : List Item} {v : Valueᵒ} {e : Bindings}
         → D .Is m h v → Bound binds 0 ms e → At slots binds pc h (cutting ms j ts) (state g (endOfNot ∷ []) e)
     done : {g : Bool} {ms : List Matcher} {e : Bindings} → Bound binds 0 ms e → At slots binds pc h (finish ms) (state g [] e)
 
@@ -50,7 +50,7 @@ module _ (D : Data) where
           → D .Left k ((slots j) .held) ((slots j) .rem) hs → Waits slots j ts older → Bound binds 0 ms e
           → Chain slots binds ((slots j) .prev) (length ms) w ss
           → Chain slots binds (suc j) n w (map (branch k p q older e) hs ++ ss)
-      choice-at : {j n w to : ℕ} {m : Matcher} {ms : List Matcher} {ts : List Item} {v : Value} {older : List Atom} {e : Bindings} {ss : List State}
+      choice-at : {j n w to : ℕ} {m : Matcher} {ms : List Matcher} {ts : List Item} {v : Valueᵒ} {older : List Atom} {e : Bindings} {ss : List State}
           (q : Pattern)
           → code j ≡ choice to → j < to → points to ≡ point ms q m m (endOr ∷ ts) → within ts ≡ w
           → (slots j) .prev ≤ j → length ms ≤ n

@@ -8,11 +8,12 @@ use mathlib.Core.Option.{Option, none, some}
 use mathlib.Core.List.{List, [], _∷_, _++_, map}
 use lib.ListN.{length, getElem?, length-append}
 use lib.IntN.{ℤ, pos}
-use Rattle.rules.specs.Forms.{Matcher, something, tupleOf, Matchers, noMatchers, _▸ᵐ_, countᵐ, Value, tupled, Values, empty, _▸_}
+use Rattle.rules.specs.Forms.{Matcher, something, tupleOf, Matchers, noMatchers, _▸ᵐ_, countᵐ, Value}
+use Rattle.rules.specs.Origins.{Valueᵒ, tupledᵒ, Valuesᵒ, emptyᵒ, _▸ᵒ_, Origin, Bindings, plain}
 use Rattle.rules.specs.Forms.{Pattern, Patterns, noPatterns, _▸ᵖ_, countᵖ}
 use Rattle.rules.specs.Fit.{members, isSomething}
 use Rattle.rules.specs.Reading.{entry}
-use Rattle.rules.specs.Equality.{Bindings, raised, equalTo, isValue}
+use Rattle.rules.specs.Equality.{raised, equalTo, isValue}
 use Rattle.rules.specs.Search.{Halves, Atom, State, state, dropIf, atoms, apart as takeApart, after, leaveNot}
 use Rattle.program_rules.specs.Points.{Kind, over, firstBy, halves, branch, after-whole, Test, asConstant, asValue, asNil, testBy, passes, Sound, after-test}
 use Rattle.program_rules.specs.Points.{Instr, split, apart, Item, item, orElse, endOr, stop, Point, point, cutting, finish, enter, from, known, within, inside, firstOf, othersOf, items}
@@ -21,29 +22,35 @@ use Rattle.search_machine.specs.Held.{Data, Opened, Parts}
 use Rattle.search_machine.specs.Engine.{put, Slot, Conf, Turn, on, back, check, next, pushed, opening, kept, keptHere, framed, framedHere, without, keeping, parting, exec, slotAfter, topAfter, chosen, resumed, choose, nextChoice, settle}
 use Rattle.search_machine.specs.Rep.{Waits, waits-none, waits, waits-else, waits-end, waits-cut, Bound, bound-none, bound, At, at, at-cut, done, Chain, shut, open-at, choice-at, deny-at, Rep, over-all, live, put-same, put-below, waits-agree, bound-agree, chain-agree}
 
-isValue-at : (m : Matcher) (e : Bindings) (x : ℕ) (c : ℤ) (v w : Value) → getElem? e x ≡ some w → isValue m e (pos x) c v ≡ equalTo m (raised c w) v
+plain-at : (e : Bindings) (x : ℕ) (w : Valueᵒ) → getElem? e x ≡ some w → getElem? (map plain e) x ≡ some (plain w)
+plain-at [] x w h = let z : _≡_ {A = ℕ} 0 1 = cc in absurd (omega arith)
+plain-at (v ∷ e) zero w h = let z : v ≡ w = cc in ap (λ (u : Valueᵒ). some (plain u)) z
+plain-at (v ∷ e) (suc x) w h = plain-at e x w h
+
+isValue-at : (m : Matcher) (e : Bindings) (x : ℕ) (c : ℤ) (v : Value) (w : Valueᵒ) → getElem? e x ≡ some w
+    → isValue m (map plain e) (pos x) c v ≡ equalTo m (raised c (plain w)) v
 unfolding isValue entry
-isValue-at m e x c v w h = ap (λ z. elim z as (λ _. Bool) [ none ↦ false | some w ↦ equalTo m (raised c w) v ]) h
+isValue-at m e x c v w h = ap (λ z. elim z as (λ _. Bool) [ none ↦ false | some w ↦ equalTo m (raised c w) v ]) (plain-at e x w h)
 
 module _ (D : Data) where
-  pub bound-snoc : {f : ℕ → D .Held} {i : ℕ} {ms : List Matcher} {e : Bindings} {m : Matcher} {v : Value}
+  pub bound-snoc : {f : ℕ → D .Held} {i : ℕ} {ms : List Matcher} {e : Bindings} {m : Matcher} {v : Valueᵒ}
       → Bound D f i ms e → D .Is m (f (i + length ms)) v → Bound D f i (ms ++ (m ∷ [])) (e ++ (v ∷ []))
   bound-snoc {i = i} bound-none h = bound (rw (add-zero i) at h) bound-none
   bound-snoc {i = i} (bound {ms = ms} g b) h = bound g (bound-snoc b (rw (add-suc i (length ms), ← suc-add i (length ms)) at h))
 
   bound-at : {f : ℕ → D .Held} {i : ℕ} {ms : List Matcher} {e : Bindings} {m : Matcher} → Bound D f i ms e
-      → (x : ℕ) → getElem? ms x ≡ some m → (w : Value) × (getElem? e x ≡ some w) × D .Is m (f (i + x)) w
+      → (x : ℕ) → getElem? ms x ≡ some m → (w : Valueᵒ) × (getElem? e x ≡ some w) × D .Is m (f (i + x)) w
   bound-at bound-none x h = let z : _≡_ {A = ℕ} 0 1 = cc in absurd (omega arith)
   bound-at {i = i} {m = m} (bound {m = k} {v = v} g b) zero h = let z : k ≡ m = cc in (v, refl, rw (add-zero i, ← z) g)
   bound-at {i = i} (bound g b) (suc x) h = let r = bound-at b x h in (r .0, r .1, rw (suc-add i x, ← add-suc i x) at (r .2))
 
-  pub check-ok : (t : Test) {b : ℕ → D .Held} {h : D .Held} {v : Value} {ms : List Matcher} {e : Bindings}
+  pub check-ok : (t : Test) {b : ℕ → D .Held} {h : D .Held} {v : Valueᵒ} {ms : List Matcher} {e : Bindings}
       → Sound t ms → D .Is (testBy t) h v → Bound D b 0 ms e → check D t b h ≡ passes t e v
-  unfolding Sound testBy check passes isValue entry
+  unfolding Sound testBy check passes
   check-ok (asConstant c) {h = h} {v = v} s i b = D .isNumber-ok c h v i
   check-ok (asValue m x c) {b = f} {h = h} {v = v} {e = e} s i b =
       let r = bound-at b x (s .1) in
-      D .isSame-ok m (s .0) c (f x) h (r .0) v (s .3) (s .2) (rw (zero-add x) at (r .2)) i ∙ sym (isValue-at m e x c v (r .0) (r .1))
+      D .isSame-ok m (s .0) c (f x) h (r .0) v (s .3) (s .2) (rw (zero-add x) at (r .2)) i ∙ sym (isValue-at m e x c (plain v) (r .0) (r .1))
   check-ok (asNil m) {h = h} {v = v} s i b = D .isEmptyHeld-ok m h v s i
 
   -- ---- The parts of a tuple.
@@ -54,14 +61,14 @@ module _ (D : Data) where
   keeping-below f j h i zero c l = refl
   keeping-below f j h i (suc n) c l = keeping-below (put f j (kept D (f j) (D .part h i))) (suc j) h (suc i) n c (omega arith) ∙ put-below f j _ c l
 
-  parts-wait : (ps : Patterns) (ms : Matchers) (vs : Values) (f : ℕ → Slot D) (j : ℕ) (h : D .Held) (i : ℕ) {ts : List Item} {older : List Atom}
+  parts-wait : (ps : Patterns) (ms : Matchers) (vs : Valuesᵒ) (f : ℕ → Slot D) (j : ℕ) (h : D .Held) (i : ℕ) {ts : List Item} {older : List Atom}
       → countᵖ ps ≡ countᵐ ms → Parts (D .Is) (D .part h) i ms vs → Waits D f j ts older
       → Waits D (keeping D f j h i (countᵖ ps)) (j + countᵖ ps) (items ps ms j ts) (atoms ps ms vs ++ older)
   unfolding keeping items firstOf othersOf atoms Parts kept countᵖ countᵐ
   parts-wait noPatterns ms vs f j h i n p w = waits-agree D (omega arith) (λ i h. refl) w
   parts-wait (p ▸ᵖ ps) noMatchers vs f j h i n q w = absurd (omega arith)
-  parts-wait (p ▸ᵖ ps) (m ▸ᵐ ms) empty f j h i n q w = absurd q
-  parts-wait (p ▸ᵖ ps) (m ▸ᵐ ms) (v ▸ vs) f j h i n q w =
+  parts-wait (p ▸ᵖ ps) (m ▸ᵐ ms) emptyᵒ f j h i n q w = absurd q
+  parts-wait (p ▸ᵖ ps) (m ▸ᵐ ms) (v ▸ᵒ vs) f j h i n q w =
       let x = kept D (f j) (D .part h i) in
       let e : keeping D (put f j x) (suc j) h (suc i) (countᵖ ps) j ≡ x = keeping-below (put f j x) (suc j) h (suc i) (countᵖ ps) j (omega arith) ∙ put-same f j x in
       let z : countᵖ ps ≡ countᵐ ms = omega arith in
@@ -195,25 +202,25 @@ module _ (D : Data) where
         (pt : points (suc (c .pc + countᵖ ps)) ≡ point ms p m m (item q k (c .pc) ∷ items ps ks (suc (c .pc)) ts))
         (l : c .top ≤ c .pc) (ws : Waits D (c .slots) (c .pc) ts older) (bs : Bound D (c .binds) 0 ms e)
         (ch : Chain D code points (c .slots) (c .binds) (c .top) (length ms) (within ts) ss) where
-      parted-rep : (vs : Values) → Parts (D .Is) (D .part (c .cur)) 0 (m ▸ᵐ k ▸ᵐ ks) vs
-          → Rep D code points (some (parting D c (countᵖ ps))) (takeApart (p ▸ᵖ q ▸ᵖ ps) (m ▸ᵐ k ▸ᵐ ks) (tupled vs) older e ++ ss)
+      parted-rep : (o : Origin) (vs : Valuesᵒ) → Parts (D .Is) (D .part (c .cur)) 0 (m ▸ᵐ k ▸ᵐ ks) vs
+          → Rep D code points (some (parting D c (countᵖ ps))) (takeApart (p ▸ᵖ q ▸ᵖ ps) (m ▸ᵐ k ▸ᵐ ks) (tupledᵒ o vs) older e ++ ss)
       unfolding parting takeApart atoms Parts countᵖ countᵐ known inside within items firstOf othersOf
-      parted-rep empty x = absurd x
-      parted-rep (v ▸ empty) x = absurd (x .1)
-      parted-rep (v ▸ w ▸ vs) x =
+      parted-rep o emptyᵒ x = absurd x
+      parted-rep o (v ▸ᵒ emptyᵒ) x = absurd (x .1)
+      parted-rep o (v ▸ᵒ w ▸ᵒ vs) x =
           let y : countᵖ (q ▸ᵖ ps) ≡ countᵐ (k ▸ᵐ ks) = omega arith in
           let z : c .pc + suc (countᵖ ps) ≡ suc (c .pc + countᵖ ps) = omega arith in
           live-at (point ms p m m (items (q ▸ᵖ ps) (k ▸ᵐ ks) (c .pc) ts)) pt (omega arith)
-          (at (x .0) (rw z at (parts-wait (q ▸ᵖ ps) (k ▸ᵐ ks) (w ▸ vs) (c .slots) (c .pc) (c .cur) 1 y (x .1) ws)) bs)
+          (at (x .0) (rw z at (parts-wait (q ▸ᵖ ps) (k ▸ᵐ ks) (w ▸ᵒ vs) (c .slots) (c .pc) (c .cur) 1 y (x .1) ws)) bs)
           (rw (within-items ps ks (suc (c .pc)) ts)
           (chain-agree D code points (omega arith) (λ i h. sym (keeping-below (c .slots) (c .pc) (c .cur) 1 (suc (countᵖ ps)) i (omega arith))) (λ i h. refl) ch))
 
-      apart-rep : (v : Value) → D .Is (tupleOf (m ▸ᵐ k ▸ᵐ ks)) (c .cur) v
+      apart-rep : (v : Valueᵒ) → D .Is (tupleOf (m ▸ᵐ k ▸ᵐ ks)) (c .cur) v
           → Rep D code points (settle D code (exec D (apart (countᵖ ps)) c)) (takeApart (p ▸ᵖ q ▸ᵖ ps) (m ▸ᵐ k ▸ᵐ ks) v older e ++ ss)
       unfolding exec countᵐ
       apart-rep v x =
           let r = D .parts-ok (m ▸ᵐ k ▸ᵐ ks) (c .cur) v x in
-          rw (r .2) (wide-rep (D .isWide (suc (suc (countᵖ ps))) (c .cur)) (rw n (r .0)) c (parting D c (countᵖ ps)) (parted-rep (r .1) (r .3)))
+          rw (r .3) (wide-rep (D .isWide (suc (suc (countᵖ ps))) (c .cur)) (rw n (r .0)) c (parting D c (countᵖ ps)) (parted-rep (r .1) (r .2) (r .4)))
 
     -- The step, by the instruction.
     pub step-rep : (c : Conf D) (i : Instr) {P : Point} {s : State} (ss : List State) → code (c .pc) ≡ i → Follows points (c .pc) i P

@@ -13,6 +13,7 @@ use lib.IntN.{ℤ}
 use Rattle.rules.specs.Forms.{Matcher, Pattern, Value}
 use Rattle.rules.specs.Reading.{ok}
 use Rattle.rules.specs.Fit.{fits}
+use Rattle.rules.specs.Origins.{target}
 use Rattle.rules.specs.Search.{State, run, start}
 use Rattle.forms.specs.Written.{Widthsᵖ}
 use Rattle.program_rules.specs.Closed.{Closed}
@@ -32,7 +33,7 @@ unfoldable pub fresh : (D : Data) → D .Held → (ℕ → Slot D) → (ℕ → 
 fresh D h slots binds room =
     record { conf = some (record { pc = 0; cur = h; top = 0; slots = slots; binds = binds }); left = room; rows = 0; steps = 0; written = []; full = false }
 
-module _ (D : Data) (m : Matcher) (p : Pattern) (v : Value) (h : D .Held) (is : D .Is m h v) (at₀ : ℕ) (ks : List Matcher) (fit : fits p m at₀ [] ≡ ok ks) (wide : Widthsᵖ p) (closed : Closed p) where
+module _ (D : Data) (m : Matcher) (p : Pattern) (v : Value) (h : D .Held) (is : D .Is m h (target v)) (at₀ : ℕ) (ks : List Matcher) (fit : fits p m at₀ [] ≡ ok ks) (wide : Widthsᵖ p) (closed : Closed p) where
   -- Before the first step it stands for the first state.
   pub fresh-same : (slots : ℕ → Slot D) (binds : ℕ → D .Held) (room : ℕ)
       → Same D (program m p) (pointAt m p) (program-follows m p at₀ ks fit wide closed) (fresh D h slots binds room) (opened (start m p v) room)
@@ -40,7 +41,7 @@ module _ (D : Data) (m : Matcher) (p : Pattern) (v : Value) (h : D .Held) (is : 
   fresh-same slots binds room = running (live {c = record { pc = 0; cur = h; top = 0; slots = slots; binds = binds }} (omega arith) (at is waits-none bound-none) shut)
 
   pub machine-runs : (slots : ℕ → Slot D) (binds : ℕ → D .Held) (budget room : ℕ)
-      → reports D (turns D (program m p) budget (fresh D h slots binds room)) ≡ run budget (start m p v ∷ []) room
+      → reports D (turns D (program m p) budget (fresh D h slots binds room)) ≡ run (D .form) budget (start m p v ∷ []) room
   machine-runs slots binds budget room =
       engine-runs D (program m p) (pointAt m p) (program-follows m p at₀ ks fit wide closed) budget (start m p v) room (fresh D h slots binds room) (fresh-same slots binds room)
 
@@ -50,9 +51,9 @@ unfolding turns
 turns-add D code zero b k = rw (zero-add b)
 turns-add D code (suc a) b k = rw (suc-add a b) (turns-add D code a b (turn D code k))
 
-module _ (D : Data) (m : Matcher) (p : Pattern) (v : Value) (h : D .Held) (is : D .Is m h v) (at₀ : ℕ) (ks : List Matcher) (fit : fits p m at₀ [] ≡ ok ks) (wide : Widthsᵖ p) (closed : Closed p) where
+module _ (D : Data) (m : Matcher) (p : Pattern) (v : Value) (h : D .Held) (is : D .Is m h (target v)) (at₀ : ℕ) (ks : List Matcher) (fit : fits p m at₀ [] ≡ ok ks) (wide : Widthsᵖ p) (closed : Closed p) where
   pub machine-portions : (slots : ℕ → Slot D) (binds : ℕ → D .Held) (a b room : ℕ)
-      → reports D (turns D (program m p) b (turns D (program m p) a (fresh D h slots binds room))) ≡ run (a + b) (start m p v ∷ []) room
+      → reports D (turns D (program m p) b (turns D (program m p) a (fresh D h slots binds room))) ≡ run (D .form) (a + b) (start m p v ∷ []) room
   machine-portions slots binds a b room =
       ap (reports D) (sym (turns-add D (program m p) a b (fresh D h slots binds room))) ∙ machine-runs D m p v h is at₀ ks fit wide closed slots binds (a + b) room
 
