@@ -12,11 +12,11 @@ use lib.Seq.{take-at, length-take-le}
 use Rattle.rules.specs.Forms.{Value}
 use Rattle.rules.specs.Reading.{ok, _then_, readPattern}
 use Rattle.rules.specs.Variables.{variables}
-use Rattle.rules.specs.Equality.{Bindings}
-use Rattle.rules.specs.Search.{row}
+use Rattle.rules.specs.Origins.{Bindings}
+use Rattle.rules.specs.Rows.{asWords, row}
 use Rattle.rules.specs.Following.{Solution}
 use Rattle.forms.specs.Lists.{Mem}
-use Rattle.rules.specs.Services.{accepted, Rule, ruleOf, targetOf, Matched, match}
+use Rattle.rules.specs.Services.{accepted, Rule, ruleOf, targetOf, Matched, matchIn, match}
 use Rattle.forms.specs.Written.{variableTags}
 use Rattle.forms.specs.Faults.{rule-accepted}
 use Rattle.promises.specs.Matching.{ways, rowsOfWays}
@@ -31,10 +31,10 @@ use Rattle.text.specs.Printed.{orZero, variablesOf, firstLine, report}
 abbrev bounds : List Solution → List Bindings
 bounds ss = map (λ (s : Solution). s .bound) ss
 
-written-ways : (ss : List Solution) → written (bounds ss) ≡ rowsOfWays ss
+written-ways : (ss : List Solution) → written (bounds ss) ≡ rowsOfWays asWords ss
 unfolding written rowsOfWays
 written-ways [] = refl
-written-ways (s ∷ ss) = ap (λ (l : List ℤ). row (s .bound) ++ l) (written-ways ss)
+written-ways (s ∷ ss) = ap (λ (l : List ℤ). row asWords (s .bound) ++ l) (written-ways ss)
 
 mem-take : {A : Type 0} (n : ℕ) (xs : List A) {x : A} → Mem x (take n xs) → Mem x xs
 mem-take zero xs m = absurd (List·Memᴰ·not-nil m)
@@ -46,9 +46,9 @@ unfolding Each
 each-of n [] h = tt
 each-of n (s ∷ ss) h = (h s (List·Memᴰ·head refl), each-of n ss (λ t m. h t (List·Memᴰ·tail m)))
 
-map-map : (ss : List Solution) → map row (bounds ss) ≡ map (λ (s : Solution). row (s .bound)) ss
+map-map : (ss : List Solution) → map (row asWords) (bounds ss) ≡ map (λ (s : Solution). row asWords (s .bound)) ss
 map-map [] = refl
-map-map (s ∷ ss) = ap (λ (l : List (List ℤ)). row (s .bound) ∷ l) (map-map ss)
+map-map (s ∷ ss) = ap (λ (l : List (List ℤ)). row asWords (s .bound) ∷ l) (map-map ss)
 
 module _ (ms ps ts : List ℤ) (budget : ℕ) (room : List ℤ) (r : Rule) (v : Value)
     (rule : ruleOf ms ps ≡ accepted r) (target : targetOf (r .matcher) ts ≡ accepted v) where
@@ -62,21 +62,21 @@ module _ (ms ps ts : List ℤ) (budget : ℕ) (room : List ℤ) (r : Rule) (v : 
   unfolding variablesOf orZero _then_
   values-are = rw (rule-accepted ms ps r .0 rule .pattern, variables-counted ms ps r rule .0)
 
-  words-are : take (it .words) (it .room) ≡ rowsOfWays first
+  words-are : take (it .words) (it .room) ≡ rowsOfWays asWords first
   words-are =
-      let h = room-holds ms ps ts budget room r v rule target in
-      ap (take (it .words)) (h .2) ∙ take-at (rowsOfWays first) (drop (it .words) room) (it .words) (sym (h .1))
+      let h = room-holds asWords ms ps ts budget room r v rule target in
+      ap (take (it .words)) (h .2) ∙ take-at (rowsOfWays asWords first) (drop (it .words) room) (it .words) (sym (h .1))
 
   count-is : length (bounds first) ≡ it .rows
   count-is =
-      let h = room-holds ms ps ts budget room r v rule target in
+      let h = room-holds asWords ms ps ts budget room r v rule target in
       length-map first (λ (s : Solution). s .bound) ∙ length-take-le (it .rows) (ways r v) (h .0)
 
   each : Each (variablesOf ps) (bounds first)
   each = each-of (variablesOf ps) first (λ s m.
-      rows-whole ms ps ts budget room r v rule target (s .way) (s .bound) (ways-listed r v .sound s (mem-take (it .rows) (ways r v) m)) ∙ sym values-are)
+      rows-whole asWords ms ps ts budget room r v rule target (s .way) (s .bound) (ways-listed r v .sound s (mem-take (it .rows) (ways r v) m)) ∙ sym values-are)
 
-  pub rows-on-lines : report (variablesOf ps) it ≡ firstLine it ++ lines (map (λ (s : Solution). row (s .bound)) first)
+  pub rows-on-lines : report (variablesOf ps) it ≡ firstLine it ++ lines (map (λ (s : Solution). row asWords (s .bound)) first)
   unfolding report
   rows-on-lines = ap (λ (l : List (List ℤ)). firstLine it ++ lines l) (
       ap₂ (λ (n : ℕ) (l : List ℤ). cutRows (variablesOf ps) n l) (sym count-is) (words-are ∙ sym (written-ways first) ∙ sym (append-nil (written (bounds first))))

@@ -125,6 +125,6 @@ abbrev four : List ℤ
 four = nums (5 ∷ 0 ∷ 5 ∷ 0 ∷ 5 ∷ 0 ∷ 5 ∷ 0 ∷ 0 ∷ [])
 
 pub four-conses-reach : (room : List ℤ) → (match multisetInteger four (words (equals (pos 7) 64)) 77007361 room) .steps ≡ 77007361
-unfolding review ruleOf inRange factor variableTags words equals widest
+unfolding match review ruleOf inRange factor variableTags words equals widest
 four-conses-reach room =
     reached-with-room asWords multisetInteger four _ refl refl (link wild (link wild (link wild (link wild (ends wild))))) 64 refl (pos 7) refl room zero-le .1

@@ -97,7 +97,8 @@ unfolding matchRule ruleOf
 matchIn f ms ps ts budget room = matchRule f budget room ts (ruleOf ms ps)
 
 -- Rows in form 1, as document 01 has them.
-abbrev pub match : (ms ps ts : List ℤ) (budget : ℕ) (room : List ℤ) → Matched
+unfoldable pub match : (ms ps ts : List ℤ) (budget : ℕ) (room : List ℤ) → Matched
+unfolding matchIn
 match ms ps ts budget room = matchIn asWords ms ps ts budget room
 
 -- "20, unknown row form, before 1": with 0 in every further number, and the room as it was.

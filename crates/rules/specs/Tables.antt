@@ -3,7 +3,7 @@ use Prim.Native.Nat.{ℕ, zero, suc, _-_}
 use mathlib.Core.List.{List, [], _∷_, _++_, map}
 use lib.ListN.{length, replicate}
 use lib.IntN.{ℤ, pos, negsuc}
-use Rattle.rules.specs.Services.{Matched, matchIn, match, matchWith, Reviewed, review}
+use Rattle.rules.specs.Services.{Matched, match, matchWith, Reviewed, review}
 
 -- Match: matcher, pattern, target, budget and the room's size, in form 1 or told the form; review: matcher, pattern and cap.
 pub data Question : Type 0 where
@@ -31,7 +31,7 @@ unfoldable pub ofReview : Reviewed → Outcome
 ofReview r = record { numbers = r .answer ∷ r .place ∷ r .count ∷ []; room = [] }
 
 unfoldable pub answered : Question → Outcome
-unfolding matchIn matchWith review ofMatch ofReview held
+unfolding match matchWith review ofMatch ofReview held
 answered (matching m p t b n) = ofMatch (match m p t b (held n))
 answered (matchingWith f m p t b n) = ofMatch (matchWith f m p t b (held n))
 answered (reviewing m p cap) = ofReview (review m p cap)

@@ -9,6 +9,7 @@ use mathlib.Core.List.{List, [], _∷_, _++_}
 use lib.ListN.{length, length-append, take, drop, take-append-drop}
 use lib.Dec.{T, eqb, eqb→eq, eqb-refl}
 use lib.IntN.{ℤ}
+use Rattle.rules.specs.Rows.{asWords}
 use Rattle.rules.specs.Search.{State, Run, stopped, run}
 use Rattle.forms.specs.Tests.{is-true, is-false}
 use Rattle.run_rules.specs.Lent.{Numbers, Held, ended, going, Lent, remaining, holding, allowed, since, writtenAt, told, heldAfter, roomAfter, Advanced, goOn, unlike, advanced}
@@ -56,19 +57,19 @@ module _ (a b size : ℕ) (s : State) (ss : List State) (rows steps words : ℕ)
   free = size - words
 
   abbrev first : Run
-  first = run p (s ∷ ss) free
+  first = run asWords p (s ∷ ss) free
 
   abbrev k : Numbers
   k = since rows steps words first
 
   -- What the run by both portions tells and leaves.
-  both-told : told (a + b) size (going s ss rows steps words) ≡ since rows steps words (run (p + q) (s ∷ ss) free)
+  both-told : told (a + b) size (going s ss rows steps words) ≡ since rows steps words (run asWords (p + q) (s ∷ ss) free)
   unfolding told
-  both-told = ap (λ i. since rows steps words (run i (s ∷ ss) free)) (allowed-add a b steps)
+  both-told = ap (λ i. since rows steps words (run asWords i (s ∷ ss) free)) (allowed-add a b steps)
 
-  both-held : heldAfter (a + b) size (going s ss rows steps words) ≡ holding (since rows steps words (run (p + q) (s ∷ ss) free)) (remaining (p + q) (s ∷ ss) free)
+  both-held : heldAfter (a + b) size (going s ss rows steps words) ≡ holding (since rows steps words (run asWords (p + q) (s ∷ ss) free)) (remaining (p + q) (s ∷ ss) free)
   unfolding heldAfter told
-  both-held = ap (λ i. holding (since rows steps words (run i (s ∷ ss) free)) (remaining i (s ∷ ss) free)) (allowed-add a b steps)
+  both-held = ap (λ i. holding (since rows steps words (run asWords i (s ∷ ss) free)) (remaining i (s ∷ ss) free)) (allowed-add a b steps)
 
   -- After the first portion it has ended, or goes on.
   pub over-held : remaining p (s ∷ ss) free ≡ [] → heldAfter a size (going s ss rows steps words) ≡ ended k
@@ -91,17 +92,17 @@ module _ (a b size : ℕ) (s : State) (ss : List State) (rows steps words : ℕ)
   unfolding heldAfter told holding
   two-held (over e n f r) = ap (heldAfter b size) (over-held e) ∙ sym (both-held ∙ ap₂ holding (ap (since rows steps words) r) f)
   two-held (further t ts e n i f r) = ap (heldAfter b size) (further-held t ts e)
-      ∙ ap₂ (λ x y. holding (since (rows + first .rows) (steps + first .steps) (words + length (first .written)) (run x (t ∷ ts) y)) (remaining x (t ∷ ts) y))
+      ∙ ap₂ (λ x y. holding (since (rows + first .rows) (steps + first .steps) (words + length (first .written)) (run asWords x (t ∷ ts) y)) (remaining x (t ∷ ts) y))
       (second-steps i) second-free
-      ∙ ap (λ x. holding x (remaining q (t ∷ ts) (free - length (first .written)))) (since-behind rows steps words first (run q (t ∷ ts) (free - length (first .written))))
+      ∙ ap (λ x. holding x (remaining q (t ∷ ts) (free - length (first .written)))) (since-behind rows steps words first (run asWords q (t ∷ ts) (free - length (first .written))))
       ∙ sym (both-held ∙ ap₂ holding (ap (since rows steps words) r) f)
 
   two-told : Split p q (s ∷ ss) free → told b size (heldAfter a size (going s ss rows steps words)) ≡ told (a + b) size (going s ss rows steps words)
   unfolding told
   two-told (over e n f r) = ap (told b size) (over-held e) ∙ sym (both-told ∙ ap (since rows steps words) r)
   two-told (further t ts e n i f r) = ap (told b size) (further-held t ts e)
-      ∙ ap₂ (λ x y. since (rows + first .rows) (steps + first .steps) (words + length (first .written)) (run x (t ∷ ts) y)) (second-steps i) second-free
-      ∙ since-behind rows steps words first (run q (t ∷ ts) (free - length (first .written)))
+      ∙ ap₂ (λ x y. since (rows + first .rows) (steps + first .steps) (words + length (first .written)) (run asWords x (t ∷ ts) y)) (second-steps i) second-free
+      ∙ since-behind rows steps words first (run asWords q (t ∷ ts) (free - length (first .written)))
       ∙ sym (both-told ∙ ap (since rows steps words) r)
 
 pub held-add : (a b size : ℕ) (h : Held) → heldAfter b size (heldAfter a size h) ≡ heldAfter (a + b) size h
@@ -130,7 +131,7 @@ pub held-zero : (size : ℕ) (h : Held) → heldAfter 0 size h ≡ h
 unfolding heldAfter told holding since run remaining stopped
 held-zero size (ended k) = refl
 held-zero size (going s ss rows steps words) =
-    ap (λ i. holding (since rows steps words (run i (s ∷ ss) (size - words))) (remaining i (s ∷ ss) (size - words))) (no-steps steps)
+    ap (λ i. holding (since rows steps words (run asWords i (s ∷ ss) (size - words))) (remaining i (s ∷ ss) (size - words))) (no-steps steps)
     ∙ go (add-zero rows) (add-zero steps) (add-zero words)
   where
     go : {x y z : ℕ} → x ≡ rows → y ≡ steps → z ≡ words → going s ss x y z ≡ going s ss rows steps words
@@ -140,7 +141,7 @@ pub room-zero : (size : ℕ) (h : Held) (room : List ℤ) → roomAfter 0 size h
 unfolding roomAfter run stopped
 room-zero size (ended k) room = refl
 room-zero size (going s ss rows steps words) room =
-    ap (λ i. writtenAt words ((run i (s ∷ ss) (size - words)) .written) room) (no-steps steps) ∙ none-written words room
+    ap (λ i. writtenAt words ((run asWords i (s ∷ ss) (size - words)) .written) room) (no-steps steps) ∙ none-written words room
 
 -- ---- An ended run.
 

@@ -6,7 +6,8 @@ use lib.ListN.{length, take, drop}
 use lib.Dec.{leb, eqb}
 use lib.IntN.{ℤ}
 use Rattle.rules.specs.Forms.{Value}
-use Rattle.rules.specs.Search.{atom, endOfNot, State, state, after, leaveNot, start, row, Run, run}
+use Rattle.rules.specs.Rows.{asWords, row}
+use Rattle.rules.specs.Search.{atom, endOfNot, State, state, after, leaveNot, start, Run, run}
 use Rattle.rules.specs.Services.{Rule, Judged, accepted, refused, ruleOf, targetOf, causeIn}
 
 -- "The portions' sum, cut at 4,294,967,295."
@@ -83,7 +84,7 @@ unfoldable pub remaining : (budget : ℕ) → List State → (free : ℕ) → Li
 unfolding row after leaveNot
 remaining zero ss free = ss
 remaining (suc n) [] free = []
-remaining (suc n) (state g [] e ∷ ss) free = elim (leb (length (row e)) free) [ true ↦ remaining n ss (free - length (row e)) | false ↦ [] ]
+remaining (suc n) (state g [] e ∷ ss) free = elim (leb (length (row asWords e)) free) [ true ↦ remaining n ss (free - length (row asWords e)) | false ↦ [] ]
 remaining (suc n) (state g (endOfNot ∷ older) e ∷ ss) free = remaining n (leaveNot ss) free
 remaining (suc n) (state g (atom p m v ∷ older) e ∷ ss) free = remaining n (after p m v older e ++ ss) free
 
@@ -110,7 +111,7 @@ writtenAt at new room = take at room ++ (new ++ drop (at + length new) room)
 unfoldable pub told : (portion size : ℕ) → Held → Numbers
 unfolding run allowed since
 told n size (ended k) = k
-told n size (going s ss rows steps words) = since rows steps words (run (allowed n steps) (s ∷ ss) (size - words))
+told n size (going s ss rows steps words) = since rows steps words (run asWords (allowed n steps) (s ∷ ss) (size - words))
 
 unfoldable pub heldAfter : (portion size : ℕ) → Held → Held
 unfolding allowed remaining holding told
@@ -121,7 +122,7 @@ heldAfter n size (going s ss rows steps words) =
 unfoldable pub roomAfter : (portion size : ℕ) → Held → (room : List ℤ) → List ℤ
 unfolding run allowed writtenAt
 roomAfter n size (ended k) room = room
-roomAfter n size (going s ss rows steps words) room = writtenAt words ((run (allowed n steps) (s ∷ ss) (size - words)) .written) room
+roomAfter n size (going s ss rows steps words) room = writtenAt words ((run asWords (allowed n steps) (s ∷ ss) (size - words)) .written) room
 
 -- What a call gives: the numbers, what the room then holds, and the run.
 pub record Advanced : Type 0 where

@@ -11,8 +11,9 @@ use lib.Seq.{take-append-seam, drop-append-seam, drop-append-add, drop-drop}
 use lib.Dec.{leb}
 use lib.IntN.{ℤ}
 use Rattle.rules.specs.Forms.{Value}
-use Rattle.rules.specs.Search.{atom, endOfNot, State, state, after, leaveNot, start, row, Run, stopped, rowStep, run}
-use Rattle.rules.specs.Services.{Rule, Judged, accepted, refused, ruleOf, targetOf, Matched, carriedOut, causeIn, match, matchRule, matchTarget}
+use Rattle.rules.specs.Rows.{asWords, row}
+use Rattle.rules.specs.Search.{atom, endOfNot, State, state, after, leaveNot, start, Run, stopped, rowStep, run}
+use Rattle.rules.specs.Services.{Rule, Judged, accepted, refused, ruleOf, targetOf, Matched, carriedOut, causeIn, matchIn, match, matchRule, matchTarget}
 use Rattle.rules.specs.Services
 use Rattle.forms.specs.Faults.{Fault, Sane, rule-accepted, target-accepted, refused-exactly, Judgement, match-turned, match-judged, turned, ran}
 use Rattle.run_rules.specs.Lent.{cut, Numbers, Held, ended, going, Lent, Opened, turnedAway, begun, openTarget, openRule, opened, allowed}
@@ -38,20 +39,20 @@ matchedBy a = matched (a .numbers) (a .room)
 pub data Beside (size : ℕ) (o : Opened) (m : ℕ → List ℤ → Matched) : Type 0 where
   away : (a i c : ℕ) → o ≡ turnedAway size a i c → ((budget : ℕ) (room : List ℤ) → m budget room ≡ Services.turnedAway a i c room) → Beside size o m
   fresh : (r : Rule) (v : Value) → o ≡ begun size r v
-      → ((budget : ℕ) (room : List ℤ) → m budget room ≡ carriedOut (run budget (start (r .matcher) (r .pattern) v ∷ []) (length room)) room) → Beside size o m
+      → ((budget : ℕ) (room : List ℤ) → m budget room ≡ carriedOut (run asWords budget (start (r .matcher) (r .pattern) v ∷ []) (length room)) room) → Beside size o m
 
-beside-target : (size : ℕ) (ts : List ℤ) (r : Rule) (x : Judged Value) → Beside size (openTarget size ts r x) (λ budget room. matchTarget budget room ts r x)
+beside-target : (size : ℕ) (ts : List ℤ) (r : Rule) (x : Judged Value) → Beside size (openTarget size ts r x) (λ budget room. matchTarget asWords budget room ts r x)
 unfolding openTarget matchTarget
 beside-target size ts r (refused a i) = away a i (causeIn a ts) refl (λ budget room. refl)
 beside-target size ts r (accepted v) = fresh r v refl (λ budget room. refl)
 
-beside-rule : (size : ℕ) (ts : List ℤ) (x : Judged Rule) → Beside size (openRule size ts x) (λ budget room. matchRule budget room ts x)
+beside-rule : (size : ℕ) (ts : List ℤ) (x : Judged Rule) → Beside size (openRule size ts x) (λ budget room. matchRule asWords budget room ts x)
 unfolding openRule matchRule
 beside-rule size ts (refused a i) = away a i 0 refl (λ budget room. refl)
 beside-rule size ts (accepted r) = beside-target size ts r (targetOf (r .matcher) ts)
 
 pub beside : (ms ps ts : List ℤ) (size : ℕ) → Beside size (opened ms ps ts size) (match ms ps ts)
-unfolding opened match
+unfolding opened match matchIn
 beside ms ps ts size = beside-rule size ts (ruleOf ms ps)
 
 -- ---- What is written in the room.
@@ -77,7 +78,7 @@ module _ (size : ℕ) (s : State) where
   -- What a run from the beginning writes with a sum of portions.
   unfoldable wordsBy : ℕ → List ℤ
   unfolding allowed run
-  wordsBy n = (run (allowed n 0) (s ∷ []) (size - 0)) .written
+  wordsBy n = (run asWords (allowed n 0) (s ∷ []) (size - 0)) .written
 
   -- A further portion adds some words, and writes these.
   record Adds (a b : ℕ) : Type 0 where
@@ -85,9 +86,9 @@ module _ (size : ℕ) (s : State) where
     is : wordsBy (a + b) ≡ wordsBy a ++ new
     leaves : (room : List ℤ) → roomAfter b size (heldAfter a size begin) room ≡ writtenAt (length (wordsBy a)) new room
 
-  both-words : (a b : ℕ) → wordsBy (a + b) ≡ (run (allowed a 0 + allowed b (0 + allowed a 0)) (s ∷ []) (size - 0)) .written
+  both-words : (a b : ℕ) → wordsBy (a + b) ≡ (run asWords (allowed a 0 + allowed b (0 + allowed a 0)) (s ∷ []) (size - 0)) .written
   unfolding wordsBy
-  both-words a b = ap (λ i. (run i (s ∷ []) (size - 0)) .written) (allowed-add a b 0)
+  both-words a b = ap (λ i. (run asWords i (s ∷ []) (size - 0)) .written) (allowed-add a b 0)
 
   adds-by : (a b : ℕ) → Split (allowed a 0) (allowed b (0 + allowed a 0)) (s ∷ []) (size - 0) → Adds a b
   unfolding wordsBy roomAfter behind
@@ -97,11 +98,11 @@ module _ (size : ℕ) (s : State) where
     leaves = λ room. ap (λ h. roomAfter b size h room) (over-held a b size s [] 0 0 0 e) ∙ sym (none-written (length (wordsBy a)) room);
   }
   adds-by a b (further t ts e n i f r) = record {
-    new = (run (allowed b (0 + allowed a 0)) (t ∷ ts) (size - 0 - length (wordsBy a))) .written;
+    new = (run asWords (allowed b (0 + allowed a 0)) (t ∷ ts) (size - 0 - length (wordsBy a))) .written;
     is = both-words a b ∙ ap (λ (x : Run). x .written) r;
     leaves = λ room. ap (λ h. roomAfter b size h room) (further-held a b size s [] 0 0 0 t ts e)
-        ∙ ap₂ (λ x y. writtenAt (0 + length (wordsBy a)) ((run x (t ∷ ts) y) .written) room) (second-steps a b size s [] 0 0 0 i) (second-free a b size s [] 0 0 0)
-        ∙ ap (λ x. writtenAt x ((run (allowed b (0 + allowed a 0)) (t ∷ ts) (size - 0 - length (wordsBy a))) .written) room) (zero-add (length (wordsBy a)));
+        ∙ ap₂ (λ x y. writtenAt (0 + length (wordsBy a)) ((run asWords x (t ∷ ts) y) .written) room) (second-steps a b size s [] 0 0 0 i) (second-free a b size s [] 0 0 0)
+        ∙ ap (λ x. writtenAt x ((run asWords (allowed b (0 + allowed a 0)) (t ∷ ts) (size - 0 - length (wordsBy a))) .written) room) (zero-add (length (wordsBy a)));
   }
 
   adds : (a b : ℕ) → Adds a b
@@ -166,23 +167,23 @@ portioned-away size k n (m ∷ ns) room e =
 
 -- From the beginning with one portion.
 fresh-run : (n size : ℕ) (s : State) (room : List ℤ) → length room ≡ size
-    → run (allowed n 0) (s ∷ []) (size - 0) ≡ run (cut n) (s ∷ []) (length room)
+    → run asWords (allowed n 0) (s ∷ []) (size - 0) ≡ run asWords (cut n) (s ∷ []) (length room)
 unfolding allowed cut
-fresh-run n size s room e = ap (λ i. run (cut n) (s ∷ []) i) (sub-zero size ∙ sym e)
+fresh-run n size s room e = ap (λ i. run asWords (cut n) (s ∷ []) i) (sub-zero size ∙ sym e)
 
 fresh-told : (n size : ℕ) (s : State) (room : List ℤ) → length room ≡ size
-    → told n size (going s [] 0 0 0) ≡ numbersOf (carriedOut (run (cut n) (s ∷ []) (length room)) room)
+    → told n size (going s [] 0 0 0) ≡ numbersOf (carriedOut (run asWords (cut n) (s ∷ []) (length room)) room)
 unfolding told since numbersOf carriedOut
 fresh-told n size s room e = ap (since 0 0 0) (fresh-run n size s room e)
-    ∙ same-numbers ((run (cut n) (s ∷ []) (length room)) .answer) (zero-add _) (zero-add _) (zero-add _)
+    ∙ same-numbers ((run asWords (cut n) (s ∷ []) (length room)) .answer) (zero-add _) (zero-add _) (zero-add _)
 
 fresh-room : (n size : ℕ) (s : State) (room : List ℤ) → length room ≡ size
-    → roomBy size s n room ≡ carriedOut (run (cut n) (s ∷ []) (length room)) room .room
+    → roomBy size s n room ≡ carriedOut (run asWords (cut n) (s ∷ []) (length room)) room .room
 unfolding roomBy wordsBy carriedOut
 fresh-room n size s room e = ap (λ (r : Run). r .written ++ drop (length (r .written)) room) (fresh-run n size s room e)
 
 fresh-words : (n size : ℕ) (s : State) (room : List ℤ) → length room ≡ size
-    → length (wordsBy size s n) ≡ carriedOut (run (cut n) (s ∷ []) (length room)) room .words
+    → length (wordsBy size s n) ≡ carriedOut (run asWords (cut n) (s ∷ []) (length room)) room .words
 unfolding wordsBy carriedOut
 fresh-words n size s room e = ap (λ (r : Run). length (r .written)) (fresh-run n size s room e)
 
@@ -308,14 +309,14 @@ module _ (ms ps ts : List ℤ) (size : ℕ) where
 
   -- "The checks 1 to 6."
   pub opening-refused : (a i : ℕ) → Fault ms ps ts a i → opened ms ps ts size ≡ turnedAway size a i (causeIn a ts)
-  unfolding Services.turnedAway carriedOut run stopped
+  unfolding match Services.turnedAway carriedOut run stopped
   opening-refused a i w = go (beside ms ps ts size)
     where
       q : match ms ps ts 0 [] ≡ Services.turnedAway a i (causeIn a ts) []
-      q = match-turned ms ps ts 0 [] a i w
+      q = match-turned asWords ms ps ts 0 [] a i w
 
       six : a ≤ 6
-      six = refused-exactly ms ps ts 0 [] a i .0 w .1
+      six = refused-exactly asWords ms ps ts 0 [] a i .0 w .1
 
       clash : 7 ≡ a → ⊥
       clash h = let k = six in omega arith
@@ -334,25 +335,25 @@ module _ (ms ps ts : List ℤ) (size : ℕ) where
 
 -- ---- 19 is no answer of a match.
 
-run-most : (n : ℕ) (ss : List State) (free : ℕ) → (run n ss free) .answer ≤ 8
+run-most : (n : ℕ) (ss : List State) (free : ℕ) → (run asWords n ss free) .answer ≤ 8
 unfolding run
 run-most zero [] free = omega arith
 run-most zero (s ∷ ss) free = omega arith
 run-most (suc n) [] free = omega arith
-run-most (suc n) (state g [] e ∷ ss) free = go (leb (length (row e)) free) (run-most n ss (free - length (row e)))
+run-most (suc n) (state g [] e ∷ ss) free = go (leb (length (row asWords e)) free) (run-most n ss (free - length (row asWords e)))
   where
-    go : (b : Bool) → (run n ss (free - length (row e))) .answer ≤ 8
-        → (elim b as (λ _. Run) [ true ↦ rowStep (row e) (run n ss (free - length (row e))) | false ↦ stopped 8 1 ]) .answer ≤ 8
+    go : (b : Bool) → (run asWords n ss (free - length (row asWords e))) .answer ≤ 8
+        → (elim b as (λ _. Run) [ true ↦ rowStep (row asWords e) (run asWords n ss (free - length (row asWords e))) | false ↦ stopped 8 1 ]) .answer ≤ 8
     go true h = h
     go false h = omega arith
 run-most (suc n) (state g (endOfNot ∷ older) e ∷ ss) free = run-most n (leaveNot ss) free
 run-most (suc n) (state g (atom p m v ∷ older) e ∷ ss) free = run-most n (after p m v older e ++ ss) free
 
 pub match-most : (ms ps ts : List ℤ) (budget : ℕ) (room : List ℤ) → (match ms ps ts budget room) .answer ≤ 8
-unfolding Services.turnedAway carriedOut
-match-most ms ps ts budget room = go (match-judged ms ps ts budget room)
+unfolding match Services.turnedAway carriedOut
+match-most ms ps ts budget room = go (match-judged asWords ms ps ts budget room)
   where
-    go : Judgement ms ps ts budget room (match ms ps ts budget room) → (match ms ps ts budget room) .answer ≤ 8
-    go (turned a i f q) = let k = refused-exactly ms ps ts budget room a i .0 f .1 in let e = ap (λ (m : Matched). m .answer) q in omega arith
+    go : Judgement asWords ms ps ts budget room (match ms ps ts budget room) → (match ms ps ts budget room) .answer ≤ 8
+    go (turned a i f q) = let k = refused-exactly asWords ms ps ts budget room a i .0 f .1 in let e = ap (λ (m : Matched). m .answer) q in omega arith
     go (ran r v s q) =
         let k = run-most budget (start (r .matcher) (r .pattern) v ∷ []) (length room) in let e = ap (λ (m : Matched). m .answer) q in omega arith

@@ -8,7 +8,8 @@ use mathlib.Core.List.{List, [], _∷_, _++_, append-assoc}
 use lib.ListN.{length, length-append}
 use lib.Dec.{T, leb, leb→le}
 use lib.IntN.{ℤ}
-use Rattle.rules.specs.Search.{atom, endOfNot, State, state, after, leaveNot, row, Run, stopped, step, rowStep, run}
+use Rattle.rules.specs.Rows.{asWords, row}
+use Rattle.rules.specs.Search.{atom, endOfNot, State, state, after, leaveNot, Run, stopped, step, rowStep, run}
 use Rattle.run_rules.specs.Lent.{remaining}
 
 -- A run after what another has done.
@@ -17,11 +18,11 @@ behind a b = record { answer = b .answer; rows = a .rows + b .rows; steps = a .s
 
 pub data Split (p q : ℕ) (ss : List State) (free : ℕ) : Type 0 where
   -- After p steps it has ended.
-  over : remaining p ss free ≡ [] → ((run p ss free) .answer ≡ 7 → ⊥) → remaining (p + q) ss free ≡ [] → run (p + q) ss free ≡ run p ss free → Split p q ss free
+  over : remaining p ss free ≡ [] → ((run asWords p ss free) .answer ≡ 7 → ⊥) → remaining (p + q) ss free ≡ [] → run asWords (p + q) ss free ≡ run asWords p ss free → Split p q ss free
   -- It has taken p steps, and states remain.
-  further : (s : State) (others : List State) → remaining p ss free ≡ s ∷ others → (run p ss free) .answer ≡ 7 → (run p ss free) .steps ≡ p
-      → remaining (p + q) ss free ≡ remaining q (s ∷ others) (free - length ((run p ss free) .written))
-      → run (p + q) ss free ≡ behind (run p ss free) (run q (s ∷ others) (free - length ((run p ss free) .written))) → Split p q ss free
+  further : (s : State) (others : List State) → remaining p ss free ≡ s ∷ others → (run asWords p ss free) .answer ≡ 7 → (run asWords p ss free) .steps ≡ p
+      → remaining (p + q) ss free ≡ remaining q (s ∷ others) (free - length ((run asWords p ss free) .written))
+      → run asWords (p + q) ss free ≡ behind (run asWords p ss free) (run asWords q (s ∷ others) (free - length ((run asWords p ss free) .written))) → Split p q ss free
 
 same-run : (a : ℕ) {x x′ y y′ : ℕ} {w w′ : List ℤ} → x ≡ x′ → y ≡ y′ → w ≡ w′
     → _≡_ {A = Run} (record { answer = a; rows = x; steps = y; written = w }) (record { answer = a; rows = x′; steps = y′; written = w′ })
@@ -29,7 +30,7 @@ same-run a p q r i = record { answer = a; rows = p i; steps = q i; written = r i
 
 -- ---- One step before what comes; one step and one row before it.
 
-module _ (p q : ℕ) (ss next : List State) (free : ℕ) (runs : (n : ℕ) → run (suc n) ss free ≡ step (run n next free))
+module _ (p q : ℕ) (ss next : List State) (free : ℕ) (runs : (n : ℕ) → run asWords (suc n) ss free ≡ step (run asWords n next free))
     (waits : (n : ℕ) → remaining (suc n) ss free ≡ remaining n next free) where
   behind-step : (a b : Run) → step (behind a b) ≡ behind (step a) b
   unfolding step behind
@@ -39,16 +40,16 @@ module _ (p q : ℕ) (ss next : List State) (free : ℕ) (runs : (n : ℕ) → r
   unfolding step
   on-step (over e n f r) = over (waits p ∙ e) (λ a. n (sym (ap (λ (x : Run). x .answer) (runs p)) ∙ a))
       (ap (λ i. remaining i ss free) (suc-add p q) ∙ waits (p + q) ∙ f)
-      (ap (λ i. run i ss free) (suc-add p q) ∙ runs (p + q) ∙ ap step r ∙ sym (runs p))
+      (ap (λ i. run asWords i ss free) (suc-add p q) ∙ runs (p + q) ∙ ap step r ∙ sym (runs p))
   on-step (further s others e a k f r) =
-      let w : (run (suc p) ss free) .written ≡ (run p next free) .written = ap (λ (x : Run). x .written) (runs p) in
+      let w : (run asWords (suc p) ss free) .written ≡ (run asWords p next free) .written = ap (λ (x : Run). x .written) (runs p) in
       further s others (waits p ∙ e) (ap (λ (x : Run). x .answer) (runs p) ∙ a) (ap (λ (x : Run). x .steps) (runs p) ∙ ap suc k)
       (ap (λ i. remaining i ss free) (suc-add p q) ∙ waits (p + q) ∙ f ∙ ap (λ (l : List ℤ). remaining q (s ∷ others) (free - length l)) (sym w))
-      (ap (λ i. run i ss free) (suc-add p q) ∙ runs (p + q) ∙ ap step r ∙ behind-step (run p next free) _
-      ∙ ap (λ x. behind x (run q (s ∷ others) (free - length ((run p next free) .written)))) (sym (runs p))
-      ∙ ap (λ (l : List ℤ). behind (run (suc p) ss free) (run q (s ∷ others) (free - length l))) (sym w))
+      (ap (λ i. run asWords i ss free) (suc-add p q) ∙ runs (p + q) ∙ ap step r ∙ behind-step (run asWords p next free) _
+      ∙ ap (λ x. behind x (run asWords q (s ∷ others) (free - length ((run asWords p next free) .written)))) (sym (runs p))
+      ∙ ap (λ (l : List ℤ). behind (run asWords (suc p) ss free) (run asWords q (s ∷ others) (free - length l))) (sym w))
 
-module _ (p q : ℕ) (ss next : List State) (free : ℕ) (ws : List ℤ) (runs : (n : ℕ) → run (suc n) ss free ≡ rowStep ws (run n next (free - length ws)))
+module _ (p q : ℕ) (ss next : List State) (free : ℕ) (ws : List ℤ) (runs : (n : ℕ) → run asWords (suc n) ss free ≡ rowStep ws (run asWords n next (free - length ws)))
     (waits : (n : ℕ) → remaining (suc n) ss free ≡ remaining n next (free - length ws)) where
   behind-row : (a b : Run) → rowStep ws (behind a b) ≡ behind (rowStep ws a) b
   unfolding rowStep behind
@@ -61,20 +62,20 @@ module _ (p q : ℕ) (ss next : List State) (free : ℕ) (ws : List ℤ) (runs :
   unfolding rowStep
   on-row (over e n f r) = over (waits p ∙ e) (λ a. n (sym (ap (λ (x : Run). x .answer) (runs p)) ∙ a))
       (ap (λ i. remaining i ss free) (suc-add p q) ∙ waits (p + q) ∙ f)
-      (ap (λ i. run i ss free) (suc-add p q) ∙ runs (p + q) ∙ ap (rowStep ws) r ∙ sym (runs p))
+      (ap (λ i. run asWords i ss free) (suc-add p q) ∙ runs (p + q) ∙ ap (rowStep ws) r ∙ sym (runs p))
   on-row (further s others e a k f r) =
-      let w : (run (suc p) ss free) .written ≡ ws ++ (run p next (free - length ws)) .written = ap (λ (x : Run). x .written) (runs p) in
-      let z : free - length ws - length ((run p next (free - length ws)) .written) ≡ free - length ((run (suc p) ss free) .written) =
-      left-over ((run p next (free - length ws)) .written) ∙ ap (λ (l : List ℤ). free - length l) (sym w) in
+      let w : (run asWords (suc p) ss free) .written ≡ ws ++ (run asWords p next (free - length ws)) .written = ap (λ (x : Run). x .written) (runs p) in
+      let z : free - length ws - length ((run asWords p next (free - length ws)) .written) ≡ free - length ((run asWords (suc p) ss free) .written) =
+      left-over ((run asWords p next (free - length ws)) .written) ∙ ap (λ (l : List ℤ). free - length l) (sym w) in
       further s others (waits p ∙ e) (ap (λ (x : Run). x .answer) (runs p) ∙ a) (ap (λ (x : Run). x .steps) (runs p) ∙ ap suc k)
       (ap (λ i. remaining i ss free) (suc-add p q) ∙ waits (p + q) ∙ f ∙ ap (λ i. remaining q (s ∷ others) i) z)
-      (ap (λ i. run i ss free) (suc-add p q) ∙ runs (p + q) ∙ ap (rowStep ws) r ∙ behind-row (run p next (free - length ws)) _
-      ∙ ap (λ x. behind x (run q (s ∷ others) (free - length ws - length ((run p next (free - length ws)) .written)))) (sym (runs p))
-      ∙ ap (λ i. behind (run (suc p) ss free) (run q (s ∷ others) i)) z)
+      (ap (λ i. run asWords i ss free) (suc-add p q) ∙ runs (p + q) ∙ ap (rowStep ws) r ∙ behind-row (run asWords p next (free - length ws)) _
+      ∙ ap (λ x. behind x (run asWords q (s ∷ others) (free - length ws - length ((run asWords p next (free - length ws)) .written)))) (sym (runs p))
+      ∙ ap (λ i. behind (run asWords (suc p) ss free) (run asWords q (s ∷ others) i)) z)
 
 -- ---- No step.
 
-none-run : (n free : ℕ) → run n [] free ≡ stopped 0 0
+none-run : (n free : ℕ) → run asWords n [] free ≡ stopped 0 0
 unfolding run
 none-run zero free = refl
 none-run (suc n) free = refl
@@ -96,8 +97,8 @@ first-split : (q : ℕ) (s : State) (ss : List State) (free : ℕ) → Split 0 q
 unfolding run remaining stopped behind
 first-split q s ss free = further s ss refl refl refl
     (ap (λ i. remaining i (s ∷ ss) free) (zero-add q) ∙ ap (λ i. remaining q (s ∷ ss) i) (sym (sub-zero free)))
-    (ap (λ i. run i (s ∷ ss) free) (zero-add q) ∙ ap (λ i. run q (s ∷ ss) i) (sym (sub-zero free))
-    ∙ same-run ((run q (s ∷ ss) (free - 0)) .answer) (sym (zero-add _)) (sym (zero-add _)) refl)
+    (ap (λ i. run asWords i (s ∷ ss) free) (zero-add q) ∙ ap (λ i. run asWords q (s ∷ ss) i) (sym (sub-zero free))
+    ∙ same-run ((run asWords q (s ∷ ss) (free - 0)) .answer) (sym (zero-add _)) (sym (zero-add _)) refl)
 
 -- ---- Every run is so divided.
 
@@ -106,20 +107,20 @@ unfolding run remaining
 split zero q [] free = none-split 0 q free
 split zero q (s ∷ ss) free = first-split q s ss free
 split (suc p) q [] free = none-split (suc p) q free
-split (suc p) q (state g [] e ∷ ss) free = go (leb (length (row e)) free) refl (split p q ss (free - length (row e)))
+split (suc p) q (state g [] e ∷ ss) free = go (leb (length (row asWords e)) free) refl (split p q ss (free - length (row asWords e)))
   where
-    go : (b : Bool) → leb (length (row e)) free ≡ b → Split p q ss (free - length (row e)) → Split (suc p) q (state g [] e ∷ ss) free
-    go true t h = on-row p q (state g [] e ∷ ss) ss free (row e)
-        (λ n. ap (λ b. elim b as (λ _. Run) [ true ↦ rowStep (row e) (run n ss (free - length (row e))) | false ↦ stopped 8 1 ]) t)
-        (λ n. ap (λ b. elim b as (λ _. List State) [ true ↦ remaining n ss (free - length (row e)) | false ↦ [] ]) t) h
+    go : (b : Bool) → leb (length (row asWords e)) free ≡ b → Split p q ss (free - length (row asWords e)) → Split (suc p) q (state g [] e ∷ ss) free
+    go true t h = on-row p q (state g [] e ∷ ss) ss free (row asWords e)
+        (λ n. ap (λ b. elim b as (λ _. Run) [ true ↦ rowStep (row asWords e) (run asWords n ss (free - length (row asWords e))) | false ↦ stopped 8 1 ]) t)
+        (λ n. ap (λ b. elim b as (λ _. List State) [ true ↦ remaining n ss (free - length (row asWords e)) | false ↦ [] ]) t) h
     go false t h = over (none p) (λ a. clash (sym (ap (λ (x : Run). x .answer) (full p)) ∙ a))
-        (ap (λ i. remaining i (state g [] e ∷ ss) free) (suc-add p q) ∙ none (p + q)) (ap (λ i. run i (state g [] e ∷ ss) free) (suc-add p q) ∙ full (p + q) ∙ sym (full p))
+        (ap (λ i. remaining i (state g [] e ∷ ss) free) (suc-add p q) ∙ none (p + q)) (ap (λ i. run asWords i (state g [] e ∷ ss) free) (suc-add p q) ∙ full (p + q) ∙ sym (full p))
       where
-        full : (n : ℕ) → run (suc n) (state g [] e ∷ ss) free ≡ stopped 8 1
-        full n = ap (λ b. elim b as (λ _. Run) [ true ↦ rowStep (row e) (run n ss (free - length (row e))) | false ↦ stopped 8 1 ]) t
+        full : (n : ℕ) → run asWords (suc n) (state g [] e ∷ ss) free ≡ stopped 8 1
+        full n = ap (λ b. elim b as (λ _. Run) [ true ↦ rowStep (row asWords e) (run asWords n ss (free - length (row asWords e))) | false ↦ stopped 8 1 ]) t
 
         none : (n : ℕ) → remaining (suc n) (state g [] e ∷ ss) free ≡ []
-        none n = ap (λ b. elim b as (λ _. List State) [ true ↦ remaining n ss (free - length (row e)) | false ↦ [] ]) t
+        none n = ap (λ b. elim b as (λ _. List State) [ true ↦ remaining n ss (free - length (row asWords e)) | false ↦ [] ]) t
 
         clash : _≡_ {A = ℕ} 8 7 → ⊥
         clash h = omega arith
@@ -130,17 +131,17 @@ split (suc p) q (state g (atom x m v ∷ older) e ∷ ss) free =
 
 -- ---- What is written has its place in the room.
 
-pub written-fits : (n : ℕ) (ss : List State) (free : ℕ) → length ((run n ss free) .written) ≤ free
+pub written-fits : (n : ℕ) (ss : List State) (free : ℕ) → length ((run asWords n ss free) .written) ≤ free
 unfolding run
 written-fits zero [] free = zero-le
 written-fits zero (s ∷ ss) free = zero-le
 written-fits (suc n) [] free = zero-le
 written-fits (suc n) (state g [] e ∷ ss) free =
-    go (leb (length (row e)) free) (leb→le (length (row e)) free) (written-fits n ss (free - length (row e)))
+    go (leb (length (row asWords e)) free) (leb→le (length (row asWords e)) free) (written-fits n ss (free - length (row asWords e)))
   where
-    go : (b : Bool) → (T b → length (row e) ≤ free) → length ((run n ss (free - length (row e))) .written) ≤ free - length (row e)
-        → length ((elim b as (λ _. Run) [ true ↦ rowStep (row e) (run n ss (free - length (row e))) | false ↦ stopped 8 1 ]) .written) ≤ free
-    go true f h = let k = f tt in omega (arith, length-append (row e) ((run n ss (free - length (row e))) .written))
+    go : (b : Bool) → (T b → length (row asWords e) ≤ free) → length ((run asWords n ss (free - length (row asWords e))) .written) ≤ free - length (row asWords e)
+        → length ((elim b as (λ _. Run) [ true ↦ rowStep (row asWords e) (run asWords n ss (free - length (row asWords e))) | false ↦ stopped 8 1 ]) .written) ≤ free
+    go true f h = let k = f tt in omega (arith, length-append (row asWords e) ((run asWords n ss (free - length (row asWords e))) .written))
     go false f h = zero-le
 written-fits (suc n) (state g (endOfNot ∷ older) e ∷ ss) free = written-fits n (leaveNot ss) free
 written-fits (suc n) (state g (atom p m v ∷ older) e ∷ ss) free = written-fits n (after p m v older e ++ ss) free

@@ -10,6 +10,7 @@ use lib.ListN.{length, getD}
 use lib.IntN.{ℤ}
 use Rattle.rules.specs.Forms.{Value}
 use Rattle.rules.specs.Services.{Rule, Matched, match}
+use Rattle.rules.specs.Rows.{asWords}
 use Rattle.forms.specs.ReadPattern.{pattern-read}
 use Rattle.forms.specs.Faults.{Sane, match-ran}
 use Rattle.words.specs.Words.{entries}
@@ -59,5 +60,6 @@ module _ (ms ts : List ℤ) (r : Rule) (n : ℕ) (op from to arg mat : List ℕ)
 
   pub accepted-match : (ps : List ℤ) (v : Value) → Sane ms ps ts r v → (budget : ℕ) (room : List ℤ) (out : Matched)
       → Searched (env op from to arg mat con ms ts n) budget room out → out ≡ match ms ps ts budget room
+  unfolding match
   accepted-match ps v sane budget room out s =
-      s .as-defined r v (sane .rule .fitting .0) holds (sane .rule .fitting .1) (pattern-read ps (r .pattern) .0 (sane .rule .pattern) .2) (closed-is (r .pattern) true 0 0 (sane .rule .numbered .0) (sane .rule .numbered .1)) (sane .target .target) (sane .target .fit) ∙ sym (match-ran ms ps ts budget room r v sane)
+      s .as-defined r v (sane .rule .fitting .0) holds (sane .rule .fitting .1) (pattern-read ps (r .pattern) .0 (sane .rule .pattern) .2) (closed-is (r .pattern) true 0 0 (sane .rule .numbered .0) (sane .rule .numbered .1)) (sane .target .target) (sane .target .fit) ∙ sym (match-ran asWords ms ps ts budget room r v sane)

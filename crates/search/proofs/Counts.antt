@@ -10,7 +10,7 @@ use lib.Dec.{eqb, ltb}
 use lib.Count.{trailingZeros}
 use lib.IntN.{ℤ, pos}
 use borrow.Author.Tests.{eqb-false, ltb-false, eq-eqb, ne-eqb}
-use Rattle.rules.specs.Search.{row}
+use Rattle.rules.specs.Rows.{row}
 use Rattle.words.specs.Marks.{clear}
 use Rattle.value_places.specs.Places.{elementAt}
 use Rattle.value_places.specs.Held.{wholeAt, put}
@@ -211,7 +211,7 @@ end-takes r ws h = when-if (λ (u : Ended). Takes r (run (u .state) (r .tables) 
 pub takes-is : (e : Env) (r : Run) → r .state .words ≤ length (r .room) → Takes r (takeOf e r)
 unfolding takeOf takeEnd takeBind takeStep endOf afterTurn
 takes-is e r h = when-if (Takes r) (eqb (getD (e .op) (r .state .pc) 0) 0) (takeEnd e r) (when (eqb (getD (e .op) (r .state .pc) 0) 3) (takeBind e r) (takeStep e r))
-    (λ z. end-takes r (row (bound (e .words) (r .binds) (e .vars))) h)
+    (λ z. end-takes r (row (e .form) (bound (e .words) (r .binds) (e .vars))) h)
     (λ z. when-if (Takes r) (eqb (getD (e .op) (r .state .pc) 0) 3) (takeBind e r) (takeStep e r)
     (λ k. took-takes r (takeBind e r) (bind-took e r) (bind-room e r))
     (λ k. took-takes r (takeStep e r) (step-took (e .op) (e .from) (e .to) (e .con) (e .words) (asked e r) (r .state) (r .tables)) refl))

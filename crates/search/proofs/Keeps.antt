@@ -11,7 +11,7 @@ use lib.Dec.{eqb, ltb}
 use lib.Count.{trailingZeros}
 use lib.IntN.{ℤ, pos}
 use borrow.Author.Tests.{eqb-true, eqb-false, ltb-true, ltb-false, ne-eqb}
-use Rattle.rules.specs.Search.{row}
+use Rattle.rules.specs.Rows.{row}
 use Rattle.words.specs.Words.{entries}
 use Rattle.value_places.specs.Places.{Target, Tag, countAt, elementAt}
 use Rattle.value_places.specs.Held.{Held}
@@ -359,6 +359,6 @@ module _ (e : Env) (fine : Fine e) (g : Target (e .words)) where
   pub take-keeps : (r : Run) → Valid e r → r .state .live ≡ 1 → Valid e (takeOf e r)
   unfolding takeOf takeEnd takeStep endOf
   take-keeps r v l =
-      when-if (Valid e) (eqb (getD (e .op) (r .state .pc) 0) 0) _ _ (λ z. end-keeps (r .state) (r .tables) (r .binds) (r .room) v l (row (bound (e .words) (r .binds) (e .vars))))
+      when-if (Valid e) (eqb (getD (e .op) (r .state .pc) 0) 0) _ _ (λ z. end-keeps (r .state) (r .tables) (r .binds) (r .room) v l (row (e .form) (bound (e .words) (r .binds) (e .vars))))
       (λ z. when-if (Valid e) (eqb (getD (e .op) (r .state .pc) 0) 3) _ _ (λ k. bind-keeps (r .state) (r .tables) (r .binds) (r .room) v l)
       (λ k. step-keeps (r .state) (r .tables) (r .binds) (r .room) v l (asked e r) (eqb-false _ _ z)))

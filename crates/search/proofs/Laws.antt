@@ -10,7 +10,7 @@ use lib.Dec.{eqb}
 use lib.IntN.{ℤ, pos}
 use mir.Syntax.{w64}
 use mir.Val.{Fits}
-use Rattle.rules.specs.Search.{row}
+use Rattle.rules.specs.Rows.{asWords, row}
 use Rattle.words.specs.Words.{entries}
 use Rattle.value_places.specs.Places.{Target}
 use Rattle.value_places.specs.Held.{Held, put}
@@ -34,11 +34,11 @@ use Rattle.search.proofs.Frames.{top-bound}
 
 -- What the code knows as the row's size tells whether it fits into the words that are free.
 pub record Sized (s : List ℤ) (b : List Binding) (n free size : ℕ) : Type 0 where
-  pub short : free < size → free < length (row (bound s b n))
-  pub fits : size ≤ free → length (row (bound s b n)) ≤ free
+  pub short : free < size → free < length (row asWords (bound s b n))
+  pub fits : size ≤ free → length (row asWords (bound s b n)) ≤ free
 
 module _ (s : List ℤ) (b : List Binding) (n free size : ℕ) where
-  pub sized-asked : size ≡ length (row (bound s b n)) → Sized s b n free size
+  pub sized-asked : size ≡ length (row asWords (bound s b n)) → Sized s b n free size
   sized-asked e = record { short = λ l. omega arith; fits = λ l. omega arith }
 
   pub sized-ample : Target s → Bound s b n → size ≡ 0 → n * length s ≤ free → Sized s b n free size
@@ -152,21 +152,21 @@ module _ (e : Env) (x : State) (t : Tables) (b : List Binding) (room : List ℤ)
   new-binds z = a .binds ∙ rw (eq-eqb _ _ z)
 
   -- The row does not fit; it is written; or a step is taken.
-  pub took-full : (y : State) (u : Tables) (room′ : List ℤ) → getD (e .op) (x .pc) 0 ≡ 0 → length room - x .words < length (row (bound (e .words) b′ (e .vars)))
+  pub took-full : (y : State) (u : Tables) (room′ : List ℤ) → getD (e .op) (x .pc) 0 ≡ 0 → length room - x .words < length (row (e .form) (bound (e .words) b′ (e .vars)))
       → y ≡ filled x → u ≡ t → room′ ≡ room → run y u b′ room′ ≡ takeOf e (run x t b room)
   unfolding takeOf takeEnd endOf endBy afterEnd when
   took-full y u room′ z l p d k =
       let s = same-binds (λ w. omega arith) in
-      let m : length room - x .words < length (row (bound (e .words) b (e .vars))) = rw s at l in
+      let m : length room - x .words < length (row (e .form) (bound (e .words) b (e .vars))) = rw s at l in
       rw (p, d, k, s, eq-eqb _ _ z, lt-ltb _ _ m)
 
-  pub took-wrote : (y : State) (u : Tables) (room′ : List ℤ) (w : ℕ) → getD (e .op) (x .pc) 0 ≡ 0 → length (row (bound (e .words) b′ (e .vars))) ≤ length room - x .words
-      → y ≡ wroteTo x w → w ≡ x .words + length (row (bound (e .words) b′ (e .vars))) → u ≡ t → room′ ≡ put room (x .words) (row (bound (e .words) b′ (e .vars)))
+  pub took-wrote : (y : State) (u : Tables) (room′ : List ℤ) (w : ℕ) → getD (e .op) (x .pc) 0 ≡ 0 → length (row (e .form) (bound (e .words) b′ (e .vars))) ≤ length room - x .words
+      → y ≡ wroteTo x w → w ≡ x .words + length (row (e .form) (bound (e .words) b′ (e .vars))) → u ≡ t → room′ ≡ put room (x .words) (row (e .form) (bound (e .words) b′ (e .vars)))
       → run y u b′ room′ ≡ takeOf e (run x t b room)
   unfolding takeOf takeEnd endOf endBy afterEnd when wrote wroteTo
   took-wrote y u room′ w z l p i d k =
       let s = same-binds (λ w. omega arith) in
-      let m : length (row (bound (e .words) b (e .vars))) ≤ length room - x .words = rw s at l in
+      let m : length (row (e .form) (bound (e .words) b (e .vars))) ≤ length room - x .words = rw s at l in
       rw (p, i, d, k, s, eq-eqb _ _ z, le-ltb _ _ m)
 
   stepped : Turned

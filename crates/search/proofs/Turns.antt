@@ -45,10 +45,10 @@ use Rattle.search.proofs.Slots.{slots-push, slots-pick, slots-keep, slo
 -- ---- One state taken up.
 
 module _ (e : Env) (g : Target (e .words)) where
-  unfoldable pub asTurn : Run → Turn (places (e .words) g)
+  unfoldable pub asTurn : Run → Turn (places (e .form) (e .words) g)
   unfolding when
   asTurn r =
-      when (eqb (r .state .live) 2) (back (confOf (e .words) g (r .state) (r .tables) (r .binds))) (on (confOf (e .words) g (r .state) (r .tables) (r .binds)))
+      when (eqb (r .state .live) 2) (back (confOf (e .form) (e .words) g (r .state) (r .tables) (r .binds))) (on (confOf (e .form) (e .words) g (r .state) (r .tables) (r .binds)))
 
   module _ (x : State) (t : Tables) (b : List Binding) (room : List ℤ) where
     -- The step whose line has the number o.
@@ -64,36 +64,36 @@ module _ (e : Env) (g : Target (e .words)) where
     unfolding takeStep asked stepOf stepAt
     step-at z = ap (λ (o : ℕ). asTurn (stepAt o)) (sym z)
 
-    test-turn : (q : Bool) → elim q as (λ _. Turn (places (e .words) g)) [
-      | true ↦ on (next (places (e .words) g) (confOf (e .words) g x t b) (getD (e .to) (x .pc) 0) ((slotsOf (e .words) g t (getD (e .from) (x .pc) 0)) .second) (bindsOf (e .words) g b))
-      | false ↦ back (confOf (e .words) g x t b)
+    test-turn : (q : Bool) → elim q as (λ _. Turn (places (e .form) (e .words) g)) [
+      | true ↦ on (next (places (e .form) (e .words) g) (confOf (e .form) (e .words) g x t b) (getD (e .to) (x .pc) 0) ((slotsOf (e .form) (e .words) g t (getD (e .from) (x .pc) 0)) .second) (bindsOf (e .form) (e .words) g b))
+      | false ↦ back (confOf (e .form) (e .words) g x t b)
     ]
         ≡ asTurn (afterTurn (when q (turned (dropped (e .from) (e .to) (t .ats) (t .backs) (counted x)) t) (turned (lived (counted x) 2) t)) b room)
     unfolding asTurn afterTurn when confOf slotsOf next dropped moved lived counted
     test-turn true = refl
     test-turn false = refl
 
-    strip-turn : exec (places (e .words) g) strip (confOf (e .words) g x t b) ≡ asTurn (stepAt 1)
+    strip-turn : exec (places (e .form) (e .words) g) strip (confOf (e .form) (e .words) g x t b) ≡ asTurn (stepAt 1)
     unfolding asTurn afterTurn stepAt when confOf exec next stepBy moved counted
     strip-turn = rw (add-one (x .pc))
 
     pub bind-turn : length b ≡ 16 → getD (e .arg) (x .pc) 0 < 16
-        → exec (places (e .words) g) (bind (getD (e .arg) (x .pc) 0) (getD (e .from) (x .pc) 0) (getD (e .to) (x .pc) 0)) (confOf (e .words) g x t b) ≡ asTurn (takeBind e (run x t b room))
+        → exec (places (e .form) (e .words) g) (bind (getD (e .arg) (x .pc) 0) (getD (e .from) (x .pc) 0) (getD (e .to) (x .pc) 0)) (confOf (e .form) (e .words) g x t b) ≡ asTurn (takeBind e (run x t b room))
     unfolding asTurn when confOf exec next dropped moved counted takeBind slotsOf bindsOf
     bind-turn lb v =
-        ap (λ z. on (record { pc = getD (e .to) (x .pc) 0; cur = (slotsOf (e .words) g t (getD (e .from) (x .pc) 0)) .second; top = x .top; slots = slotsOf (e .words) g t; binds = z }))
+        ap (λ z. on (record { pc = getD (e .to) (x .pc) 0; cur = (slotsOf (e .form) (e .words) g t (getD (e .from) (x .pc) 0)) .second; top = x .top; slots = slotsOf (e .form) (e .words) g t; binds = z }))
         (sym (table-set b (getD (e .arg) (x .pc) 0) (binding (x .at) (x .marks)) nothing (omega arith)))
 
     collection-turn : (m : Matcher) → matcherAt (e .matcher) (getD (e .mat) (x .pc) 0) ≡ m
         → isSame (e .words) m (getD (e .con) (x .pc) (pos 0)) (getD b (getD (e .arg) (x .pc) 0) nothing) (binding (x .at) (x .marks))
         ≡ equal m (holds (e .words) (getD b (getD (e .arg) (x .pc) 0) nothing)) (holds (e .words) (binding (x .at) (x .marks)))
-        → exec (places (e .words) g) (test (asValue m (getD (e .arg) (x .pc) 0) (getD (e .con) (x .pc) (pos 0))) (getD (e .from) (x .pc) 0) (getD (e .to) (x .pc) 0)) (confOf (e .words) g x t b)
+        → exec (places (e .form) (e .words) g) (test (asValue m (getD (e .arg) (x .pc) 0) (getD (e .con) (x .pc) (pos 0))) (getD (e .from) (x .pc) 0) (getD (e .to) (x .pc) 0)) (confOf (e .form) (e .words) g x t b)
         ≡ asTurn (stepAt 6)
     unfolding exec check stepAt when stepBy passesOf askOf boundAt equalAt holds confOf bindsOf slotsOf counted
     collection-turn m f q =
-        ap (λ (q : Bool). elim q as (λ _. Turn (places (e .words) g)) [
-          | true ↦ on (next (places (e .words) g) (confOf (e .words) g x t b) (getD (e .to) (x .pc) 0) ((slotsOf (e .words) g t (getD (e .from) (x .pc) 0)) .second) (bindsOf (e .words) g b))
-          | false ↦ back (confOf (e .words) g x t b)
+        ap (λ (q : Bool). elim q as (λ _. Turn (places (e .form) (e .words) g)) [
+          | true ↦ on (next (places (e .form) (e .words) g) (confOf (e .form) (e .words) g x t b) (getD (e .to) (x .pc) 0) ((slotsOf (e .form) (e .words) g t (getD (e .from) (x .pc) 0)) .second) (bindsOf (e .form) (e .words) g b))
+          | false ↦ back (confOf (e .form) (e .words) g x t b)
         ])
         (q ∙ ap (λ (k : Matcher). equal k (holds (e .words) (getD b (getD (e .arg) (x .pc) 0) nothing)) (holds (e .words) (binding (x .at) (x .marks)))) (sym f))
         ∙ test-turn (equal (matcherAt (e .matcher) (getD (e .mat) (x .pc) 0)) (holds (e .words) (getD b (getD (e .arg) (x .pc) 0) nothing)) (holds (e .words) (binding (x .at) (x .marks))))
@@ -108,13 +108,13 @@ module _ (e : Env) (g : Target (e .words)) where
     takes-same (multiset m) h = refl
     takes-same (tupleOf ms) h = refl
 
-    split-turn : Long t → x .pc < entries → (c : ℕ) (q : Bool) → back (opening (places (e .words) g) (confOf (e .words) g x t b) (when q none (some c)))
+    split-turn : Long t → x .pc < entries → (c : ℕ) (q : Bool) → back (opening (places (e .form) (e .words) g) (confOf (e .form) (e .words) g x t b) (when q none (some c)))
         ≡ asTurn (afterTurn (when q (turned (lived (counted x) 2) t) (turned (numbers.pushed (counted x)) (pushedIn c (counted x) t))) b room)
     unfolding asTurn afterTurn when confOf opening pushed lived counted numbers.pushed slotsOf
     split-turn l h c true = refl
     split-turn l h c false =
-        rw (add-one (x .pc)) (ap (λ z. back (record { pc = x .pc; cur = binding (x .at) (x .marks); top = suc (x .pc); slots = z; binds = bindsOf (e .words) g b }))
-        (sym (slots-push (e .words) g c (counted x) t l h)))
+        rw (add-one (x .pc)) (ap (λ z. back (record { pc = x .pc; cur = binding (x .at) (x .marks); top = suc (x .pc); slots = z; binds = bindsOf (e .form) (e .words) g b }))
+        (sym (slots-push (e .form) (e .words) g c (counted x) t l h)))
 
     -- A tuple's number divides, and is above those of cons and join, and below that of and.
     step-apart : (n : ℕ) (q : Bool) → n ≤ 2 → stepBy (11 + n) (e .from) (e .to) (e .con) (e .words) q (counted x) t ≡ apartOf (e .words) (suc n) (counted x) t
@@ -127,9 +127,9 @@ module _ (e : Env) (g : Target (e .words)) where
         let f : 11 + n < 14 = omega arith in
         rw (ne-eqb (11 + n) 1 a, lt-ltb 7 (11 + n) b, lt-ltb 10 (11 + n) c, lt-ltb (11 + n) 14 f, d)
 
-    apart-by : (n : ℕ) → Long t → x .pc + (suc n) ≤ entries → (q : Bool) → elim q as (λ _. Turn (places (e .words) g)) [
-      | true ↦ on (parting (places (e .words) g) (confOf (e .words) g x t b) n)
-      | false ↦ back (confOf (e .words) g x t b)
+    apart-by : (n : ℕ) → Long t → x .pc + (suc n) ≤ entries → (q : Bool) → elim q as (λ _. Turn (places (e .form) (e .words) g)) [
+      | true ↦ on (parting (places (e .form) (e .words) g) (confOf (e .form) (e .words) g x t b) n)
+      | false ↦ back (confOf (e .form) (e .words) g x t b)
     ]
         ≡ asTurn (afterTurn
         (turned (when q (moved (counted x) (x .pc + (suc n)) (elementAt (e .words) (x .at) 0) (partMarks (e .words) (x .at) 0)) (lived (counted x) 2))
@@ -138,19 +138,19 @@ module _ (e : Env) (g : Target (e .words)) where
     unfolding asTurn afterTurn when confOf moved lived counted parting partMarks operations.partOf
     apart-by n l h true =
         let y : suc (x .pc + n) ≡ x .pc + suc n = omega arith in
-        ap₂ (λ (pc : ℕ) (z : ℕ → Slot (places (e .words) g)). on (record { pc = pc; cur = operations.partOf (e .words) (binding (x .at) (x .marks)) 0; top = x .top; slots = z; binds = bindsOf (e .words) g b }))
-        y (slots-keep (e .words) g (x .at) (x .marks) (suc n) 1 (x .pc) t l h)
+        ap₂ (λ (pc : ℕ) (z : ℕ → Slot (places (e .form) (e .words) g)). on (record { pc = pc; cur = operations.partOf (e .words) (binding (x .at) (x .marks)) 0; top = x .top; slots = z; binds = bindsOf (e .form) (e .words) g b }))
+        y (slots-keep (e .form) (e .words) g (x .at) (x .marks) (suc n) 1 (x .pc) t l h)
     apart-by n l h false = refl
 
-    apart-turn : (n : ℕ) → n ≤ 2 → Long t → x .pc + (suc n) ≤ entries → exec (places (e .words) g) (apart n) (confOf (e .words) g x t b) ≡ asTurn (stepAt (11 + n))
+    apart-turn : (n : ℕ) → n ≤ 2 → Long t → x .pc + (suc n) ≤ entries → exec (places (e .form) (e .words) g) (apart n) (confOf (e .form) (e .words) g x t b) ≡ asTurn (stepAt (11 + n))
     unfolding exec stepAt confOf operations.isWide apartOf apartAt apartAts apartBacks leaves.isWide counted
     apart-turn n y l h =
         apart-is (eqb (countAt (e .words) (x .at)) (suc (suc n))) refl
         ∙ ap (λ (u : Turned). asTurn (afterTurn u b room)) (sym (step-apart n _ y))
       where
-        apart-is : (q : Bool) → eqb (countAt (e .words) (x .at)) (suc (suc n)) ≡ q → elim q as (λ _. Turn (places (e .words) g)) [
-          | true ↦ on (parting (places (e .words) g) (confOf (e .words) g x t b) n)
-          | false ↦ back (confOf (e .words) g x t b)
+        apart-is : (q : Bool) → eqb (countAt (e .words) (x .at)) (suc (suc n)) ≡ q → elim q as (λ _. Turn (places (e .form) (e .words) g)) [
+          | true ↦ on (parting (places (e .form) (e .words) g) (confOf (e .form) (e .words) g x t b) n)
+          | false ↦ back (confOf (e .form) (e .words) g x t b)
         ]
             ≡ asTurn (afterTurn (apartOf (e .words) (suc n) (counted x) t) b room)
         apart-is q p =
@@ -158,31 +158,31 @@ module _ (e : Env) (g : Target (e .words)) where
             apart-by n l h q ∙ rw (rw y at p)
 
     -- And; or and not.
-    keep-turn : Long t → x .pc < entries → on (keptHere (places (e .words) g) (confOf (e .words) g x t b)) ≡ asTurn (run (keptAt (counted x)) (keptIn (counted x) t) b room)
+    keep-turn : Long t → x .pc < entries → on (keptHere (places (e .form) (e .words) g) (confOf (e .form) (e .words) g x t b)) ≡ asTurn (run (keptAt (counted x)) (keptIn (counted x) t) b room)
     unfolding asTurn when confOf keptHere keptAt moved counted
     keep-turn l h =
-        rw (add-one (x .pc)) (ap (λ z. on (record { pc = suc (x .pc); cur = binding (x .at) (x .marks); top = x .top; slots = z; binds = bindsOf (e .words) g b }))
-        (sym (slots-kept (e .words) g (counted x) t l h)))
+        rw (add-one (x .pc)) (ap (λ z. on (record { pc = suc (x .pc); cur = binding (x .at) (x .marks); top = x .top; slots = z; binds = bindsOf (e .form) (e .words) g b }))
+        (sym (slots-kept (e .form) (e .words) g (counted x) t l h)))
 
-    framed-turn : Long t → x .pc < entries → on (framedHere (places (e .words) g) (confOf (e .words) g x t b)) ≡ asTurn (run (framedAt (counted x)) (framedIn (counted x) t) b room)
+    framed-turn : Long t → x .pc < entries → on (framedHere (places (e .form) (e .words) g) (confOf (e .form) (e .words) g x t b)) ≡ asTurn (run (framedAt (counted x)) (framedIn (counted x) t) b room)
     unfolding asTurn when confOf framedHere framedAt counted
     framed-turn l h =
-        rw (add-one (x .pc)) (ap (λ z. on (record { pc = suc (x .pc); cur = binding (x .at) (x .marks); top = suc (x .pc); slots = z; binds = bindsOf (e .words) g b }))
-        (sym (slots-framed (e .words) g (counted x) t l h)))
+        rw (add-one (x .pc)) (ap (λ z. on (record { pc = suc (x .pc); cur = binding (x .at) (x .marks); top = suc (x .pc); slots = z; binds = bindsOf (e .form) (e .words) g b }))
+        (sym (slots-framed (e .form) (e .words) g (counted x) t l h)))
 
     -- The end of the search inside a not; and where no state stands.
-    cut-turn : back (without (places (e .words) g) (confOf (e .words) g x t b) (getD (e .from) (x .pc) 0)) ≡ asTurn (run (cutTo (e .from) (t .lows) (counted x)) t b room)
+    cut-turn : back (without (places (e .form) (e .words) g) (confOf (e .form) (e .words) g x t b) (getD (e .from) (x .pc) 0)) ≡ asTurn (run (cutTo (e .from) (t .lows) (counted x)) t b room)
     unfolding asTurn when confOf without cutTo counted slotsOf
     cut-turn = refl
 
-    back-turn : back (confOf (e .words) g x t b) ≡ asTurn (run (lived (counted x) 2) t b room)
+    back-turn : back (confOf (e .form) (e .words) g x t b) ≡ asTurn (run (lived (counted x) 2) t b room)
     unfolding asTurn when confOf lived counted
     back-turn = refl
 
     -- An instruction that takes up a state with an atom left, and is no bind.
     pub step-turn : (i : Instr) → Means (e .matcher) (e .vars) (lineAt e (x .pc)) (getD (e .to) (x .pc) 0) i → (getD (e .op) (x .pc) 0 ≡ 0 → ⊥) → (getD (e .op) (x .pc) 0 ≡ 3 → ⊥) → Long t → x .pc < entries
         → (10 < getD (e .op) (x .pc) 0 → getD (e .op) (x .pc) 0 < 14 → x .pc + (getD (e .op) (x .pc) 0 - 10) < entries)
-        → exec (places (e .words) g) i (confOf (e .words) g x t b) ≡ asTurn (takeStep e (run x t b room))
+        → exec (places (e .form) (e .words) g) i (confOf (e .form) (e .words) g x t b) ≡ asTurn (takeStep e (run x t b room))
     unfolding stepAt afterTurn when exec check confOf bindsOf slotsOf stepBy divideOf sidesOf passesOf askOf boundAt splitOf opensOf noneOf opens opensBy operations.code isSame isNumber isNone counted lineAt
     step-turn i (means-end z) n k l h u = absurd (n z)
     step-turn i (means-strip z) n k l h u = strip-turn ∙ step-at z
@@ -212,22 +212,22 @@ module _ (e : Env) (g : Target (e .words)) where
 
   module _ (x : State) (t : Tables) (b : List Binding) (l : Long t) where
     -- What stands after a choice.
-    unfoldable pub stands : Turned → Option (Conf (places (e .words) g))
-    stands u = standing (e .words) g (u .state) (u .tables) b
+    unfoldable pub stands : Turned → Option (Conf (places (e .form) (e .words) g))
+    stands u = standing (e .form) (e .words) g (u .state) (u .tables) b
 
     choice-stands : (more at m w j : ℕ) → j < entries → x .top ≡ suc j
         → some (record {
           pc = suc j;
           cur = binding at m;
-          top = topAfter (places (e .words) g) j (slotsOf (e .words) g t j) (someOf more);
-          binds = bindsOf (e .words) g b;
-          slots = put (slotsOf (e .words) g t) j (slotAfter (places (e .words) g) (slotsOf (e .words) g t j) (someOf more) (binding (getD (t .ats) j 0) w));
+          top = topAfter (places (e .form) (e .words) g) j (slotsOf (e .form) (e .words) g t j) (someOf more);
+          binds = bindsOf (e .form) (e .words) g b;
+          slots = put (slotsOf (e .form) (e .words) g t) j (slotAfter (places (e .form) (e .words) g) (slotsOf (e .form) (e .words) g t j) (someOf more) (binding (getD (t .ats) j 0) w));
         })
-        ≡ standing (e .words) g (topLeft more j (t .lows) (moved x (j + 1) at m)) (tables (t .ats) (t .wholes) (nowLeft more j (t .lefts)) (t .lows) (set (t .backs) j w)) b
+        ≡ standing (e .form) (e .words) g (topLeft more j (t .lows) (moved x (j + 1) at m)) (tables (t .ats) (t .wholes) (nowLeft more j (t .lefts)) (t .lows) (set (t .backs) j w)) b
     unfolding standing confOf topLeft topped moved topAfter someOf when slotsOf
     choice-stands more at m w j h f =
-        ap (λ z. some (record { pc = suc j; cur = binding at m; top = topAfter (places (e .words) g) j (slotsOf (e .words) g t j) (someOf more); binds = bindsOf (e .words) g b; slots = z }))
-        (sym (slots-pick (e .words) g more w j t l h))
+        ap (λ z. some (record { pc = suc j; cur = binding at m; top = topAfter (places (e .form) (e .words) g) j (slotsOf (e .form) (e .words) g t j) (someOf more); binds = bindsOf (e .form) (e .words) g b; slots = z }))
+        (sym (slots-pick (e .form) (e .words) g more w j t l h))
         ∙ go (eqb more 0)
       where
         new : Tables
@@ -236,16 +236,16 @@ module _ (e : Env) (g : Target (e .words)) where
         go : (q : Bool) → some (record {
           pc = suc j;
           cur = binding at m;
-          top = topAfter (places (e .words) g) j (slotsOf (e .words) g t j) (when q none (some more));
-          binds = bindsOf (e .words) g b;
-          slots = slotsOf (e .words) g new;
+          top = topAfter (places (e .form) (e .words) g) j (slotsOf (e .form) (e .words) g t j) (when q none (some more));
+          binds = bindsOf (e .form) (e .words) g b;
+          slots = slotsOf (e .form) (e .words) g new;
         })
-            ≡ standing (e .words) g (when q (topped (moved x (j + 1) at m) (getD (t .lows) j 0)) (moved x (j + 1) at m)) new b
+            ≡ standing (e .form) (e .words) g (when q (topped (moved x (j + 1) at m) (getD (t .lows) j 0)) (moved x (j + 1) at m)) new b
         go true = rw (add-one j)
         go false = rw (add-one j, f)
 
     cons-stands : (j : ℕ) → j < entries → x .top ≡ suc j
-        → some (chosen (places (e .words) g) (confOf (e .words) g x t b) j
+        → some (chosen (places (e .form) (e .words) g) (confOf (e .form) (e .words) g x t b) j
         (takePlace (e .words) (binding (getD (t .ats) j 0) (getD (t .wholes) j 0)) (getD (t .lefts) j 0) (trailingZeros 64 (getD (t .lefts) j 0))))
         ≡ stands (consOf (e .words) j x t)
     unfolding stands chosen confOf consOf consBy takePlace slotsOf
@@ -259,7 +259,7 @@ module _ (e : Env) (g : Target (e .words)) where
     -- The choice at j.
     choose-is : (j : ℕ) (i : Instr) → Means (e .matcher) (e .vars) (lineAt e j) (getD (e .to) j 0) i
         → Frame (getD (e .op) j 0) (e .words) j (getD (t .ats) j 0) (getD (t .wholes) j 0) (getD (t .lefts) j 0) → x .top ≡ suc j
-        → choose (places (e .words) g) i j (confOf (e .words) g x t b) ≡ stands (choiceOf (getD (e .op) j 0) j (e .from) (e .to) (e .words) x t)
+        → choose (places (e .form) (e .words) g) i j (confOf (e .form) (e .words) g x t b) ≡ stands (choiceOf (getD (e .op) j 0) j (e .from) (e .to) (e .words) x t)
     unfolding stands standing choose chosen resumed confOf slotsOf choiceOf joinOf joinBy resumeOf resumedAt resumedBy slotBy pick takeFront when lineAt
     choose-is j i (means-end z) o f = let a = o .splits in absurd (omega arith)
     choose-is j i (means-strip z) o f = let a = o .splits in absurd (omega arith)
@@ -283,7 +283,7 @@ module _ (e : Env) (g : Target (e .words)) where
     choose-is j i (means-close z) o f = let a = o .chooses in absurd (omega arith)
 
     pub pick-is : (code : ℕ → Instr) (n : ℕ) → x .top ≡ n → Divided code → Picks (e .op) (e .words) n (t .ats) (t .wholes) (t .lefts)
-        → nextChoice (places (e .words) g) code n (confOf (e .words) g x t b) ≡ stands (pickOf (e .op) (e .from) (e .to) (e .words) x t)
+        → nextChoice (places (e .form) (e .words) g) code n (confOf (e .form) (e .words) g x t b) ≡ stands (pickOf (e .op) (e .from) (e .to) (e .words) x t)
     unfolding nextChoice stands pickOf standing lived when
     pick-is code zero f m o = rw f
     pick-is code (suc j) f m o =

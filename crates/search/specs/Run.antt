@@ -6,7 +6,7 @@ use mathlib.Core.List.{List}
 use lib.ListN.{length, getD, set}
 use lib.Dec.{eqb, ltb}
 use lib.IntN.{ℤ, pos}
-use Rattle.rules.specs.Search.{row}
+use Rattle.rules.specs.Rows.{Form, asWords, row}
 use Rattle.rules.specs.Services.{Matched}
 use Rattle.value_places.specs.Held.{put}
 use Rattle.value_rows.specs.Row.{bound, nothing}
@@ -18,7 +18,7 @@ use Rattle.search_atom.specs.Leaves.{when}
 use Rattle.search_step.specs.Steps.{Tables, Turned, counted, dropped, stepOf}
 use Rattle.search_choice.specs.Choices.{pickOf}
 
--- What does not change: the program, the matcher's words, the target's words, how many variables there are.
+-- What does not change: the program, the matcher's words, the target's words, how many variables there are, the form of a row.
 pub record Env : Type 0 where
   pub op : List ℕ
   pub from : List ℕ
@@ -29,9 +29,10 @@ pub record Env : Type 0 where
   pub matcher : List ℤ
   pub words : List ℤ
   pub vars : ℕ
+  pub form : Form
 
 abbrev pub env : (op from to arg mat : List ℕ) → (con matcher words : List ℤ) → (vars : ℕ) → Env
-env op from to arg mat con mt s n = record { op = op; from = from; to = to; arg = arg; mat = mat; con = con; matcher = mt; words = s; vars = n }
+env op from to arg mat con mt s n = record { op = op; from = from; to = to; arg = arg; mat = mat; con = con; matcher = mt; words = s; vars = n; form = asWords }
 
 pub record Run : Type 0 where
   pub state : State
@@ -64,9 +65,9 @@ unfoldable pub endBy : List ℤ → State → List ℤ → Ended
 unfolding when filled wrote
 endBy ws x room = when (ltb (length room - x .words) (length ws)) (ended (filled x) room) (ended (wrote x (length ws)) (put room (x .words) ws))
 
-unfoldable pub endOf : List ℤ → ℕ → State → List Binding → List ℤ → Ended
+unfoldable pub endOf : Form → List ℤ → ℕ → State → List Binding → List ℤ → Ended
 unfolding endBy
-endOf s n x b room = endBy (row (bound s b n)) x room
+endOf form s n x b room = endBy (row form (bound s b n)) x room
 
 -- ---- What tag 3 asks: 5 under integer, 6 under another matcher.
 
@@ -99,7 +100,7 @@ afterEnd u t b = run (u .state) t b (u .room)
 
 unfoldable pub takeEnd : Env → Run → Run
 unfolding endOf afterEnd
-takeEnd e r = afterEnd (endOf (e .words) (e .vars) (r .state) (r .binds) (r .room)) (r .tables) (r .binds)
+takeEnd e r = afterEnd (endOf (e .form) (e .words) (e .vars) (r .state) (r .binds) (r .room)) (r .tables) (r .binds)
 
 unfoldable pub takeBind : Env → Run → Run
 takeBind e r =

@@ -7,7 +7,8 @@ use lib.ListN.{length, replicate}
 use lib.IntN.{ℤ, pos}
 use Rattle.rules.specs.Forms.{Matcher, Value}
 use Rattle.rules.specs.Reading.{Verdict, ok, fault, readMatcher}
-use Rattle.rules.specs.Services.{Judged, accepted, refused, test, Rule, ruleOf, targetOf, causeIn, turnedAway, matchTarget, matchRule, match}
+use Rattle.rules.specs.Services.{Judged, accepted, refused, test, Rule, ruleOf, targetOf, causeIn, turnedAway, matchTarget, matchRule, matchIn, match}
+use Rattle.rules.specs.Rows.{asWords}
 use Rattle.rules.specs.Services as paper
 use Rattle.forms.specs.Faults.{rule-accepted, Sane, sane-exactly}
 use Rattle.words.specs.Words.{entries}
@@ -67,16 +68,16 @@ rule-whole ms ps x p q = let r = was-accepted (ruleOf ms ps) x p q in record { m
 
 module _ (ms ps ts : List ℤ) (budget : ℕ) (room : List ℤ) (x : Judgement) (p : x ≡ judgement (ruleOf ms ps)) where
   pub rule-away : (a i : ℕ) → x ≡ Refused a i → turnedAway a i 0 room ≡ match ms ps ts budget room
-  unfolding match
-  rule-away a i q = sym (ap (matchRule budget room ts) (was-refused (ruleOf ms ps) x a i p q))
+  unfolding match matchIn
+  rule-away a i q = sym (ap (matchRule asWords budget room ts) (was-refused (ruleOf ms ps) x a i p q))
 
   module _ (ok : x ≡ Accepted) (y : TargetJudgement) (k : y ≡ targetJudgement ts (targetUnder ms ts)) where
     pub target-away : (a i c : ℕ) → y ≡ targets.Refused a i c → turnedAway a i c room ≡ match ms ps ts budget room
-    unfolding match matchRule
+    unfolding match matchIn matchRule
     target-away a i c q =
         let r = was-accepted (ruleOf ms ps) x p ok in
         let t = target-refused ts (targetOf (r .0 .matcher) ts) y a i c (k ∙ ap (targetJudgement ts) (under ms ps ts (r .0) (r .1))) q in
-        ap (λ n. turnedAway a i n room) (t .1) ∙ sym (ap (matchRule budget room ts) (r .1) ∙ ap (matchTarget budget room ts (r .0)) (t .0))
+        ap (λ n. turnedAway a i n room) (t .1) ∙ sym (ap (matchRule asWords budget room ts) (r .1) ∙ ap (matchTarget asWords budget room ts (r .0)) (t .0))
 
 pub both-ready : (ms ps ts : List ℤ) (x : Judgement) (y : TargetJudgement) → x ≡ judgement (ruleOf ms ps) → x ≡ Accepted
     → y ≡ targetJudgement ts (targetUnder ms ts) → y ≡ targets.Accepted → Ready ms ps ts

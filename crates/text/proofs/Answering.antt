@@ -10,7 +10,8 @@ use lib.ListN.{length, take, drop, replicate, length-append, length-drop, length
 use Rattle.rules.specs.Search.{run, start}
 use lib.Seq.{length-take-le}
 use Rattle.rules.specs.Forms.{Value}
-use Rattle.rules.specs.Services.{Judged, accepted, refused, Rule, turnedAway, carriedOut, targetOf, ruleOf, matchTarget, matchRule, match}
+use Rattle.rules.specs.Services.{Judged, accepted, refused, Rule, turnedAway, carriedOut, targetOf, ruleOf, matchTarget, matchRule, matchIn, match}
+use Rattle.rules.specs.Rows.{asWords}
 use Rattle.rules.specs.Services as paper
 use Rattle.services.specs.Matches.{told}
 use Rattle.services.specs.declared.matching.Matched.{Matched}
@@ -31,22 +32,22 @@ use Rattle.text.specs.declared.Printed.the-variants as Printed
 WordsIn : List ℤ → paper.Matched → Type 0
 WordsIn room m = length (m .room) ≡ length room → m .words ≤ length room
 
-words-target : (budget : ℕ) (room ts : List ℤ) (r : Rule) (v : Judged Value) → WordsIn room (matchTarget budget room ts r v)
+words-target : (budget : ℕ) (room ts : List ℤ) (r : Rule) (v : Judged Value) → WordsIn room (matchTarget asWords budget room ts r v)
 unfolding WordsIn matchTarget turnedAway carriedOut
 words-target budget room ts r (refused a i) e = omega arith
 words-target budget room ts r (accepted v) e =
-    let ws = run budget (start (r .matcher) (r .pattern) v ∷ []) (length room) .written in
+    let ws = run asWords budget (start (r .matcher) (r .pattern) v ∷ []) (length room) .written in
     let a = length-append ws (drop (length ws) room) in
     let b = length-drop (length ws) room in
     omega arith
 
-words-rule : (budget : ℕ) (room ts : List ℤ) (r : Judged Rule) → WordsIn room (matchRule budget room ts r)
+words-rule : (budget : ℕ) (room ts : List ℤ) (r : Judged Rule) → WordsIn room (matchRule asWords budget room ts r)
 unfolding WordsIn matchRule turnedAway
 words-rule budget room ts (refused a i) e = omega arith
 words-rule budget room ts (accepted r) e = words-target budget room ts r (targetOf (r .matcher) ts) e
 
 words-in : (ms ps ts : List ℤ) (budget : ℕ) (room : List ℤ) → WordsIn room (match ms ps ts budget room)
-unfolding match
+unfolding match matchIn
 words-in ms ps ts budget room = words-rule budget room ts (ruleOf ms ps)
 
 empty-is : (r : Matched) (new : List ℤ) (values : ℕ) → emptyReport values (told r new) ≡ emptyRows values (r .rows) (take (r .words) new)

@@ -6,7 +6,7 @@ use mathlib.Core.Logic.{⊎-elim}
 use native.Mathlib.Omega.{arith}
 use borrow.Author.Needs.{needs}
 use lib.ListN.{length}
-use Rattle.rules.specs.Search.{row}
+use Rattle.rules.specs.Rows.{asWords, row}
 use Rattle.value_places.specs.Held.{put}
 use Rattle.value_rows.specs.Row.{bound, boundFrom}
 use Rattle.search_step.specs.Steps.{tables}
@@ -29,8 +29,8 @@ use Rattle.search_choice.proofs.settle.Reads as settle-reads
 
 abbrev Inv-loop2 : tie.InvT-loop2
 Inv-loop2 budget n mt s ends base places op from to arg mat con ats wholes lefts lows backs room₀ x b steps pc at m o q e₀ free size v₀ room e v =
-    (v ≤ n) × (length room ≡ length room₀) × (e₀ + length (row (bound s b n)) ≤ length room) × (e₀ + length (row (bound s b n)) ≡ e + length (row (boundFrom s b v n)))
-    × (put room₀ e₀ (row (bound s b n)) ≡ put room e (row (boundFrom s b v n)))
+    (v ≤ n) × (length room ≡ length room₀) × (e₀ + length (row asWords (bound s b n)) ≤ length room) × (e₀ + length (row asWords (bound s b n)) ≡ e + length (row asWords (boundFrom s b v n)))
+    × (put room₀ e₀ (row asWords (bound s b n)) ≡ put room e (row asWords (boundFrom s b v n)))
 
 abbrev μ-loop2 : tie.MeasureT-loop2
 μ-loop2 budget n mt s ends base places op from to arg mat con ats wholes lefts lows backs room₀ x b steps pc at m o q e₀ free size v₀ room e v = n - v
