@@ -16,7 +16,7 @@ use Rattle.rules.specs.Origins.{Bindings}
 use Rattle.rules.specs.Rows.{asWords, row}
 use Rattle.rules.specs.Following.{Solution}
 use Rattle.forms.specs.Lists.{Mem}
-use Rattle.rules.specs.Services.{accepted, Rule, ruleOf, targetOf, Matched, matchIn, match}
+use Rattle.rules.specs.Services.{accepted, Rule, ruleOf, targetOf, Matched, match}
 use Rattle.forms.specs.Written.{variableTags}
 use Rattle.forms.specs.Faults.{rule-accepted}
 use Rattle.promises.specs.Matching.{ways, rowsOfWays}
@@ -63,11 +63,13 @@ module _ (ms ps ts : List ℤ) (budget : ℕ) (room : List ℤ) (r : Rule) (v : 
   values-are = rw (rule-accepted ms ps r .0 rule .pattern, variables-counted ms ps r rule .0)
 
   words-are : take (it .words) (it .room) ≡ rowsOfWays asWords first
+  unfolding match
   words-are =
       let h = room-holds asWords ms ps ts budget room r v rule target in
       ap (take (it .words)) (h .2) ∙ take-at (rowsOfWays asWords first) (drop (it .words) room) (it .words) (sym (h .1))
 
   count-is : length (bounds first) ≡ it .rows
+  unfolding match
   count-is =
       let h = room-holds asWords ms ps ts budget room r v rule target in
       length-map first (λ (s : Solution). s .bound) ∙ length-take-le (it .rows) (ways r v) (h .0)

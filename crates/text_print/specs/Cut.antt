@@ -44,7 +44,7 @@ a-row (v ∷ e) k us =
     let s : suc (length e) + k ≡ suc (length e + k) = omega arith in
     let a = length-append (words (plain v)) (row asWords e) in
     let b = one-value (plain v) (length e + k) (row asWords e ++ us) in
-    let c = a-row asWords e k us in
+    let c = a-row e k us in
     rw (s, append-assoc (words (plain v)) (row asWords e) us) (omega arith)
 
 unfoldable pub written : List Bindings → List ℤ
@@ -57,12 +57,12 @@ unfoldable pub Each : ℕ → List Bindings → Type 0
 Each values [] = Unit {0}
 Each values (e ∷ es) = (length e ≡ values) × Each values es
 
-pub cut-written : (values : ℕ) (es : List Bindings) (us : List ℤ) → Each values es → cutRows values (length es) (written es ++ us) ≡ map row asWords es
+pub cut-written : (values : ℕ) (es : List Bindings) (us : List ℤ) → Each values es → cutRows values (length es) (written es ++ us) ≡ map (row asWords) es
 unfolding cutRows written Each
 cut-written values [] us h = refl
 cut-written values (e ∷ es) us (l, h) =
     let z : length e + 0 ≡ values = omega arith in
     let n : extent values (row asWords e ++ (written es ++ us)) ≡ length (row asWords e) =
-    ap (λ (k : ℕ). extent k (row asWords e ++ (written es ++ us))) (sym z) ∙ a-row asWords e 0 (written es ++ us) ∙ rw (no-values (written es ++ us)) (omega arith) in
+    ap (λ (k : ℕ). extent k (row asWords e ++ (written es ++ us))) (sym z) ∙ a-row e 0 (written es ++ us) ∙ rw (no-values (written es ++ us)) (omega arith) in
     rw (append-assoc (row asWords e) (written es) us, n, take-at (row asWords e) (written es ++ us) (length (row asWords e)) refl, drop-at (row asWords e) (written es ++ us) (length (row asWords e)) refl)
     (ap (λ (l : List (List ℤ)). row asWords e ∷ l) (cut-written values es us h))
