@@ -8,7 +8,8 @@ use mathlib.Core.List.{List, [], _∷_, _++_, flatMap, append-assoc}
 use lib.ListN.{length, length-append, take}
 use lib.Seq.{take-append-seam}
 use lib.Dec.{T, leb, leb→le, le→leb}
-use Rattle.rules.specs.Search.{row, Run}
+use Rattle.rules.specs.Rows.{asWords, row}
+use Rattle.rules.specs.Search.{Run}
 use Rattle.promises.specs.Trace.{Taken, walk}
 use Rattle.promises.specs.Solve.{founds, founds-append}
 use Rattle.promises.specs.Budget.{rowsOf, report, Full, Outcome, done, spent, full, walk-outcome, walk-full, full-rows, answers-0, answers-7, answers-8, steps-most, first-rows}
@@ -62,24 +63,24 @@ module _ (limit n : ℕ) (bs : List Branch) (free : ℕ) where
   -- (d) It takes up the first states of the order, until none remains, the budget is used up or a row does not fit, as the run over the depth-first order
   -- does over that; or until the table stops it at the end of a round.
   pub data Ran : Type 0 where
-    walked : (Overfull limit n free bs → ⊥) → Outcome n free (order bs) it → Ran
-    tabled : (o : Overfull limit n free bs) → it ≡ report 21 (length (firstRounds (o .rounds) bs)) (firstRounds (o .rounds) bs) → Ran
+    walked : (Overfull limit n free bs → ⊥) → Outcome asWords n free (order bs) it → Ran
+    tabled : (o : Overfull limit n free bs) → it ≡ report asWords 21 (length (firstRounds (o .rounds) bs)) (firstRounds (o .rounds) bs) → Ran
 
   pub outcome : Ran
   outcome = go ran
     where
       go : ByRounds limit n free bs (order bs) it → Ran
-      go (walks f e) = walked f (subst (λ (x : Run). Outcome n free (order bs) x) (sym e) (walk-outcome n (order bs) free))
+      go (walks f e) = walked f (subst (λ (x : Run). Outcome asWords n free (order bs) x) (sym e) (walk-outcome asWords n (order bs) free))
       go (table o e) = tabled o e
 
   -- (e)
-  not-21 : Outcome n free (order bs) it → it .answer ≡ 21 → ⊥
+  not-21 : Outcome asWords n free (order bs) it → it .answer ≡ 21 → ⊥
   unfolding report
   not-21 (done h f q) a = let b = ap (λ (x : Run). x .answer) q in omega arith
   not-21 (spent h f q) a = let b = ap (λ (x : Run). x .answer) q in omega arith
   not-21 (full f q) a = let b = ap (λ (x : Run). x .answer) q in omega arith
 
-  is-21 : (us : List Taken) → it ≡ report 21 (length us) us → it .answer ≡ 21
+  is-21 : (us : List Taken) → it ≡ report asWords 21 (length us) us → it .answer ≡ 21
   unfolding report
   is-21 us q = ap (λ (x : Run). x .answer) q
 
@@ -91,58 +92,58 @@ module _ (limit n : ℕ) (bs : List Branch) (free : ℕ) where
       go (tabled o q) = ((λ _. o), λ _. is-21 (firstRounds (o .rounds) bs) q)
 
   -- "After the rows of the rounds before."
-  pub table-is : (o : Overfull limit n free bs) → it ≡ report 21 (length (firstRounds (o .rounds) bs)) (firstRounds (o .rounds) bs)
+  pub table-is : (o : Overfull limit n free bs) → it ≡ report asWords 21 (length (firstRounds (o .rounds) bs)) (firstRounds (o .rounds) bs)
   table-is o = go outcome
     where
-      go : Ran → it ≡ report 21 (length (firstRounds (o .rounds) bs)) (firstRounds (o .rounds) bs)
+      go : Ran → it ≡ report asWords 21 (length (firstRounds (o .rounds) bs)) (firstRounds (o .rounds) bs)
       go (walked f w) = absurd (f o)
-      go (tabled p q) = q ∙ ap (λ i. report 21 (length (firstRounds i bs)) (firstRounds i bs)) (overfull-once limit n free bs p o)
+      go (tabled p q) = q ∙ ap (λ i. report asWords 21 (length (firstRounds i bs)) (firstRounds i bs)) (overfull-once limit n free bs p o)
 
   -- A row that does not fit, where the table does not stop it before.
-  pub full-is : (Overfull limit n free bs → ⊥) → (f : Full n free (order bs)) → it ≡ report 8 (suc (length (f .before))) (f .before)
+  pub full-is : (Overfull limit n free bs → ⊥) → (f : Full asWords n free (order bs)) → it ≡ report asWords 8 (suc (length (f .before))) (f .before)
   full-is c f = go ran
     where
-      go : ByRounds limit n free bs (order bs) it → it ≡ report 8 (suc (length (f .before))) (f .before)
-      go (walks _ e) = e ∙ ap (λ l. walk n l free) (f .is) ∙ walk-full n free (f .before) (f .bound) (f .after) (f .reached) (f .fit) (f .over)
+      go : ByRounds limit n free bs (order bs) it → it ≡ report asWords 8 (suc (length (f .before))) (f .before)
+      go (walks _ e) = e ∙ ap (λ l. walk asWords n l free) (f .is) ∙ walk-full asWords n free (f .before) (f .bound) (f .after) (f .reached) (f .fit) (f .over)
       go (table o e) = absurd (c o)
 
   -- The other answers, where it does not.
-  others : (a : ℕ) (C : Type 0) → (21 ≡ a → ⊥) → (Outcome n free (order bs) it → it .answer ≡ a ↔ C) → it .answer ≡ a ↔ C × (Overfull limit n free bs → ⊥)
+  others : (a : ℕ) (C : Type 0) → (21 ≡ a → ⊥) → (Outcome asWords n free (order bs) it → it .answer ≡ a ↔ C) → it .answer ≡ a ↔ C × (Overfull limit n free bs → ⊥)
   others a C d f = go outcome
     where
       go : Ran → it .answer ≡ a ↔ C × (Overfull limit n free bs → ⊥)
       go (walked g w) = ((λ e. (f w .0 e, g)), λ c. f w .1 (c .0))
       go (tabled o q) = ((λ e. absurd (d (sym (is-21 (firstRounds (o .rounds) bs) q) ∙ e))), λ c. absurd (c .1 o))
 
-  pub done-exactly : it .answer ≡ 0 ↔ ((length (order bs) ≤ n) × (Full n free (order bs) → ⊥)) × (Overfull limit n free bs → ⊥)
-  done-exactly = others 0 _ (λ e. omega arith) (answers-0 n free (order bs) it)
+  pub done-exactly : it .answer ≡ 0 ↔ ((length (order bs) ≤ n) × (Full asWords n free (order bs) → ⊥)) × (Overfull limit n free bs → ⊥)
+  done-exactly = others 0 _ (λ e. omega arith) (answers-0 asWords n free (order bs) it)
 
-  pub budget-exactly : it .answer ≡ 7 ↔ ((n < length (order bs)) × (Full n free (order bs) → ⊥)) × (Overfull limit n free bs → ⊥)
-  budget-exactly = others 7 _ (λ e. omega arith) (answers-7 n free (order bs) it)
+  pub budget-exactly : it .answer ≡ 7 ↔ ((n < length (order bs)) × (Full asWords n free (order bs) → ⊥)) × (Overfull limit n free bs → ⊥)
+  budget-exactly = others 7 _ (λ e. omega arith) (answers-7 asWords n free (order bs) it)
 
-  pub full-exactly : it .answer ≡ 8 ↔ Full n free (order bs) × (Overfull limit n free bs → ⊥)
-  full-exactly = others 8 _ (λ e. omega arith) (answers-8 n free (order bs) it)
+  pub full-exactly : it .answer ≡ 8 ↔ Full asWords n free (order bs) × (Overfull limit n free bs → ⊥)
+  full-exactly = others 8 _ (λ e. omega arith) (answers-8 asWords n free (order bs) it)
 
   -- The rows found are the first of all rows in the rounds' order, and what is written are their words.
-  table-rows : (us : List Taken) → Begins us (order bs) → it ≡ report 21 (length us) us
-      → (it .rows ≤ length (founds (order bs))) × (it .written ≡ flatMap row (take (it .rows) (founds (order bs))))
+  table-rows : (us : List Taken) → Begins us (order bs) → it ≡ report asWords 21 (length us) us
+      → (it .rows ≤ length (founds (order bs))) × (it .written ≡ flatMap (row asWords) (take (it .rows) (founds (order bs))))
   unfolding report rowsOf
   table-rows us p q =
       let f : founds (order bs) ≡ founds us ++ founds (p .others) = ap founds (p .is) ∙ founds-append us (p .others) in
-      subst (λ (x : Run). (x .rows ≤ length (founds (order bs))) × (x .written ≡ flatMap row (take (x .rows) (founds (order bs))))) (sym q) (
+      subst (λ (x : Run). (x .rows ≤ length (founds (order bs))) × (x .written ≡ flatMap (row asWords) (take (x .rows) (founds (order bs))))) (sym q) (
         omega (arith, ap length f ∙ length-append (founds us) (founds (p .others))),
-        ap (flatMap row) (sym (ap (take (length (founds us))) f ∙ take-append-seam (founds us) (founds (p .others)))),
+        ap (flatMap (row asWords)) (sym (ap (take (length (founds us))) f ∙ take-append-seam (founds us) (founds (p .others)))),
       )
 
-  pub rows-first : (it .rows ≤ length (founds (order bs))) × (it .written ≡ flatMap row (take (it .rows) (founds (order bs))))
+  pub rows-first : (it .rows ≤ length (founds (order bs))) × (it .written ≡ flatMap (row asWords) (take (it .rows) (founds (order bs))))
   rows-first = go outcome
     where
-      go : Ran → (it .rows ≤ length (founds (order bs))) × (it .written ≡ flatMap row (take (it .rows) (founds (order bs))))
-      go (walked f w) = first-rows n free (order bs) it w
+      go : Ran → (it .rows ≤ length (founds (order bs))) × (it .written ≡ flatMap (row asWords) (take (it .rows) (founds (order bs))))
+      go (walked f w) = first-rows asWords n free (order bs) it w
       go (tabled o q) = table-rows (firstRounds (o .rounds) bs) (order-begins (o .rounds) bs) q
 
   -- No more steps than there are states.
-  table-steps : (us : List Taken) → Begins us (order bs) → it ≡ report 21 (length us) us → it .steps ≤ length (order bs)
+  table-steps : (us : List Taken) → Begins us (order bs) → it ≡ report asWords 21 (length us) us → it .steps ≤ length (order bs)
   unfolding report
   table-steps us p q = omega (arith, ap (λ (x : Run). x .steps) q, ap length (p .is) ∙ length-append us (p .others))
 
@@ -150,30 +151,30 @@ module _ (limit n : ℕ) (bs : List Branch) (free : ℕ) where
   steps-first = go outcome
     where
       go : Ran → it .steps ≤ length (order bs)
-      go (walked f w) = steps-most n free (order bs) it w
+      go (walked f w) = steps-most asWords n free (order bs) it w
       go (tabled o q) = table-steps (firstRounds (o .rounds) bs) (order-begins (o .rounds) bs) q
 
   -- Where nothing stops it, all rows and all steps.
-  all-walked : Outcome n free (order bs) it → it .answer ≡ 0 → it ≡ report 0 (length (order bs)) (order bs)
+  all-walked : Outcome asWords n free (order bs) it → it .answer ≡ 0 → it ≡ report asWords 0 (length (order bs)) (order bs)
   unfolding report
   all-walked (done h f q) a = q
   all-walked (spent h f q) a = let b = ap (λ (x : Run). x .answer) q in absurd (omega arith)
   all-walked (full f q) a = let b = ap (λ (x : Run). x .answer) q in absurd (omega arith)
 
-  pub all-found : it .answer ≡ 0 → it ≡ report 0 (length (order bs)) (order bs)
+  pub all-found : it .answer ≡ 0 → it ≡ report asWords 0 (length (order bs)) (order bs)
   all-found a = go outcome
     where
-      go : Ran → it ≡ report 0 (length (order bs)) (order bs)
+      go : Ran → it ≡ report asWords 0 (length (order bs)) (order bs)
       go (walked f w) = all-walked w a
       go (tabled o q) = let b = is-21 (firstRounds (o .rounds) bs) q in absurd (omega arith)
 
   -- With budget and room for all of them, only the table can stop it.
-  pub enough : length (order bs) ≤ n → length (rowsOf (order bs)) ≤ free → (it .answer ≡ 0) ⊎ (it .answer ≡ 21)
+  pub enough : length (order bs) ≤ n → length (rowsOf asWords (order bs)) ≤ free → (it .answer ≡ 0) ⊎ (it .answer ≡ 21)
   enough h k = go outcome
     where
       go : Ran → (it .answer ≡ 0) ⊎ (it .answer ≡ 21)
-      go (walked f w) = inl (done-exactly .1 ((h, λ x. over (full-rows n free (order bs) x .1)), f))
+      go (walked f w) = inl (done-exactly .1 ((h, λ x. over (full-rows asWords n free (order bs) x .1)), f))
         where
-          over : free < length (rowsOf (order bs)) → ⊥
+          over : free < length (rowsOf asWords (order bs)) → ⊥
           over x = omega arith
       go (tabled o q) = inr (table-exactly .1 o)

@@ -5,10 +5,11 @@ use mathlib.Core.Bool.{true, false}
 use mathlib.Core.List.{List, [], _∷_, _++_, flatMap}
 use lib.ListN.{length}
 use lib.Dec.{leb}
-use Rattle.rules.specs.Forms.{Matcher, Value}
+use Rattle.rules.specs.Forms.{Matcher}
 use Rattle.rules.specs.Forms.{Pattern, wildcard, variable, constant, value, nil, cons, join, tuple, both, either, never}
-use Rattle.rules.specs.Equality.{Bindings}
-use Rattle.rules.specs.Search.{Atom, atom, endOfNot, State, state, dropIf, after, row, Run, stopped, step, rowStep}
+use Rattle.rules.specs.Origins.{Valueᵒ, Bindings}
+use Rattle.rules.specs.Rows.{asWords, row}
+use Rattle.rules.specs.Search.{Atom, atom, endOfNot, State, state, dropIf, after, Run, stopped, step, rowStep}
 use Rattle.rules.specs.Following.{noSolution, solve}
 use Rattle.round_rules.specs.Rounds.{Branch, branch, remainders, waiting}
 use Rattle.promises.specs.Trace.{Taken, passed, found, trace}
@@ -27,11 +28,11 @@ one ss = record { taken = passed ∷ []; next = ss }
 
 -- A not is taken up whole: its own state and those of the search inside it, which is depth-first, ends at its first row and writes nothing. "One state
 -- if p has no good way from the bindings held, else none."
-unfoldable pub whole : Pattern → Matcher → Value → (older : List Atom) → Bindings → Step
+unfoldable pub whole : Pattern → Matcher → Valueᵒ → (older : List Atom) → Bindings → Step
 unfolding trace solve noSolution dropIf
 whole p m v older e = record { taken = passed ∷ trace (inner p m v e ∷ []); next = dropIf (noSolution (solve p m v e)) older e }
 
-unfoldable pub upAtom : Pattern → Matcher → Value → (older : List Atom) → Bindings → Step
+unfoldable pub upAtom : Pattern → Matcher → Valueᵒ → (older : List Atom) → Bindings → Step
 unfolding one whole after
 upAtom wildcard m v older e = one (after wildcard m v older e)
 upAtom (variable x) m v older e = one (after (variable x) m v older e)
@@ -76,8 +77,8 @@ unfolding stopped step rowStep row
 through n [] free rest = rest n free
 through zero (t ∷ ts) free rest = stopped 7 0
 through (suc n) (passed ∷ ts) free rest = step (through n ts free rest)
-through (suc n) (found e ∷ ts) free rest = elim (leb (length (row e)) free) [
-  | true ↦ rowStep (row e) (through n ts (free - length (row e)) rest)
+through (suc n) (found e ∷ ts) free rest = elim (leb (length (row asWords e)) free) [
+  | true ↦ rowStep (row asWords e) (through n ts (free - length (row asWords e)) rest)
   | false ↦ stopped 8 1
 ]
 

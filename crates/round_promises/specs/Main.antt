@@ -10,8 +10,9 @@ use mathlib.Core.List.{List, [], _∷_, _++_, map, flatMap}
 use lib.ListN.{length, take, drop}
 use lib.IntN.{ℤ}
 use Rattle.rules.specs.Forms.{Matcher, Pattern, never, Value}
-use Rattle.rules.specs.Equality.{Bindings}
-use Rattle.rules.specs.Search.{Atom, state, after, row}
+use Rattle.rules.specs.Origins.{Valueᵒ, Bindings}
+use Rattle.rules.specs.Rows.{asWords, row}
+use Rattle.rules.specs.Search.{Atom, state, after}
 use Rattle.rules.specs.Ways.{Way, Follows}
 use Rattle.rules.specs.Review.{factor}
 use Rattle.rules.specs.Services.{accepted, Rule, ruleOf, targetOf, Matched, carriedOut, match}
@@ -40,7 +41,7 @@ rounds-determined ms ps ts table budget room x y p q = p ∙ sym q
 
 -- ---- A not is taken up whole, its states counted at once: "one state if p has no good way from the bindings held, else none".
 
-module _ (p : Pattern) (m : Matcher) (v : Value) (older : List Atom) (e : Bindings) (n : ℕ) where
+module _ (p : Pattern) (m : Matcher) (v : Valueᵒ) (older : List Atom) (e : Bindings) (n : ℕ) where
   pub not-without-way : ((w : Way) (d : Bindings) → Follows p m v e w d → ⊥) → length (searchOf p m v e) ≤ n
       → inside n (after (never p) m v older e) ≡ left (length (searchOf p m v e)) (state false older e ∷ [])
   not-without-way h = one-follows p m v older e h n
@@ -118,7 +119,7 @@ module _ (ms ps ts : List ℤ) (r : Rule) (v : Value) (rule : ruleOf ms ps ≡ a
     at-every-budget = outcome limit budget (beginning r v) free
 
     -- The rows stand whole from the start of the room, in the order of the rounds, and every word after them is untouched.
-    pub room-holds : (it .rows ≤ length (founds (inRounds r v))) × (it .room ≡ flatMap row (take (it .rows) (founds (inRounds r v))) ++ drop (it .words) room)
+    pub room-holds : (it .rows ≤ length (founds (inRounds r v))) × (it .room ≡ flatMap (row asWords) (take (it .rows) (founds (inRounds r v))) ++ drop (it .words) room)
     room-holds = first-found ms ps ts table budget room r v sane
 
     -- ---- "21, table, exactly when a round would begin with more than 256 waiting states or more than the lent table holds", "7 and 8 come first".
@@ -128,22 +129,22 @@ module _ (ms ps ts : List ℤ) (r : Rule) (v : Value) (rule : ruleOf ms ps ≡ a
 
     -- "After the rows of the rounds before."
     pub table-is : (o : Overfull limit budget free (beginning r v))
-        → it ≡ carriedOut (report 21 (length (firstRounds (o .rounds) (beginning r v))) (firstRounds (o .rounds) (beginning r v))) room
+        → it ≡ carriedOut (report asWords 21 (length (firstRounds (o .rounds) (beginning r v))) (firstRounds (o .rounds) (beginning r v))) room
     table-is = table-stands ms ps ts table budget room r v sane
 
     pub done-exactly : it .answer ≡ 0
-        ↔ ((length (inRounds r v) ≤ budget) × (Full budget free (inRounds r v) → ⊥)) × (Overfull limit budget free (beginning r v) → ⊥)
+        ↔ ((length (inRounds r v) ≤ budget) × (Full asWords budget free (inRounds r v) → ⊥)) × (Overfull limit budget free (beginning r v) → ⊥)
     done-exactly = answer-0 ms ps ts table budget room r v sane
 
     pub budget-exactly : it .answer ≡ 7
-        ↔ ((budget < length (inRounds r v)) × (Full budget free (inRounds r v) → ⊥)) × (Overfull limit budget free (beginning r v) → ⊥)
+        ↔ ((budget < length (inRounds r v)) × (Full asWords budget free (inRounds r v) → ⊥)) × (Overfull limit budget free (beginning r v) → ⊥)
     budget-exactly = answer-7 ms ps ts table budget room r v sane
 
-    pub full-exactly : it .answer ≡ 8 ↔ Full budget free (inRounds r v) × (Overfull limit budget free (beginning r v) → ⊥)
+    pub full-exactly : it .answer ≡ 8 ↔ Full asWords budget free (inRounds r v) × (Overfull limit budget free (beginning r v) → ⊥)
     full-exactly = answer-8 ms ps ts table budget room r v sane
 
-    pub full-is : (Overfull limit budget free (beginning r v) → ⊥) → (f : Full budget free (inRounds r v))
-        → it ≡ carriedOut (report 8 (suc (length (f .before))) (f .before)) room
+    pub full-is : (Overfull limit budget free (beginning r v) → ⊥) → (f : Full asWords budget free (inRounds r v))
+        → it ≡ carriedOut (report asWords 8 (suc (length (f .before))) (f .before)) room
     full-is = full-stands ms ps ts table budget room r v sane
 
     -- ---- "And demand 3 apart from 21."

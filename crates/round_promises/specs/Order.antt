@@ -4,7 +4,7 @@ use native.Mathlib.Omega.{arith}
 use mathlib.Core.Path.{_≡_, refl, sym, ap, ap₂, _∙_, subst}
 use mathlib.Core.List.{List, [], _∷_, _++_, flatMap, append-nil, append-assoc, List·Permᴰ·trans, Permᴰ·append-left, Permᴰ·append-right}
 use lib.ListN.{length, length-append}
-use Rattle.rules.specs.Equality.{Bindings}
+use Rattle.rules.specs.Origins.{Bindings}
 use Rattle.rules.specs.Search.{State}
 use Rattle.forms.specs.Lists.{flatMap-append, flatMap-flatMap, flatMap-cong}
 use Rattle.promises.specs.Trace.{Taken, passed, found}

@@ -8,6 +8,7 @@ use mathlib.Core.Bool.{Bool, true, false}
 use mathlib.Core.List.{List, [], _∷_, _++_, append-assoc}
 use lib.ListN.{length, length-append}
 use lib.Dec.{T, leb, leb→le, le→leb}
+use Rattle.rules.specs.Rows.{asWords}
 use Rattle.rules.specs.Search.{Run, stopped}
 use Rattle.promises.specs.Trace.{Taken, passed, found, walk}
 use Rattle.promises.specs.Solve.{no-cons, founds}
@@ -24,12 +25,12 @@ pub record Overfull (limit n free : ℕ) (bs : List Branch) : Type 0 where
   pub before : (j : ℕ) → j < rounds → waiting (later j bs) ≤ limit
   pub over : limit < waiting (later rounds bs)
   pub reached : length (firstRounds rounds bs) < n
-  pub fit : length (rowsOf (firstRounds rounds bs)) ≤ free
+  pub fit : length (rowsOf asWords (firstRounds rounds bs)) ≤ free
 
 -- A run by rounds over the lists bs, with an order ts of all rounds: it walks along that order, or the table stops it.
 pub data ByRounds (limit n free : ℕ) (bs : List Branch) (ts : List Taken) (r : Run) : Type 0 where
-  walks : (Overfull limit n free bs → ⊥) → r ≡ walk n ts free → ByRounds limit n free bs ts r
-  table : (o : Overfull limit n free bs) → r ≡ report 21 (length (firstRounds (o .rounds) bs)) (firstRounds (o .rounds) bs) → ByRounds limit n free bs ts r
+  walks : (Overfull limit n free bs → ⊥) → r ≡ walk asWords n ts free → ByRounds limit n free bs ts r
+  table : (o : Overfull limit n free bs) → r ≡ report asWords 21 (length (firstRounds (o .rounds) bs)) (firstRounds (o .rounds) bs) → ByRounds limit n free bs ts r
 
 -- ---- No state waits.
 
@@ -47,24 +48,24 @@ module _ (limit n free : ℕ) (b : Branch) (bs : List Branch) (fits : waiting (b
   unfolding firstRounds
   longer k = length-append (round now) (firstRounds k (onward now))
 
-  more : (k : ℕ) → length (rowsOf (firstRounds (suc k) now)) ≡ length (rowsOf (round now)) + length (rowsOf (firstRounds k (onward now)))
+  more : (k : ℕ) → length (rowsOf asWords (firstRounds (suc k) now)) ≡ length (rowsOf asWords (round now)) + length (rowsOf asWords (firstRounds k (onward now)))
   unfolding firstRounds
-  more k = ap length (rows-append (round now) (firstRounds k (onward now))) ∙ length-append (rowsOf (round now)) (rowsOf (firstRounds k (onward now)))
+  more k = ap length (rows-append asWords (round now) (firstRounds k (onward now))) ∙ length-append (rowsOf asWords (round now)) (rowsOf asWords (firstRounds k (onward now)))
 
   -- Where the budget or the room stops it among the states of the round, the table does not.
-  stops-first : (n < length (round now)) ⊎ (free < length (rowsOf (round now))) → Overfull limit n free now → ⊥
+  stops-first : (n < length (round now)) ⊎ (free < length (rowsOf asWords (round now))) → Overfull limit n free now → ⊥
   unfolding later
   stops-first h o = go (o .rounds) (o .over) (o .reached) (o .fit) h
     where
-      go : (k : ℕ) → limit < waiting (later k now) → length (firstRounds k now) < n → length (rowsOf (firstRounds k now)) ≤ free
-          → (n < length (round now)) ⊎ (free < length (rowsOf (round now))) → ⊥
+      go : (k : ℕ) → limit < waiting (later k now) → length (firstRounds k now) < n → length (rowsOf asWords (firstRounds k now)) ≤ free
+          → (n < length (round now)) ⊎ (free < length (rowsOf asWords (round now))) → ⊥
       go zero x y z h = omega arith
       go (suc k) x y z (inl h) = omega (arith, longer k)
       go (suc k) x y z (inr h) = omega (arith, more k)
 
   -- Else it does where it does so later.
-  module _ (h : length (round now) ≤ n) (k : length (rowsOf (round now)) ≤ free) where
-    onwards : Overfull limit (n - length (round now)) (free - length (rowsOf (round now))) (onward now) → Overfull limit n free now
+  module _ (h : length (round now) ≤ n) (k : length (rowsOf asWords (round now)) ≤ free) where
+    onwards : Overfull limit (n - length (round now)) (free - length (rowsOf asWords (round now))) (onward now) → Overfull limit n free now
     unfolding later
     onwards o = record {
       rounds = suc (o .rounds);
@@ -78,12 +79,12 @@ module _ (limit n free : ℕ) (b : Branch) (bs : List Branch) (fits : waiting (b
         go f zero i = fits
         go f (suc j) i = f j (le-of-suc-le-suc i)
 
-    back : Overfull limit n free now → Overfull limit (n - length (round now)) (free - length (rowsOf (round now))) (onward now)
+    back : Overfull limit n free now → Overfull limit (n - length (round now)) (free - length (rowsOf asWords (round now))) (onward now)
     unfolding later
     back o = go (o .rounds) (o .before) (o .over) (o .reached) (o .fit)
       where
         go : (i : ℕ) → ((j : ℕ) → j < i → waiting (later j now) ≤ limit) → limit < waiting (later i now) → length (firstRounds i now) < n
-            → length (rowsOf (firstRounds i now)) ≤ free → Overfull limit (n - length (round now)) (free - length (rowsOf (round now))) (onward now)
+            → length (rowsOf asWords (firstRounds i now)) ≤ free → Overfull limit (n - length (round now)) (free - length (rowsOf asWords (round now))) (onward now)
         go zero f x y z = absurd (clash x)
           where
             clash : limit < waiting now → ⊥
@@ -98,33 +99,33 @@ module _ (limit n free : ℕ) (b : Branch) (bs : List Branch) (fits : waiting (b
 
   -- What the round is followed by, `rest`, goes by rounds; so does the whole.
   one-round : (ts : List Taken) (rest : ℕ → ℕ → Run) → Passage n (round now) free
-      → (length (round now) ≤ n → ByRounds limit (n - length (round now)) (free - length (rowsOf (round now))) (onward now) ts
-      (rest (n - length (round now)) (free - length (rowsOf (round now)))))
+      → (length (round now) ≤ n → ByRounds limit (n - length (round now)) (free - length (rowsOf asWords (round now))) (onward now) ts
+      (rest (n - length (round now)) (free - length (rowsOf asWords (round now)))))
       → ByRounds limit n free now (round now ++ ts) (through n (round now) free rest)
   unfolding onwards firstRounds
-  one-round ts rest (stops h q) w = walks (stops-first h) (q rest (λ left room. walk left ts room) ∙ sym (walk-through n (round now) ts free))
+  one-round ts rest (stops h q) w = walks (stops-first h) (q rest (λ left room. walk asWords left ts room) ∙ sym (walk-through n (round now) ts free))
   one-round ts rest (passes h k q) w = go (w h)
     where
-      go : ByRounds limit (n - length (round now)) (free - length (rowsOf (round now))) (onward now) ts
-          (rest (n - length (round now)) (free - length (rowsOf (round now)))) → ByRounds limit n free now (round now ++ ts) (through n (round now) free rest)
+      go : ByRounds limit (n - length (round now)) (free - length (rowsOf asWords (round now))) (onward now) ts
+          (rest (n - length (round now)) (free - length (rowsOf asWords (round now)))) → ByRounds limit n free now (round now ++ ts) (through n (round now) free rest)
       go (walks never e) = walks (λ o. never (back h k o))
-          (q rest ∙ ap (behind (round now)) e ∙ sym (q (λ left room. walk left ts room)) ∙ sym (walk-through n (round now) ts free))
+          (q rest ∙ ap (behind (round now)) e ∙ sym (q (λ left room. walk asWords left ts room)) ∙ sym (walk-through n (round now) ts free))
       go (table o e) = table (onwards h k o) (q rest ∙ ap (behind (round now)) e ∙ behind-report 21 (round now) (firstRounds (o .rounds) (onward now)))
 
 -- ---- All rounds.
 
-none-left : (k n free : ℕ) → stopped 0 0 ≡ walk n (firstRounds k []) free
+none-left : (k n free : ℕ) → stopped 0 0 ≡ walk asWords n (firstRounds k []) free
 unfolding walk
 none-left k zero free = rw (none-taken k)
 none-left k (suc n) free = rw (none-taken k)
 
 -- With no budget left and states that wait.
-spent : (k free : ℕ) (b : Branch) (bs : List Branch) → later k (b ∷ bs) ≡ [] → stopped 7 0 ≡ walk 0 (firstRounds k (b ∷ bs)) free
+spent : (k free : ℕ) (b : Branch) (bs : List Branch) → later k (b ∷ bs) ≡ [] → stopped 7 0 ≡ walk asWords 0 (firstRounds k (b ∷ bs)) free
 unfolding later firstRounds walk stopped
 spent zero free b bs e = no-cons e
 spent (suc k) free b bs e = go (round (b ∷ bs)) (round-some b bs)
   where
-    go : (ts : List Taken) → 1 ≤ length ts → stopped 7 0 ≡ walk 0 (ts ++ firstRounds k (onward (b ∷ bs))) free
+    go : (ts : List Taken) → 1 ≤ length ts → stopped 7 0 ≡ walk asWords 0 (ts ++ firstRounds k (onward (b ∷ bs))) free
     go [] h = absurd (not-suc-le-zero h)
     go (t ∷ ts) h = refl
 
@@ -142,11 +143,11 @@ by-rounds (suc r) k limit zero (b ∷ bs) free h e = walks (not-spent limit free
 by-rounds (suc r) zero limit (suc n) (b ∷ bs) free h e = no-cons e
 by-rounds (suc r) (suc k) limit (suc n) (b ∷ bs) free h e =
     go (leb (waiting (b ∷ bs)) limit) (leb→le (waiting (b ∷ bs)) limit) (le→leb (waiting (b ∷ bs)) limit)
-    (λ i. by-rounds r k limit (suc n - length (round (b ∷ bs))) (onward (b ∷ bs)) (free - length (rowsOf (round (b ∷ bs)))) (omega (arith, round-some b bs)) e)
+    (λ i. by-rounds r k limit (suc n - length (round (b ∷ bs))) (onward (b ∷ bs)) (free - length (rowsOf asWords (round (b ∷ bs)))) (omega (arith, round-some b bs)) e)
   where
     go : (c : Bool) → (T c → waiting (b ∷ bs) ≤ limit) → (waiting (b ∷ bs) ≤ limit → T c)
-        → (length (round (b ∷ bs)) ≤ suc n → ByRounds limit (suc n - length (round (b ∷ bs))) (free - length (rowsOf (round (b ∷ bs)))) (onward (b ∷ bs))
-        (firstRounds k (onward (b ∷ bs))) (byLists r limit (suc n - length (round (b ∷ bs))) (onward (b ∷ bs)) (free - length (rowsOf (round (b ∷ bs))))))
+        → (length (round (b ∷ bs)) ≤ suc n → ByRounds limit (suc n - length (round (b ∷ bs))) (free - length (rowsOf asWords (round (b ∷ bs)))) (onward (b ∷ bs))
+        (firstRounds k (onward (b ∷ bs))) (byLists r limit (suc n - length (round (b ∷ bs))) (onward (b ∷ bs)) (free - length (rowsOf asWords (round (b ∷ bs))))))
         → ByRounds limit (suc n) free (b ∷ bs) (round (b ∷ bs) ++ firstRounds k (onward (b ∷ bs)))
         (elim c as (λ _. Run) [
           | true ↦ through (suc n) (round (b ∷ bs)) free (λ left room. byLists r limit left (onward (b ∷ bs)) room)

@@ -8,11 +8,13 @@ use mathlib.Core.Bool.{Bool, true, false, _||_}
 use mathlib.Core.List.{List, [], _∷_, _++_, map, flatMap, append-nil, append-assoc}
 use lib.ListN.{length}
 use lib.Dec.{T, leb, leb→le, le→leb}
-use Rattle.rules.specs.Forms.{Matcher, Value}
+use Rattle.rules.specs.Forms.{Matcher}
+use Rattle.rules.specs.Origins.{Valueᵒ, Bindings}
 use Rattle.rules.specs.Forms.{Pattern, wildcard, variable, constant, value, nil, cons, join, tuple, both, either, never}
 use Rattle.rules.specs.Fit.{members, isSomething}
-use Rattle.rules.specs.Equality.{Bindings, isConstant, isValue, isEmpty}
-use Rattle.rules.specs.Search.{Atom, atom, endOfNot, State, state, consHalves, joinHalves, dropIf, after, leaveNot, row, Run, stopped, step, rowStep}
+use Rattle.rules.specs.Equality.{isConstant, isValue, isEmpty}
+use Rattle.rules.specs.Rows.{asWords, row}
+use Rattle.rules.specs.Search.{Atom, atom, endOfNot, State, state, consHalves, joinHalves, dropIf, after, leaveNot, Run, stopped, step, rowStep}
 use Rattle.rules.specs.Following.{Solution, noSolution, solve}
 use Rattle.round_rules.specs.Rounds.{Branch, branch, remainders, waiting, marked, anyMarked, searching, onFirst, unmarked, Inside, spent, left, oneMore, inside}
 use Rattle.round_rules.specs.Rounds.{steps, past, takeUp, takeRound, byRounds}
@@ -30,7 +32,7 @@ unfolding met
 met-append ms [] ss = refl
 met-append ms (state g older e ∷ rs) ss = met-append (behind g ms (visitAll older e)) rs ss
 
-met-atom : (g : Bool) (p : Pattern) (m : Matcher) (v : Value) (older : List Atom) (e : Bindings) (ss : List State)
+met-atom : (g : Bool) (p : Pattern) (m : Matcher) (v : Valueᵒ) (older : List Atom) (e : Bindings) (ss : List State)
     → met [] (state g (atom p m v ∷ older) e ∷ ss) ≡ pass ∷ met [] (after p m v older e ++ ss)
 met-atom g p m v older e ss = met-first g (atom p m v ∷ older) e ss ∙ ap (λ r. met r ss) (tree p m v older e) ∙ met-cons passed (met [] (after p m v older e)) ss
     ∙ ap {B = List Met} (λ r. pass ∷ r) (sym (met-append [] (after p m v older e) ss))
@@ -166,7 +168,7 @@ module _ (last : Bindings) (older : List Atom) where
 
 -- ---- A not, by the budget: too short for the search inside it, or enough.
 
-module _ (p : Pattern) (m : Matcher) (v : Value) (older : List Atom) (e : Bindings) where
+module _ (p : Pattern) (m : Matcher) (v : Valueᵒ) (older : List Atom) (e : Bindings) where
   abbrev search : List Taken
   search = trace (inner p m v e ∷ [])
 
@@ -250,7 +252,7 @@ at-once zero ss u = ap (λ b. elim b as (λ _. Inside) [ true ↦ spent | false 
 at-once (suc n) ss u = ap (λ b. elim b as (λ _. Inside) [ true ↦ oneMore (inside n (onFirst ss)) | false ↦ left 0 (map unmarked ss) ]) (not-searching ss u)
     ∙ ap (left 0) (all-unmarked ss u)
 
-module _ (n : ℕ) (m : Matcher) (v : Value) (older : List Atom) (e : Bindings) (free : ℕ) (next : ℕ → List State → ℕ → Run) where
+module _ (n : ℕ) (m : Matcher) (v : Valueᵒ) (older : List Atom) (e : Bindings) (free : ℕ) (next : ℕ → List State → ℕ → Run) where
   atom-told : (p : Pattern) → Taking m v older e p → step (past n (inside n (after p m v older e)) free next)
       ≡ through (suc n) (upAtom p m v older e .taken) free (λ i room. next i (upAtom p m v older e .next) room)
   unfolding past through one upAtom whole
@@ -286,7 +288,7 @@ through-append n [] us free f = refl
 through-append zero (t ∷ ts) us free f = refl
 through-append (suc n) (passed ∷ ts) us free f = ap step (through-append n ts us free f)
 through-append (suc n) (found e ∷ ts) us free f =
-    ap (λ z. elim (leb (length (row e)) free) as (λ _. Run) [ true ↦ rowStep (row e) z | false ↦ stopped 8 1 ]) (through-append n ts us (free - length (row e)) f)
+    ap (λ z. elim (leb (length (row asWords e)) free) as (λ _. Run) [ true ↦ rowStep (row asWords e) z | false ↦ stopped 8 1 ]) (through-append n ts us (free - length (row asWords e)) f)
 
 through-none : (ts us : List Taken) (free : ℕ) (f : ℕ → ℕ → Run) → 1 ≤ length ts → stopped 7 0 ≡ through 0 (ts ++ us) free f
 unfolding through

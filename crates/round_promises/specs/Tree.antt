@@ -5,10 +5,12 @@ use mathlib.Core.Path.{_≡_, refl, sym, ap, ap₂, _∙_}
 use mathlib.Core.Bool.{Bool, true, false}
 use mathlib.Core.List.{List, [], _∷_, _++_, map, flatMap, append-nil, append-assoc}
 use lib.ListN.{length}
-use Rattle.rules.specs.Forms.{Matcher, Value, int, collection, tupled, Patterns, Matchers}
+use Rattle.rules.specs.Forms.{Matcher, Value, Patterns, Matchers}
+use Rattle.rules.specs.Origins.{Valueᵒ, intᵒ, collectionᵒ, tupledᵒ, Bindings, target}
+use Rattle.rules.specs.Origins as origins
 use Rattle.rules.specs.Forms.{Pattern, wildcard, variable, constant, value, nil, cons, join, tuple, both, either, never}
 use Rattle.rules.specs.Fit.{members, isSomething}
-use Rattle.rules.specs.Equality.{Bindings, isConstant, isValue, isEmpty}
+use Rattle.rules.specs.Equality.{isConstant, isValue, isEmpty}
 use Rattle.rules.specs.Search.{Halves, consHalves, joinHalves, Atom, atom, endOfNot, State, state, dropIf, apart, after, start}
 use Rattle.rules.specs.Following.{Solution, noSolution, solve}
 use Rattle.promises.specs.Trace.{Taken, passed, found, Met, taken, ended, pass, inside, visit, visitAll, met, close, trace, tree}
@@ -66,24 +68,24 @@ unfolding Unmarked
 leaf-unmarked true xs ys d e = tt
 leaf-unmarked false xs ys d e = tt
 
-apart-unmarked : (ps : Patterns) (ms : Matchers) (v : Value) (older : List Atom) (e : Bindings) → Unmarked (apart ps ms v older e)
+apart-unmarked : (ps : Patterns) (ms : Matchers) (v : Valueᵒ) (older : List Atom) (e : Bindings) → Unmarked (apart ps ms v older e)
 unfolding Unmarked apart
-apart-unmarked ps ms (int x) older e = tt
-apart-unmarked ps ms (collection vs) older e = tt
-apart-unmarked ps ms (tupled vs) older e = tt
+apart-unmarked ps ms (intᵒ o x) older e = tt
+apart-unmarked ps ms (collectionᵒ o vs) older e = tt
+apart-unmarked ps ms (tupledᵒ o vs) older e = tt
 
 -- An atom is taken up in one step, and none of the states that follow waits behind a search; or it is a not.
-pub data Taking (m : Matcher) (v : Value) (older : List Atom) (e : Bindings) : Pattern → Type 0 where
+pub data Taking (m : Matcher) (v : Valueᵒ) (older : List Atom) (e : Bindings) : Pattern → Type 0 where
   plain : {p : Pattern} → upAtom p m v older e ≡ one (after p m v older e) → Unmarked (after p m v older e) → Taking m v older e p
   denied : (p : Pattern) → Taking m v older e (never p)
 
-pub taking : (p : Pattern) (m : Matcher) (v : Value) (older : List Atom) (e : Bindings) → Taking m v older e p
+pub taking : (p : Pattern) (m : Matcher) (v : Valueᵒ) (older : List Atom) (e : Bindings) → Taking m v older e p
 unfolding upAtom after Unmarked
 taking wildcard m v older e = plain refl (leaf-unmarked (isSomething m) _ _ _ _)
 taking (variable x) m v older e = plain refl (leaf-unmarked (isSomething m) _ _ _ _)
-taking (constant c) m v older e = plain refl (test-unmarked (isConstant c v) older e)
-taking (value x c) m v older e = plain refl (test-unmarked (isValue m e x c v) older e)
-taking nil m v older e = plain refl (test-unmarked (isEmpty v) older e)
+taking (constant c) m v older e = plain refl (test-unmarked (isConstant c (origins.plain v)) older e)
+taking (value x c) m v older e = plain refl (test-unmarked (isValue m (map origins.plain e) x c (origins.plain v)) older e)
+taking nil m v older e = plain refl (test-unmarked (isEmpty (origins.plain v)) older e)
 taking (cons p q) m v older e = plain refl (each-unmarked _ e (consHalves m v))
 taking (join p q) m v older e = plain refl (each-unmarked _ e (joinHalves v))
 taking (tuple ps) m v older e = plain refl (apart-unmarked ps (members m) v older e)
@@ -93,7 +95,7 @@ taking (never p) m v older e = denied p
 
 -- ---- The law, for such an atom and for a not.
 
-one-law : (p : Pattern) (m : Matcher) (v : Value) (older : List Atom) (e : Bindings) → Unmarked (after p m v older e)
+one-law : (p : Pattern) (m : Matcher) (v : Valueᵒ) (older : List Atom) (e : Bindings) → Unmarked (after p m v older e)
     → spread (visitAll (atom p m v ∷ older) e) ≡ passed ∷ flatMap comes (after p m v older e)
 unfolding spread
 one-law p m v older e u = ap spread (tree p m v older e) ∙ ap {B = List Taken} (λ r. passed ∷ r) (spread-met [] (after p m v older e) u)
@@ -118,13 +120,13 @@ unfolding noSolution dropIf flatMap comes
 whole-law ms [] older e h = within-none ms (visitAll older e) h ∙ ap {B = List Taken} (λ r. close ms ++ r) (sym (append-nil (spread (visitAll older e))))
 whole-law ms (s ∷ ss) older e h = within-end ms (visitAll older e) _ h
 
-not-law : (p : Pattern) (m : Matcher) (v : Value) (older : List Atom) (e : Bindings)
+not-law : (p : Pattern) (m : Matcher) (v : Valueᵒ) (older : List Atom) (e : Bindings)
     → spread (visitAll (atom (never p) m v ∷ older) e) ≡ whole p m v older e .taken ++ flatMap comes (whole p m v older e .next)
 unfolding spread visitAll visit whole trace met stops
 not-law p m v older e = ap {B = List Taken} (λ r. passed ∷ r)
     (whole-law (visit p m v e (λ d. ended ∷ [])) (solve p m v e) older e (stops-visit p m v e (λ d. ended ∷ [])))
 
-atom-law : (p : Pattern) (m : Matcher) (v : Value) (older : List Atom) (e : Bindings) → Taking m v older e p
+atom-law : (p : Pattern) (m : Matcher) (v : Valueᵒ) (older : List Atom) (e : Bindings) → Taking m v older e p
     → spread (visitAll (atom p m v ∷ older) e) ≡ upAtom p m v older e .taken ++ flatMap comes (upAtom p m v older e .next)
 unfolding one upAtom
 atom-law p m v older e (plain q u) = one-law p m v older e u ∙ sym (ap (λ (x : Step). x .taken ++ flatMap comes (x .next)) q)
@@ -138,7 +140,7 @@ comes-up (state g (endOfNot ∷ older) e) = refl
 comes-up (state g (atom p m v ∷ older) e) = atom-law p m v older e (taking p m v older e)
 
 -- Something is taken up with every state.
-atom-some : (p : Pattern) (m : Matcher) (v : Value) (older : List Atom) (e : Bindings) → Taking m v older e p → 1 ≤ length (upAtom p m v older e .taken)
+atom-some : (p : Pattern) (m : Matcher) (v : Valueᵒ) (older : List Atom) (e : Bindings) → Taking m v older e p → 1 ≤ length (upAtom p m v older e .taken)
 unfolding one upAtom whole
 atom-some p m v older e (plain q u) = let k = ap (λ (x : Step). length (x .taken)) q in omega arith
 atom-some _ m v older e (denied p) = omega arith
@@ -162,4 +164,4 @@ spread-close (ended ∷ ms) (s ∷ ss) h = not-ended (sym h)
 
 pub comes-start : (m : Matcher) (p : Pattern) (v : Value) → comes (start m p v) ≡ trace (start m p v ∷ [])
 unfolding comes start visitAll trace met stops
-comes-start m p v = spread-close (visit p m v [] (λ d. taken (found d) ∷ [])) (solve p m v []) (stops-visit p m v [] (λ d. taken (found d) ∷ []))
+comes-start m p v = spread-close (visit p m (target v) [] (λ d. taken (found d) ∷ [])) (solve p m (target v) []) (stops-visit p m (target v) [] (λ d. taken (found d) ∷ []))

@@ -10,8 +10,9 @@ use lib.ListN.{length, length-map, take, drop}
 use lib.Dec.{T, leb, leb→le, le→leb}
 use lib.IntN.{ℤ}
 use Rattle.rules.specs.Forms.{Matcher, Pattern, never, Value, size}
-use Rattle.rules.specs.Equality.{Bindings}
-use Rattle.rules.specs.Search.{Atom, state, dropIf, after, row, Run, start}
+use Rattle.rules.specs.Origins.{Valueᵒ, Bindings, target}
+use Rattle.rules.specs.Rows.{asWords, row}
+use Rattle.rules.specs.Search.{Atom, state, dropIf, after, Run, start}
 use Rattle.rules.specs.Ways.{Way, Follows}
 use Rattle.rules.specs.Following.{Solution, noSolution, solve}
 use Rattle.rules.specs.Review.{factor}
@@ -25,8 +26,8 @@ use Rattle.promises.specs.Budget.{rowsOf, report, Full, Outcome, done, full}
 use Rattle.promises.specs.Budget
 use Rattle.promises.specs.Nots.{inner}
 use Rattle.promises.specs.Suited.{Suits, fits-suits}
-use Rattle.promises.specs.Bound.{Fine, anew, steps-bound, rows-bound}
-use Rattle.promises.specs.Room.{rows-words}
+use Rattle.promises.specs.Bound.{Fine, fine-target, anew, steps-bound, rows-bound}
+use Rattle.promises.specs.Room.{widest, rows-words}
 use Rattle.forms.specs.ReadTarget.{target-read}
 use Rattle.promises.specs.Reviewing.{countOf}
 use Rattle.forms.specs.Faults.{Fault, ofRule, ofTarget, Sane, rule-accepted, rule-refused, target-accepted, target-refused}
@@ -45,11 +46,11 @@ use Rattle.round_promises.specs.Answers.{Ran, outcome, table-exactly, ta
 -- ---- What follows from a not.
 
 -- The states of the search inside it.
-unfoldable pub searchOf : Pattern → Matcher → Value → Bindings → List Taken
+unfoldable pub searchOf : Pattern → Matcher → Valueᵒ → Bindings → List Taken
 unfolding trace
 searchOf p m v e = trace (inner p m v e ∷ [])
 
-module _ (p : Pattern) (m : Matcher) (v : Value) (older : List Atom) (e : Bindings) where
+module _ (p : Pattern) (m : Matcher) (v : Valueᵒ) (older : List Atom) (e : Bindings) where
   pub short-of : (n : ℕ) → n < length (searchOf p m v e) → inside n (after (never p) m v older e) ≡ spent
   unfolding searchOf
   short-of n h = not-short p m v older e n h
@@ -124,9 +125,9 @@ module _ (r : Rule) (v : Value) where
   pub rows-same : length (founds (inRounds r v)) ≡ length (ways r v)
   rows-same = sym (rearranged-length rows-rearranged) ∙ length-map (ways r v) (λ (s : Solution). s .bound)
 
-  pub words-same : length (rowsOf (inRounds r v)) ≡ length (rowsOf (states r v))
+  pub words-same : length (rowsOf asWords (inRounds r v)) ≡ length (rowsOf asWords (states r v))
   unfolding rowsOf
-  words-same = sym (rearranged-length (rearranged-flatMap row (founds-rearranged states-rearranged)))
+  words-same = sym (rearranged-length (rearranged-flatMap (row asWords) (founds-rearranged states-rearranged)))
 
   pub rounds-end : later (length (states r v)) (beginning r v) ≡ []
   rounds-end = ends (length (states r v)) (beginning r v) (omega (arith, ap length all-beginning))
@@ -137,10 +138,10 @@ module _ (ms ps ts : List ℤ) (table budget : ℕ) (room : List ℤ) where
   -- What is turned away is turned away as in the other order.
   pub turned-alike : (a i : ℕ) → Fault ms ps ts a i → matchRounds ms ps ts table budget room ≡ match ms ps ts budget room
   unfolding match matchRounds
-  turned-alike a i (ofRule f) = ap (roundsRule table budget room ts) (rule-refused ms ps a i .1 f) ∙ sym (ap (matchRule budget room ts) (rule-refused ms ps a i .1 f))
+  turned-alike a i (ofRule f) = ap (roundsRule table budget room ts) (rule-refused ms ps a i .1 f) ∙ sym (ap (matchRule asWords budget room ts) (rule-refused ms ps a i .1 f))
   turned-alike a i (ofTarget r w f) =
       ap (roundsRule table budget room ts) (rule-accepted ms ps r .1 w) ∙ ap (roundsTarget table budget room ts r) (target-refused (r .matcher) ts a i .1 f)
-      ∙ sym (ap (matchRule budget room ts) (rule-accepted ms ps r .1 w) ∙ ap (matchTarget budget room ts r) (target-refused (r .matcher) ts a i .1 f))
+      ∙ sym (ap (matchRule asWords budget room ts) (rule-accepted ms ps r .1 w) ∙ ap (matchTarget asWords budget room ts r) (target-refused (r .matcher) ts a i .1 f))
 
   module _ (r : Rule) (v : Value) (sane : Sane ms ps ts r v) where
     abbrev it : Matched
@@ -170,36 +171,36 @@ module _ (ms ps ts : List ℤ) (table budget : ℕ) (room : List ℤ) where
     answer-21 = by-answer 21 _ (table-exactly limit budget (beginning r v) free)
 
     pub table-stands : (o : Overfull limit budget free (beginning r v))
-        → it ≡ carriedOut (report 21 (length (firstRounds (o .rounds) (beginning r v))) (firstRounds (o .rounds) (beginning r v))) room
+        → it ≡ carriedOut (report asWords 21 (length (firstRounds (o .rounds) (beginning r v))) (firstRounds (o .rounds) (beginning r v))) room
     table-stands o = result ∙ ap (λ x. carriedOut x room) (table-is limit budget (beginning r v) free o)
 
-    pub full-stands : (Overfull limit budget free (beginning r v) → ⊥) → (f : Full budget free (inRounds r v))
-        → it ≡ carriedOut (report 8 (suc (length (f .before))) (f .before)) room
+    pub full-stands : (Overfull limit budget free (beginning r v) → ⊥) → (f : Full asWords budget free (inRounds r v))
+        → it ≡ carriedOut (report asWords 8 (suc (length (f .before))) (f .before)) room
     unfolding inRounds
     full-stands c f = result ∙ ap (λ x. carriedOut x room) (full-is limit budget (beginning r v) free c f)
 
-    pub answer-0 : it .answer ≡ 0 ↔ ((length (inRounds r v) ≤ budget) × (Full budget free (inRounds r v) → ⊥)) × (Overfull limit budget free (beginning r v) → ⊥)
+    pub answer-0 : it .answer ≡ 0 ↔ ((length (inRounds r v) ≤ budget) × (Full asWords budget free (inRounds r v) → ⊥)) × (Overfull limit budget free (beginning r v) → ⊥)
     unfolding inRounds
     answer-0 = by-answer 0 _ (done-exactly limit budget (beginning r v) free)
 
-    pub answer-7 : it .answer ≡ 7 ↔ ((budget < length (inRounds r v)) × (Full budget free (inRounds r v) → ⊥)) × (Overfull limit budget free (beginning r v) → ⊥)
+    pub answer-7 : it .answer ≡ 7 ↔ ((budget < length (inRounds r v)) × (Full asWords budget free (inRounds r v) → ⊥)) × (Overfull limit budget free (beginning r v) → ⊥)
     unfolding inRounds
     answer-7 = by-answer 7 _ (budget-exactly limit budget (beginning r v) free)
 
-    pub answer-8 : it .answer ≡ 8 ↔ Full budget free (inRounds r v) × (Overfull limit budget free (beginning r v) → ⊥)
+    pub answer-8 : it .answer ≡ 8 ↔ Full asWords budget free (inRounds r v) × (Overfull limit budget free (beginning r v) → ⊥)
     unfolding inRounds
     answer-8 = by-answer 8 _ (full-exactly limit budget (beginning r v) free)
 
     -- The rows found are the first in the order of the rounds; they stand whole from the start of the room, and every word after them is untouched.
-    pub first-found : (it .rows ≤ length (founds (inRounds r v))) × (it .room ≡ flatMap row (take (it .rows) (founds (inRounds r v))) ++ drop (it .words) room)
+    pub first-found : (it .rows ≤ length (founds (inRounds r v))) × (it .room ≡ flatMap (row asWords) (take (it .rows) (founds (inRounds r v))) ++ drop (it .words) room)
     unfolding carriedOut inRounds
     first-found =
         let f = rows-first limit budget (beginning r v) free in
-        subst (λ (x : Matched). (x .rows ≤ length (founds (order (beginning r v)))) × (x .room ≡ flatMap row (take (x .rows) (founds (order (beginning r v)))) ++ drop (x .words) room))
+        subst (λ (x : Matched). (x .rows ≤ length (founds (order (beginning r v)))) × (x .room ≡ flatMap (row asWords) (take (x .rows) (founds (order (beginning r v)))) ++ drop (x .words) room))
         (sym result) (f .0, ap (λ l. l ++ drop (length (ran .written)) room) (f .1))
 
     -- Where nothing stops it.
-    pub finished : it .answer ≡ 0 → it ≡ carriedOut (report 0 (length (inRounds r v)) (inRounds r v)) room
+    pub finished : it .answer ≡ 0 → it ≡ carriedOut (report asWords 0 (length (inRounds r v)) (inRounds r v)) room
     unfolding carriedOut inRounds
     finished a = result ∙ ap (λ x. carriedOut x room) (all-found limit budget (beginning r v) free (sym (ap (λ (x : Matched). x .answer) result) ∙ a))
 
@@ -218,13 +219,13 @@ module _ (ms ps ts : List ℤ) (table budget : ℕ) (room : List ℤ) where
 
       pub rows-bounded : it .rows ≤ factor most 0 (r .pattern) (r .matcher)
       unfolding ways
-      rows-bounded = le-trans (first-found .0) (le-trans (le-of-eq (rows-same r v)) (rows-bound most 0 (r .pattern) (r .matcher) v [] fine))
+      rows-bounded = le-trans (first-found .0) (le-trans (le-of-eq (rows-same r v)) (rows-bound most 0 (r .pattern) (r .matcher) (target v) [] (fine-target most (r .matcher) v fine)))
 
       pub only-table : countOf most r ≤ budget → factor most 0 (r .pattern) (r .matcher) * variableTags (r .pattern) * length ts ≤ length room
           → (it .answer ≡ 0) ⊎ (it .answer ≡ 21)
-      unfolding carriedOut inRounds states countOf
+      unfolding carriedOut inRounds states countOf widest
       only-table b h =
-          let w = rows-words most (r .matcher) (r .pattern) v fine in
+          let w = rows-words asWords most (r .matcher) (r .pattern) v fine in
           let l : length ts ≡ size v = ap length (target-read ts v .0 (sane .target .target) .0) ∙ length-words v in
           let e = ap (λ n. factor most 0 (r .pattern) (r .matcher) * variableTags (r .pattern) * n) l
           ∙ mul-assoc (factor most 0 (r .pattern) (r .matcher)) (variableTags (r .pattern)) (size v) in
@@ -254,37 +255,37 @@ map-rearranged : {A B : Type 0} (f : A → B) {xs ys : List A} → Rearranged xs
 map-rearranged f {xs} {ys} d = List·Permᴰ·trans (same (sym (one-each f xs))) (List·Permᴰ·trans (rearranged-flatMap (λ x. f x ∷ []) d) (same (one-each f ys)))
 
 -- A run that took up all of ts.
-told : (ts : List Taken) (room : List ℤ) → carriedOut (report 0 (length ts) ts) room .room
-    ≡ flatMap (λ w. w) (map row (founds ts)) ++ drop (carriedOut (report 0 (length ts) ts) room .words) room
+told : (ts : List Taken) (room : List ℤ) → carriedOut (report asWords 0 (length ts) ts) room .room
+    ≡ flatMap (λ w. w) (map (row asWords) (founds ts)) ++ drop (carriedOut (report asWords 0 (length ts) ts) room .words) room
 unfolding carriedOut report rowsOf
-told ts room = ap (λ l. l ++ drop (length (flatMap row (founds ts))) room) (sym (flatMap-map (λ w. w) row (founds ts)))
+told ts room = ap (λ l. l ++ drop (length (flatMap (row asWords) (founds ts))) room) (sym (flatMap-map (λ w. w) (row asWords) (founds ts)))
 
-depth-first : (n free : ℕ) (ts : List Taken) (x : Run) → Outcome n free ts x → x .answer ≡ 0 → x ≡ report 0 (length ts) ts
+depth-first : (n free : ℕ) (ts : List Taken) (x : Run) → Outcome asWords n free ts x → x .answer ≡ 0 → x ≡ report asWords 0 (length ts) ts
 unfolding report
 depth-first n free ts x (done h f q) a = q
 depth-first n free ts x (Budget.spent h f q) a = let b = ap (λ (z : Run). z .answer) q in absurd (omega arith)
 depth-first n free ts x (full f q) a = let b = ap (λ (z : Run). z .answer) q in absurd (omega arith)
 
 module _ (ms ps ts : List ℤ) (r : Rule) (v : Value) (sane : Sane ms ps ts r v) (n : ℕ) (roomX : List ℤ) (table k : ℕ) (roomY : List ℤ) where
-  pub match-finished : (match ms ps ts n roomX) .answer ≡ 0 → match ms ps ts n roomX ≡ carriedOut (report 0 (length (states r v)) (states r v)) roomX
-  unfolding carriedOut
+  pub match-finished : (match ms ps ts n roomX) .answer ≡ 0 → match ms ps ts n roomX ≡ carriedOut (report asWords 0 (length (states r v)) (states r v)) roomX
+  unfolding match carriedOut
   match-finished a =
-      let q = Matching.result ms ps ts n roomX r v sane in
+      let q = Matching.result asWords ms ps ts n roomX r v sane in
       q ∙ ap (λ x. carriedOut x roomX)
-      (depth-first n (length roomX) (states r v) _ (Matching.outcome ms ps ts n roomX r v sane) (sym (ap (λ (x : Matched). x .answer) q) ∙ a))
+      (depth-first n (length roomX) (states r v) _ (Matching.outcome asWords ms ps ts n roomX r v sane) (sym (ap (λ (x : Matched). x .answer) q) ∙ a))
 
   pub alike : (match ms ps ts n roomX) .answer ≡ 0 → (matchRounds ms ps ts table k roomY) .answer ≡ 0
       → Alike (match ms ps ts n roomX) (matchRounds ms ps ts table k roomY) roomX roomY
   unfolding carriedOut report
   alike a b = subst (λ x. Alike x (matchRounds ms ps ts table k roomY) roomX roomY) (sym (match-finished a))
-      (subst (λ y. Alike (carriedOut (report 0 (length (states r v)) (states r v)) roomX) y roomX roomY) (sym (finished ms ps ts table k roomY r v sane b))
+      (subst (λ y. Alike (carriedOut (report asWords 0 (length (states r v)) (states r v)) roomX) y roomX roomY) (sym (finished ms ps ts table k roomY r v sane b))
       (record {
-        rowsX = map row (founds (states r v));
-        rowsY = map row (founds (inRounds r v));
-        rearranged = map-rearranged row (founds-rearranged (states-rearranged r v));
+        rowsX = map (row asWords) (founds (states r v));
+        rowsY = map (row asWords) (founds (inRounds r v));
+        rearranged = map-rearranged (row asWords) (founds-rearranged (states-rearranged r v));
         holdsX = told (states r v) roomX;
         holdsY = told (inRounds r v) roomY;
-        countX = sym (length-map (founds (states r v)) row);
-        countY = sym (length-map (founds (inRounds r v)) row);
+        countX = sym (length-map (founds (states r v)) (row asWords));
+        countY = sym (length-map (founds (inRounds r v)) (row asWords));
         steps = sym (steps-same r v);
       }))

@@ -7,7 +7,8 @@ use lib.ListN.{length}
 use lib.Dec.{leb}
 use lib.IntN.{ℤ}
 use Rattle.rules.specs.Forms.{Value}
-use Rattle.rules.specs.Search.{Atom, atom, endOfNot, State, state, after, leaveNot, start, row, Run, stopped, step, rowStep}
+use Rattle.rules.specs.Rows.{asWords, row}
+use Rattle.rules.specs.Search.{Atom, atom, endOfNot, State, state, after, leaveNot, start, Run, stopped, step, rowStep}
 use Rattle.rules.specs.Services.{Rule, Judged, accepted, refused, ruleOf, targetOf, Matched, turnedAway, carriedOut, causeIn}
 
 -- ---- Lists of states.
@@ -93,8 +94,8 @@ past n (left k ss) free next = steps k (next (n - k) ss free)
 -- With the budget n after its own step. The end of a search inside a not stands in no state of a round.
 unfoldable pub takeUp : (n : ℕ) → State → (free : ℕ) → (next : ℕ → List State → ℕ → Run) → Run
 unfolding stopped step rowStep row after inside past
-takeUp n (state g [] e) free next = elim (leb (length (row e)) free) [
-  | true ↦ rowStep (row e) (next n [] (free - length (row e)))
+takeUp n (state g [] e) free next = elim (leb (length (row asWords e)) free) [
+  | true ↦ rowStep (row asWords e) (next n [] (free - length (row asWords e)))
   | false ↦ stopped 8 1
 ]
 takeUp n (state g (endOfNot ∷ older) e) free next = step (next n [] free)
