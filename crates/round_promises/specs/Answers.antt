@@ -8,7 +8,7 @@ use mathlib.Core.List.{List, [], _∷_, _++_, flatMap, append-assoc}
 use lib.ListN.{length, length-append, take}
 use lib.Seq.{take-append-seam}
 use lib.Dec.{T, leb, leb→le, le→leb}
-use Rattle.rules.specs.Rows.{asWords, row}
+use Rattle.rules.specs.Rows.{Form, row}
 use Rattle.rules.specs.Search.{Run}
 use Rattle.promises.specs.Trace.{Taken, walk}
 use Rattle.promises.specs.Solve.{founds, founds-append}
@@ -18,163 +18,165 @@ use Rattle.round_promises.specs.Listed.{round, onward, byLists}
 use Rattle.round_promises.specs.Order.{later, firstRounds, all, order, none-taken, ends}
 use Rattle.round_promises.specs.Runs.{Overfull, ByRounds, walks, table, by-rounds}
 
--- ---- What the first rounds take up are the first states of the order.
+-- Everything here is of rows in one form.
+module _ (form : Form) where
+  -- ---- What the first rounds take up are the first states of the order.
 
-pub record Begins (us ts : List Taken) : Type 0 where
-  pub others : List Taken
-  pub is : ts ≡ us ++ others
+  pub record Begins (us ts : List Taken) : Type 0 where
+    pub others : List Taken
+    pub is : ts ≡ us ++ others
 
-pub rounds-begin : (i k : ℕ) (bs : List Branch) → later k bs ≡ [] → Begins (firstRounds i bs) (firstRounds k bs)
-unfolding later firstRounds
-rounds-begin zero k bs e = record { others = firstRounds k bs; is = refl }
-rounds-begin (suc i) zero bs e = record { others = []; is = sym (ap (λ b. firstRounds (suc i) b ++ []) e ∙ ap (λ l. l ++ []) (none-taken (suc i))) }
-rounds-begin (suc i) (suc k) bs e =
-    let p = rounds-begin i k (onward bs) e in
-    record { others = p .others; is = ap (λ l. round bs ++ l) (p .is) ∙ sym (append-assoc (round bs) (firstRounds i (onward bs)) (p .others)) }
+  pub rounds-begin : (i k : ℕ) (bs : List Branch) → later k bs ≡ [] → Begins (firstRounds i bs) (firstRounds k bs)
+  unfolding later firstRounds
+  rounds-begin zero k bs e = record { others = firstRounds k bs; is = refl }
+  rounds-begin (suc i) zero bs e = record { others = []; is = sym (ap (λ b. firstRounds (suc i) b ++ []) e ∙ ap (λ l. l ++ []) (none-taken (suc i))) }
+  rounds-begin (suc i) (suc k) bs e =
+      let p = rounds-begin i k (onward bs) e in
+      record { others = p .others; is = ap (λ l. round bs ++ l) (p .is) ∙ sym (append-assoc (round bs) (firstRounds i (onward bs)) (p .others)) }
 
-pub order-begins : (i : ℕ) (bs : List Branch) → Begins (firstRounds i bs) (order bs)
-unfolding order
-order-begins i bs = rounds-begin i (length (all bs)) bs (ends (length (all bs)) bs (omega arith))
-
--- ---- There is one such round.
-
-pub overfull-once : (limit n free : ℕ) (bs : List Branch) (o p : Overfull limit n free bs) → o .rounds ≡ p .rounds
-overfull-once limit n free bs o p = go (leb (o .rounds) (p .rounds)) (leb (p .rounds) (o .rounds)) (leb→le _ _) (le→leb _ _) (leb→le _ _) (le→leb _ _)
-  where
-    before : (o p : Overfull limit n free bs) → o .rounds < p .rounds → ⊥
-    before o p h = let k = p .before (o .rounds) h in let l = o .over in omega arith
-
-    go : (a b : Bool) → (T a → o .rounds ≤ p .rounds) → (o .rounds ≤ p .rounds → T a) → (T b → p .rounds ≤ o .rounds) → (p .rounds ≤ o .rounds → T b)
-        → o .rounds ≡ p .rounds
-    go true true f g h k = omega (arith, f tt, h tt)
-    go true false f g h k = absurd (before o p (omega (arith, k)))
-    go false b f g h k = absurd (before p o (omega (arith, g)))
-
--- ---- A run with the budget n: at most n rounds.
-
-module _ (limit n : ℕ) (bs : List Branch) (free : ℕ) where
-  abbrev it : Run
-  it = byLists n limit n bs free
-
-  ran : ByRounds limit n free bs (order bs) it
+  pub order-begins : (i : ℕ) (bs : List Branch) → Begins (firstRounds i bs) (order bs)
   unfolding order
-  ran = by-rounds n (length (all bs)) limit n bs free (omega arith) (ends (length (all bs)) bs (omega arith))
+  order-begins i bs = rounds-begin i (length (all bs)) bs (ends (length (all bs)) bs (omega arith))
 
-  -- (d) It takes up the first states of the order, until none remains, the budget is used up or a row does not fit, as the run over the depth-first order
-  -- does over that; or until the table stops it at the end of a round.
-  pub data Ran : Type 0 where
-    walked : (Overfull limit n free bs → ⊥) → Outcome asWords n free (order bs) it → Ran
-    tabled : (o : Overfull limit n free bs) → it ≡ report asWords 21 (length (firstRounds (o .rounds) bs)) (firstRounds (o .rounds) bs) → Ran
+  -- ---- There is one such round.
 
-  pub outcome : Ran
-  outcome = go ran
+  pub overfull-once : (limit n free : ℕ) (bs : List Branch) (o p : Overfull form limit n free bs) → o .rounds ≡ p .rounds
+  overfull-once limit n free bs o p = go (leb (o .rounds) (p .rounds)) (leb (p .rounds) (o .rounds)) (leb→le _ _) (le→leb _ _) (leb→le _ _) (le→leb _ _)
     where
-      go : ByRounds limit n free bs (order bs) it → Ran
-      go (walks f e) = walked f (subst (λ (x : Run). Outcome asWords n free (order bs) x) (sym e) (walk-outcome asWords n (order bs) free))
-      go (table o e) = tabled o e
+      before : (o p : Overfull form limit n free bs) → o .rounds < p .rounds → ⊥
+      before o p h = let k = p .before (o .rounds) h in let l = o .over in omega arith
 
-  -- (e)
-  not-21 : Outcome asWords n free (order bs) it → it .answer ≡ 21 → ⊥
-  unfolding report
-  not-21 (done h f q) a = let b = ap (λ (x : Run). x .answer) q in omega arith
-  not-21 (spent h f q) a = let b = ap (λ (x : Run). x .answer) q in omega arith
-  not-21 (full f q) a = let b = ap (λ (x : Run). x .answer) q in omega arith
+      go : (a b : Bool) → (T a → o .rounds ≤ p .rounds) → (o .rounds ≤ p .rounds → T a) → (T b → p .rounds ≤ o .rounds) → (p .rounds ≤ o .rounds → T b)
+          → o .rounds ≡ p .rounds
+      go true true f g h k = omega (arith, f tt, h tt)
+      go true false f g h k = absurd (before o p (omega (arith, k)))
+      go false b f g h k = absurd (before p o (omega (arith, g)))
 
-  is-21 : (us : List Taken) → it ≡ report asWords 21 (length us) us → it .answer ≡ 21
-  unfolding report
-  is-21 us q = ap (λ (x : Run). x .answer) q
+  -- ---- A run with the budget n: at most n rounds.
 
-  pub table-exactly : it .answer ≡ 21 ↔ Overfull limit n free bs
-  table-exactly = go outcome
-    where
-      go : Ran → it .answer ≡ 21 ↔ Overfull limit n free bs
-      go (walked f w) = ((λ a. absurd (not-21 w a)), λ o. absurd (f o))
-      go (tabled o q) = ((λ _. o), λ _. is-21 (firstRounds (o .rounds) bs) q)
+  module _ (limit n : ℕ) (bs : List Branch) (free : ℕ) where
+    abbrev it : Run
+    it = byLists form n limit n bs free
 
-  -- "After the rows of the rounds before."
-  pub table-is : (o : Overfull limit n free bs) → it ≡ report asWords 21 (length (firstRounds (o .rounds) bs)) (firstRounds (o .rounds) bs)
-  table-is o = go outcome
-    where
-      go : Ran → it ≡ report asWords 21 (length (firstRounds (o .rounds) bs)) (firstRounds (o .rounds) bs)
-      go (walked f w) = absurd (f o)
-      go (tabled p q) = q ∙ ap (λ i. report asWords 21 (length (firstRounds i bs)) (firstRounds i bs)) (overfull-once limit n free bs p o)
+    ran : ByRounds form limit n free bs (order bs) it
+    unfolding order
+    ran = by-rounds form n (length (all bs)) limit n bs free (omega arith) (ends (length (all bs)) bs (omega arith))
 
-  -- A row that does not fit, where the table does not stop it before.
-  pub full-is : (Overfull limit n free bs → ⊥) → (f : Full asWords n free (order bs)) → it ≡ report asWords 8 (suc (length (f .before))) (f .before)
-  full-is c f = go ran
-    where
-      go : ByRounds limit n free bs (order bs) it → it ≡ report asWords 8 (suc (length (f .before))) (f .before)
-      go (walks _ e) = e ∙ ap (λ l. walk asWords n l free) (f .is) ∙ walk-full asWords n free (f .before) (f .bound) (f .after) (f .reached) (f .fit) (f .over)
-      go (table o e) = absurd (c o)
+    -- (d) It takes up the first states of the order, until none remains, the budget is used up or a row does not fit, as the run over the depth-first order
+    -- does over that; or until the table stops it at the end of a round.
+    pub data Ran : Type 0 where
+      walked : (Overfull form limit n free bs → ⊥) → Outcome form n free (order bs) it → Ran
+      tabled : (o : Overfull form limit n free bs) → it ≡ report form 21 (length (firstRounds (o .rounds) bs)) (firstRounds (o .rounds) bs) → Ran
 
-  -- The other answers, where it does not.
-  others : (a : ℕ) (C : Type 0) → (21 ≡ a → ⊥) → (Outcome asWords n free (order bs) it → it .answer ≡ a ↔ C) → it .answer ≡ a ↔ C × (Overfull limit n free bs → ⊥)
-  others a C d f = go outcome
-    where
-      go : Ran → it .answer ≡ a ↔ C × (Overfull limit n free bs → ⊥)
-      go (walked g w) = ((λ e. (f w .0 e, g)), λ c. f w .1 (c .0))
-      go (tabled o q) = ((λ e. absurd (d (sym (is-21 (firstRounds (o .rounds) bs) q) ∙ e))), λ c. absurd (c .1 o))
+    pub outcome : Ran
+    outcome = go ran
+      where
+        go : ByRounds form limit n free bs (order bs) it → Ran
+        go (walks f e) = walked f (subst (λ (x : Run). Outcome form n free (order bs) x) (sym e) (walk-outcome form n (order bs) free))
+        go (table o e) = tabled o e
 
-  pub done-exactly : it .answer ≡ 0 ↔ ((length (order bs) ≤ n) × (Full asWords n free (order bs) → ⊥)) × (Overfull limit n free bs → ⊥)
-  done-exactly = others 0 _ (λ e. omega arith) (answers-0 asWords n free (order bs) it)
+    -- (e)
+    not-21 : Outcome form n free (order bs) it → it .answer ≡ 21 → ⊥
+    unfolding report
+    not-21 (done h f q) a = let b = ap (λ (x : Run). x .answer) q in omega arith
+    not-21 (spent h f q) a = let b = ap (λ (x : Run). x .answer) q in omega arith
+    not-21 (full f q) a = let b = ap (λ (x : Run). x .answer) q in omega arith
 
-  pub budget-exactly : it .answer ≡ 7 ↔ ((n < length (order bs)) × (Full asWords n free (order bs) → ⊥)) × (Overfull limit n free bs → ⊥)
-  budget-exactly = others 7 _ (λ e. omega arith) (answers-7 asWords n free (order bs) it)
+    is-21 : (us : List Taken) → it ≡ report form 21 (length us) us → it .answer ≡ 21
+    unfolding report
+    is-21 us q = ap (λ (x : Run). x .answer) q
 
-  pub full-exactly : it .answer ≡ 8 ↔ Full asWords n free (order bs) × (Overfull limit n free bs → ⊥)
-  full-exactly = others 8 _ (λ e. omega arith) (answers-8 asWords n free (order bs) it)
+    pub table-exactly : it .answer ≡ 21 ↔ Overfull form limit n free bs
+    table-exactly = go outcome
+      where
+        go : Ran → it .answer ≡ 21 ↔ Overfull form limit n free bs
+        go (walked f w) = ((λ a. absurd (not-21 w a)), λ o. absurd (f o))
+        go (tabled o q) = ((λ _. o), λ _. is-21 (firstRounds (o .rounds) bs) q)
 
-  -- The rows found are the first of all rows in the rounds' order, and what is written are their words.
-  table-rows : (us : List Taken) → Begins us (order bs) → it ≡ report asWords 21 (length us) us
-      → (it .rows ≤ length (founds (order bs))) × (it .written ≡ flatMap (row asWords) (take (it .rows) (founds (order bs))))
-  unfolding report rowsOf
-  table-rows us p q =
-      let f : founds (order bs) ≡ founds us ++ founds (p .others) = ap founds (p .is) ∙ founds-append us (p .others) in
-      subst (λ (x : Run). (x .rows ≤ length (founds (order bs))) × (x .written ≡ flatMap (row asWords) (take (x .rows) (founds (order bs))))) (sym q) (
-        omega (arith, ap length f ∙ length-append (founds us) (founds (p .others))),
-        ap (flatMap (row asWords)) (sym (ap (take (length (founds us))) f ∙ take-append-seam (founds us) (founds (p .others)))),
-      )
+    -- "After the rows of the rounds before."
+    pub table-is : (o : Overfull form limit n free bs) → it ≡ report form 21 (length (firstRounds (o .rounds) bs)) (firstRounds (o .rounds) bs)
+    table-is o = go outcome
+      where
+        go : Ran → it ≡ report form 21 (length (firstRounds (o .rounds) bs)) (firstRounds (o .rounds) bs)
+        go (walked f w) = absurd (f o)
+        go (tabled p q) = q ∙ ap (λ i. report form 21 (length (firstRounds i bs)) (firstRounds i bs)) (overfull-once limit n free bs p o)
 
-  pub rows-first : (it .rows ≤ length (founds (order bs))) × (it .written ≡ flatMap (row asWords) (take (it .rows) (founds (order bs))))
-  rows-first = go outcome
-    where
-      go : Ran → (it .rows ≤ length (founds (order bs))) × (it .written ≡ flatMap (row asWords) (take (it .rows) (founds (order bs))))
-      go (walked f w) = first-rows asWords n free (order bs) it w
-      go (tabled o q) = table-rows (firstRounds (o .rounds) bs) (order-begins (o .rounds) bs) q
+    -- A row that does not fit, where the table does not stop it before.
+    pub full-is : (Overfull form limit n free bs → ⊥) → (f : Full form n free (order bs)) → it ≡ report form 8 (suc (length (f .before))) (f .before)
+    full-is c f = go ran
+      where
+        go : ByRounds form limit n free bs (order bs) it → it ≡ report form 8 (suc (length (f .before))) (f .before)
+        go (walks _ e) = e ∙ ap (λ l. walk form n l free) (f .is) ∙ walk-full form n free (f .before) (f .bound) (f .after) (f .reached) (f .fit) (f .over)
+        go (table o e) = absurd (c o)
 
-  -- No more steps than there are states.
-  table-steps : (us : List Taken) → Begins us (order bs) → it ≡ report asWords 21 (length us) us → it .steps ≤ length (order bs)
-  unfolding report
-  table-steps us p q = omega (arith, ap (λ (x : Run). x .steps) q, ap length (p .is) ∙ length-append us (p .others))
+    -- The other answers, where it does not.
+    others : (a : ℕ) (C : Type 0) → (21 ≡ a → ⊥) → (Outcome form n free (order bs) it → it .answer ≡ a ↔ C) → it .answer ≡ a ↔ C × (Overfull form limit n free bs → ⊥)
+    others a C d f = go outcome
+      where
+        go : Ran → it .answer ≡ a ↔ C × (Overfull form limit n free bs → ⊥)
+        go (walked g w) = ((λ e. (f w .0 e, g)), λ c. f w .1 (c .0))
+        go (tabled o q) = ((λ e. absurd (d (sym (is-21 (firstRounds (o .rounds) bs) q) ∙ e))), λ c. absurd (c .1 o))
 
-  pub steps-first : it .steps ≤ length (order bs)
-  steps-first = go outcome
-    where
-      go : Ran → it .steps ≤ length (order bs)
-      go (walked f w) = steps-most asWords n free (order bs) it w
-      go (tabled o q) = table-steps (firstRounds (o .rounds) bs) (order-begins (o .rounds) bs) q
+    pub done-exactly : it .answer ≡ 0 ↔ ((length (order bs) ≤ n) × (Full form n free (order bs) → ⊥)) × (Overfull form limit n free bs → ⊥)
+    done-exactly = others 0 _ (λ e. omega arith) (answers-0 form n free (order bs) it)
 
-  -- Where nothing stops it, all rows and all steps.
-  all-walked : Outcome asWords n free (order bs) it → it .answer ≡ 0 → it ≡ report asWords 0 (length (order bs)) (order bs)
-  unfolding report
-  all-walked (done h f q) a = q
-  all-walked (spent h f q) a = let b = ap (λ (x : Run). x .answer) q in absurd (omega arith)
-  all-walked (full f q) a = let b = ap (λ (x : Run). x .answer) q in absurd (omega arith)
+    pub budget-exactly : it .answer ≡ 7 ↔ ((n < length (order bs)) × (Full form n free (order bs) → ⊥)) × (Overfull form limit n free bs → ⊥)
+    budget-exactly = others 7 _ (λ e. omega arith) (answers-7 form n free (order bs) it)
 
-  pub all-found : it .answer ≡ 0 → it ≡ report asWords 0 (length (order bs)) (order bs)
-  all-found a = go outcome
-    where
-      go : Ran → it ≡ report asWords 0 (length (order bs)) (order bs)
-      go (walked f w) = all-walked w a
-      go (tabled o q) = let b = is-21 (firstRounds (o .rounds) bs) q in absurd (omega arith)
+    pub full-exactly : it .answer ≡ 8 ↔ Full form n free (order bs) × (Overfull form limit n free bs → ⊥)
+    full-exactly = others 8 _ (λ e. omega arith) (answers-8 form n free (order bs) it)
 
-  -- With budget and room for all of them, only the table can stop it.
-  pub enough : length (order bs) ≤ n → length (rowsOf asWords (order bs)) ≤ free → (it .answer ≡ 0) ⊎ (it .answer ≡ 21)
-  enough h k = go outcome
-    where
-      go : Ran → (it .answer ≡ 0) ⊎ (it .answer ≡ 21)
-      go (walked f w) = inl (done-exactly .1 ((h, λ x. over (full-rows asWords n free (order bs) x .1)), f))
-        where
-          over : free < length (rowsOf asWords (order bs)) → ⊥
-          over x = omega arith
-      go (tabled o q) = inr (table-exactly .1 o)
+    -- The rows found are the first of all rows in the rounds' order, and what is written are their words.
+    table-rows : (us : List Taken) → Begins us (order bs) → it ≡ report form 21 (length us) us
+        → (it .rows ≤ length (founds (order bs))) × (it .written ≡ flatMap (row form) (take (it .rows) (founds (order bs))))
+    unfolding report rowsOf
+    table-rows us p q =
+        let f : founds (order bs) ≡ founds us ++ founds (p .others) = ap founds (p .is) ∙ founds-append us (p .others) in
+        subst (λ (x : Run). (x .rows ≤ length (founds (order bs))) × (x .written ≡ flatMap (row form) (take (x .rows) (founds (order bs))))) (sym q) (
+          omega (arith, ap length f ∙ length-append (founds us) (founds (p .others))),
+          ap (flatMap (row form)) (sym (ap (take (length (founds us))) f ∙ take-append-seam (founds us) (founds (p .others)))),
+        )
+
+    pub rows-first : (it .rows ≤ length (founds (order bs))) × (it .written ≡ flatMap (row form) (take (it .rows) (founds (order bs))))
+    rows-first = go outcome
+      where
+        go : Ran → (it .rows ≤ length (founds (order bs))) × (it .written ≡ flatMap (row form) (take (it .rows) (founds (order bs))))
+        go (walked f w) = first-rows form n free (order bs) it w
+        go (tabled o q) = table-rows (firstRounds (o .rounds) bs) (order-begins (o .rounds) bs) q
+
+    -- No more steps than there are states.
+    table-steps : (us : List Taken) → Begins us (order bs) → it ≡ report form 21 (length us) us → it .steps ≤ length (order bs)
+    unfolding report
+    table-steps us p q = omega (arith, ap (λ (x : Run). x .steps) q, ap length (p .is) ∙ length-append us (p .others))
+
+    pub steps-first : it .steps ≤ length (order bs)
+    steps-first = go outcome
+      where
+        go : Ran → it .steps ≤ length (order bs)
+        go (walked f w) = steps-most form n free (order bs) it w
+        go (tabled o q) = table-steps (firstRounds (o .rounds) bs) (order-begins (o .rounds) bs) q
+
+    -- Where nothing stops it, all rows and all steps.
+    all-walked : Outcome form n free (order bs) it → it .answer ≡ 0 → it ≡ report form 0 (length (order bs)) (order bs)
+    unfolding report
+    all-walked (done h f q) a = q
+    all-walked (spent h f q) a = let b = ap (λ (x : Run). x .answer) q in absurd (omega arith)
+    all-walked (full f q) a = let b = ap (λ (x : Run). x .answer) q in absurd (omega arith)
+
+    pub all-found : it .answer ≡ 0 → it ≡ report form 0 (length (order bs)) (order bs)
+    all-found a = go outcome
+      where
+        go : Ran → it ≡ report form 0 (length (order bs)) (order bs)
+        go (walked f w) = all-walked w a
+        go (tabled o q) = let b = is-21 (firstRounds (o .rounds) bs) q in absurd (omega arith)
+
+    -- With budget and room for all of them, only the table can stop it.
+    pub enough : length (order bs) ≤ n → length (rowsOf form (order bs)) ≤ free → (it .answer ≡ 0) ⊎ (it .answer ≡ 21)
+    enough h k = go outcome
+      where
+        go : Ran → (it .answer ≡ 0) ⊎ (it .answer ≡ 21)
+        go (walked f w) = inl (done-exactly .1 ((h, λ x. over (full-rows form n free (order bs) x .1)), f))
+          where
+            over : free < length (rowsOf form (order bs)) → ⊥
+            over x = omega arith
+        go (tabled o q) = inr (table-exactly .1 o)

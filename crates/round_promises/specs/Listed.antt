@@ -8,7 +8,7 @@ use lib.Dec.{leb}
 use Rattle.rules.specs.Forms.{Matcher}
 use Rattle.rules.specs.Forms.{Pattern, wildcard, variable, constant, value, nil, cons, join, tuple, both, either, never}
 use Rattle.rules.specs.Origins.{Valueᵒ, Bindings}
-use Rattle.rules.specs.Rows.{asWords, row}
+use Rattle.rules.specs.Rows.{Form, row}
 use Rattle.rules.specs.Search.{Atom, atom, endOfNot, State, state, dropIf, after, Run, stopped, step, rowStep}
 use Rattle.rules.specs.Following.{noSolution, solve}
 use Rattle.round_rules.specs.Rounds.{Branch, branch, remainders, waiting}
@@ -72,25 +72,25 @@ onward bs = fresh bs ++ remainders bs
 -- ---- A run.
 
 -- States are taken up in order, by a budget and with `free` words of the room left; `rest` comes after them, with the budget and the words left then.
-unfoldable pub through : (budget : ℕ) → List Taken → (free : ℕ) → (rest : ℕ → ℕ → Run) → Run
+unfoldable pub through : Form → (budget : ℕ) → List Taken → (free : ℕ) → (rest : ℕ → ℕ → Run) → Run
 unfolding stopped step rowStep row
-through n [] free rest = rest n free
-through zero (t ∷ ts) free rest = stopped 7 0
-through (suc n) (passed ∷ ts) free rest = step (through n ts free rest)
-through (suc n) (found e ∷ ts) free rest = elim (leb (length (row asWords e)) free) [
-  | true ↦ rowStep (row asWords e) (through n ts (free - length (row asWords e)) rest)
+through f n [] free rest = rest n free
+through f zero (t ∷ ts) free rest = stopped 7 0
+through f (suc n) (passed ∷ ts) free rest = step (through f n ts free rest)
+through f (suc n) (found e ∷ ts) free rest = elim (leb (length (row f e)) free) [
+  | true ↦ rowStep (row f e) (through f n ts (free - length (row f e)) rest)
   | false ↦ stopped 8 1
 ]
 
 -- At most `rounds` rounds. 0: no state remains. 7: the budget is used up and states remain, "also where the budget ends with a round". 21: the round would
 -- begin with more than `limit` waiting states.
-unfoldable pub byLists : (rounds limit budget : ℕ) → List Branch → (free : ℕ) → Run
+unfoldable pub byLists : Form → (rounds limit budget : ℕ) → List Branch → (free : ℕ) → Run
 unfolding stopped waiting through round onward
-byLists zero limit n [] free = stopped 0 0
-byLists zero limit n (b ∷ bs) free = stopped 7 0
-byLists (suc r) limit n [] free = stopped 0 0
-byLists (suc r) limit zero (b ∷ bs) free = stopped 7 0
-byLists (suc r) limit (suc n) (b ∷ bs) free = elim (leb (waiting (b ∷ bs)) limit) [
-  | true ↦ through (suc n) (round (b ∷ bs)) free (λ left room. byLists r limit left (onward (b ∷ bs)) room)
+byLists f zero limit n [] free = stopped 0 0
+byLists f zero limit n (b ∷ bs) free = stopped 7 0
+byLists f (suc r) limit n [] free = stopped 0 0
+byLists f (suc r) limit zero (b ∷ bs) free = stopped 7 0
+byLists f (suc r) limit (suc n) (b ∷ bs) free = elim (leb (waiting (b ∷ bs)) limit) [
+  | true ↦ through f (suc n) (round (b ∷ bs)) free (λ left room. byLists f r limit left (onward (b ∷ bs)) room)
   | false ↦ stopped 21 0
 ]

@@ -3,26 +3,28 @@
 -- round; byLists), Order (later: the lists after some rounds; firstRounds: what these take up), Runs (Overfull), Answers (Ran), Whole (beginning, inRounds:
 -- all states in the order of the rounds; searchOf, Alike), Permutations (Rearranged); in promises in Matching (states, ways), Solve (founds), Budget (Full, report).
 use Prim.Native.Nat.{ℕ, suc, _*_, _≤_, _<_}
-use mathlib.Core.Path.{_≡_, sym, _∙_}
+use mathlib.Core.Path.{_≡_, sym, ap, _∙_}
 use mathlib.Core.Logic.{_⊎_, _↔_}
 use mathlib.Core.Bool.{false}
+use mathlib.Core.Option.{Option, none, some}
 use mathlib.Core.List.{List, [], _∷_, _++_, map, flatMap}
 use lib.ListN.{length, take, drop}
 use lib.IntN.{ℤ}
 use Rattle.rules.specs.Forms.{Matcher, Pattern, never, Value}
 use Rattle.rules.specs.Origins.{Valueᵒ, Bindings}
-use Rattle.rules.specs.Rows.{asWords, row}
+use Rattle.rules.specs.Rows.{Form, formOf, row}
 use Rattle.rules.specs.Search.{Atom, state, after}
 use Rattle.rules.specs.Ways.{Way, Follows}
 use Rattle.rules.specs.Review.{factor}
-use Rattle.rules.specs.Services.{accepted, Rule, ruleOf, targetOf, Matched, carriedOut, match}
+use Rattle.rules.specs.Services.{accepted, Rule, ruleOf, targetOf, Matched, turnedAway, carriedOut, matchIn}
 use Rattle.forms.specs.Written.{variableTags, largest}
 use Rattle.forms.specs.Faults.{Fault, Sane, sane-exactly}
 use Rattle.promises.specs.Solve.{founds}
 use Rattle.promises.specs.Budget.{report, Full}
+use Rattle.promises.specs.Room.{widest}
 use Rattle.promises.specs.Reviewing.{countOf}
 use Rattle.promises.specs.Matching.{states, ways}
-use Rattle.round_rules.specs.Rounds.{Branch, spent, left, inside, byRounds, limitOf, statesIn, matchRounds}
+use Rattle.round_rules.specs.Rounds.{Branch, spent, left, inside, byRounds, limitOf, statesIn, matchRounds, matchRoundsWith}
 use Rattle.round_promises.specs.Listed.{onward, byLists}
 use Rattle.round_promises.specs.Told.{run-told}
 use Rattle.round_promises.specs.Permutations.{Rearranged}
@@ -35,9 +37,16 @@ use Rattle.round_promises.specs.Whole.{answer-21, first-found, steps-bou
 
 -- ---- Determined: two results that the definition allows agree in every number and every word of the room.
 
-pub rounds-determined : (ms ps ts : List ℤ) (table budget : ℕ) (room : List ℤ) (x y : Matched)
-    → x ≡ matchRounds ms ps ts table budget room → y ≡ matchRounds ms ps ts table budget room → x ≡ y
-rounds-determined ms ps ts table budget room x y p q = p ∙ sym q
+pub rounds-determined : (form : Form) (ms ps ts : List ℤ) (table budget : ℕ) (room : List ℤ) (x y : Matched)
+    → x ≡ matchRounds form ms ps ts table budget room → y ≡ matchRounds form ms ps ts table budget room → x ≡ y
+rounds-determined form ms ps ts table budget room x y p q = p ∙ sym q
+
+-- "20, unknown row form, before 1."
+pub unknown-form : (n : ℕ) → formOf n ≡ none → (ms ps ts : List ℤ) (table budget : ℕ) (room : List ℤ)
+    → matchRoundsWith n ms ps ts table budget room ≡ turnedAway 20 0 0 room
+unfolding matchRoundsWith
+unknown-form n e ms ps ts table budget room =
+    ap (λ (x : Option Form). elim x as (λ _. Matched) [ none ↦ turnedAway 20 0 0 room | some f ↦ matchRounds f ms ps ts table budget room ]) e
 
 -- ---- A not is taken up whole, its states counted at once: "one state if p has no good way from the bindings held, else none".
 
@@ -55,8 +64,8 @@ module _ (p : Pattern) (m : Matcher) (v : Valueᵒ) (older : List Atom) (e : Bin
 
 -- ---- The lists that the statements below speak of are the definition's; what is still to be taken up falls with every round, so it ends.
 
-pub as-listed : (rounds limit n : ℕ) (bs : List Branch) (free : ℕ) → byRounds rounds limit n bs free ≡ byLists rounds limit n bs free
-as-listed = run-told
+pub as-listed : (form : Form) (rounds limit n : ℕ) (bs : List Branch) (free : ℕ) → byRounds form rounds limit n bs free ≡ byLists form rounds limit n bs free
+as-listed form = run-told form
 
 pub falls : (b : Branch) (bs : List Branch) → length (all (onward (b ∷ bs))) < length (all (b ∷ bs))
 falls = round-less
@@ -86,23 +95,23 @@ pub limit-is : (size words w : ℕ) → 0 < size → limitOf (statesIn size word
 limit-is = table-over
 
 -- Answers 1 to 6 as before.
-pub refused-alike : (ms ps ts : List ℤ) (table budget : ℕ) (room : List ℤ) (a i : ℕ) → Fault ms ps ts a i
-    → matchRounds ms ps ts table budget room ≡ match ms ps ts budget room
-refused-alike = turned-alike
+pub refused-alike : (form : Form) (ms ps ts : List ℤ) (table budget : ℕ) (room : List ℤ) (a i : ℕ) → Fault ms ps ts a i
+    → matchRounds form ms ps ts table budget room ≡ matchIn form ms ps ts budget room
+refused-alike form = turned-alike form
 
-module _ (ms ps ts : List ℤ) (r : Rule) (v : Value) (rule : ruleOf ms ps ≡ accepted r) (target : targetOf (r .matcher) ts ≡ accepted v) where
+module _ (form : Form) (ms ps ts : List ℤ) (r : Rule) (v : Value) (rule : ruleOf ms ps ≡ accepted r) (target : targetOf (r .matcher) ts ≡ accepted v) where
   sane : Sane ms ps ts r v
   sane = sane-exactly ms ps ts r v .0 (rule, target)
 
   -- Where neither budget, room nor table stops it, and the depth-first run is not stopped.
   pub rows-and-steps : (n : ℕ) (roomX : List ℤ) (table k : ℕ) (roomY : List ℤ)
-      → (match ms ps ts n roomX) .answer ≡ 0 → (matchRounds ms ps ts table k roomY) .answer ≡ 0
-      → Alike (match ms ps ts n roomX) (matchRounds ms ps ts table k roomY) roomX roomY
-  rows-and-steps = alike ms ps ts r v sane
+      → (matchIn form ms ps ts n roomX) .answer ≡ 0 → (matchRounds form ms ps ts table k roomY) .answer ≡ 0
+      → Alike form (matchIn form ms ps ts n roomX) (matchRounds form ms ps ts table k roomY) roomX roomY
+  rows-and-steps = alike form ms ps ts r v sane
 
   module _ (table budget : ℕ) (room : List ℤ) where
     abbrev it : Matched
-    it = matchRounds ms ps ts table budget room
+    it = matchRounds form ms ps ts table budget room
 
     abbrev free : ℕ
     free = length room
@@ -110,52 +119,52 @@ module _ (ms ps ts : List ℤ) (r : Rule) (v : Value) (rule : ruleOf ms ps ≡ a
     abbrev limit : ℕ
     limit = limitOf table
 
-    pub match-is : it ≡ carriedOut (byRounds budget limit budget (beginning r v) free) room
-    match-is = defined ms ps ts table budget room r v sane
+    pub match-is : it ≡ carriedOut (byRounds form budget limit budget (beginning r v) free) room
+    match-is = defined form ms ps ts table budget room r v sane
 
     -- At every budget it has taken up the first states of the rounds' order: all, as many as the budget, those up to the first whose row does not fit, or
     -- those of the rounds before the one that the table does not hold; and what is written are their rows.
-    pub at-every-budget : Ran limit budget (beginning r v) free
-    at-every-budget = outcome limit budget (beginning r v) free
+    pub at-every-budget : Ran form limit budget (beginning r v) free
+    at-every-budget = outcome form limit budget (beginning r v) free
 
     -- The rows stand whole from the start of the room, in the order of the rounds, and every word after them is untouched.
-    pub room-holds : (it .rows ≤ length (founds (inRounds r v))) × (it .room ≡ flatMap (row asWords) (take (it .rows) (founds (inRounds r v))) ++ drop (it .words) room)
-    room-holds = first-found ms ps ts table budget room r v sane
+    pub room-holds : (it .rows ≤ length (founds (inRounds r v))) × (it .room ≡ flatMap (row form) (take (it .rows) (founds (inRounds r v))) ++ drop (it .words) room)
+    room-holds = first-found form ms ps ts table budget room r v sane
 
     -- ---- "21, table, exactly when a round would begin with more than 256 waiting states or more than the lent table holds", "7 and 8 come first".
 
-    pub table-exactly : it .answer ≡ 21 ↔ Overfull limit budget free (beginning r v)
-    table-exactly = answer-21 ms ps ts table budget room r v sane
+    pub table-exactly : it .answer ≡ 21 ↔ Overfull form limit budget free (beginning r v)
+    table-exactly = answer-21 form ms ps ts table budget room r v sane
 
     -- "After the rows of the rounds before."
-    pub table-is : (o : Overfull limit budget free (beginning r v))
-        → it ≡ carriedOut (report asWords 21 (length (firstRounds (o .rounds) (beginning r v))) (firstRounds (o .rounds) (beginning r v))) room
-    table-is = table-stands ms ps ts table budget room r v sane
+    pub table-is : (o : Overfull form limit budget free (beginning r v))
+        → it ≡ carriedOut (report form 21 (length (firstRounds (o .rounds) (beginning r v))) (firstRounds (o .rounds) (beginning r v))) room
+    table-is = table-stands form ms ps ts table budget room r v sane
 
     pub done-exactly : it .answer ≡ 0
-        ↔ ((length (inRounds r v) ≤ budget) × (Full asWords budget free (inRounds r v) → ⊥)) × (Overfull limit budget free (beginning r v) → ⊥)
-    done-exactly = answer-0 ms ps ts table budget room r v sane
+        ↔ ((length (inRounds r v) ≤ budget) × (Full form budget free (inRounds r v) → ⊥)) × (Overfull form limit budget free (beginning r v) → ⊥)
+    done-exactly = answer-0 form ms ps ts table budget room r v sane
 
     pub budget-exactly : it .answer ≡ 7
-        ↔ ((budget < length (inRounds r v)) × (Full asWords budget free (inRounds r v) → ⊥)) × (Overfull limit budget free (beginning r v) → ⊥)
-    budget-exactly = answer-7 ms ps ts table budget room r v sane
+        ↔ ((budget < length (inRounds r v)) × (Full form budget free (inRounds r v) → ⊥)) × (Overfull form limit budget free (beginning r v) → ⊥)
+    budget-exactly = answer-7 form ms ps ts table budget room r v sane
 
-    pub full-exactly : it .answer ≡ 8 ↔ Full asWords budget free (inRounds r v) × (Overfull limit budget free (beginning r v) → ⊥)
-    full-exactly = answer-8 ms ps ts table budget room r v sane
+    pub full-exactly : it .answer ≡ 8 ↔ Full form budget free (inRounds r v) × (Overfull form limit budget free (beginning r v) → ⊥)
+    full-exactly = answer-8 form ms ps ts table budget room r v sane
 
-    pub full-is : (Overfull limit budget free (beginning r v) → ⊥) → (f : Full asWords budget free (inRounds r v))
-        → it ≡ carriedOut (report asWords 8 (suc (length (f .before))) (f .before)) room
-    full-is = full-stands ms ps ts table budget room r v sane
+    pub full-is : (Overfull form limit budget free (beginning r v) → ⊥) → (f : Full form budget free (inRounds r v))
+        → it ≡ carriedOut (report form 8 (suc (length (f .before))) (f .before)) room
+    full-is = full-stands form ms ps ts table budget room r v sane
 
     -- ---- "And demand 3 apart from 21."
 
     module _ (cap : ℕ) (small : largest v ≤ cap) where
       pub steps-at-most : it .steps ≤ countOf cap r
-      steps-at-most = steps-bounded ms ps ts table budget room r v sane cap small
+      steps-at-most = steps-bounded form ms ps ts table budget room r v sane cap small
 
       pub rows-at-most : it .rows ≤ factor cap 0 (r .pattern) (r .matcher)
-      rows-at-most = rows-bounded ms ps ts table budget room r v sane cap small
+      rows-at-most = rows-bounded form ms ps ts table budget room r v sane cap small
 
-      pub enough : countOf cap r ≤ budget → factor cap 0 (r .pattern) (r .matcher) * variableTags (r .pattern) * length ts ≤ length room
+      pub enough : countOf cap r ≤ budget → factor cap 0 (r .pattern) (r .matcher) * variableTags (r .pattern) * widest form (length ts) ≤ length room
           → (it .answer ≡ 0) ⊎ (it .answer ≡ 21)
-      enough = only-table ms ps ts table budget room r v sane cap small
+      enough = only-table form ms ps ts table budget room r v sane cap small

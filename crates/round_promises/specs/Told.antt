@@ -9,12 +9,12 @@ use mathlib.Core.List.{List, [], _∷_, _++_, map, flatMap, append-nil, append-a
 use lib.ListN.{length}
 use lib.Dec.{T, leb, leb→le, le→leb}
 use Rattle.rules.specs.Forms.{Matcher}
-use Rattle.rules.specs.Origins.{Valueᵒ, Bindings}
 use Rattle.rules.specs.Forms.{Pattern, wildcard, variable, constant, value, nil, cons, join, tuple, both, either, never}
 use Rattle.rules.specs.Fit.{members, isSomething}
+use Rattle.rules.specs.Origins.{Valueᵒ, intᵒ, collectionᵒ, tupledᵒ, Bindings, plain, target}
 use Rattle.rules.specs.Equality.{isConstant, isValue, isEmpty}
-use Rattle.rules.specs.Rows.{asWords, row}
-use Rattle.rules.specs.Search.{Atom, atom, endOfNot, State, state, consHalves, joinHalves, dropIf, after, leaveNot, Run, stopped, step, rowStep}
+use Rattle.rules.specs.Rows.{Form, row}
+use Rattle.rules.specs.Search.{Atom, atom, endOfNot, State, state, dropIf, after, leaveNot, Run, stopped, step, rowStep}
 use Rattle.rules.specs.Following.{Solution, noSolution, solve}
 use Rattle.round_rules.specs.Rounds.{Branch, branch, remainders, waiting, marked, anyMarked, searching, onFirst, unmarked, Inside, spent, left, oneMore, inside}
 use Rattle.round_rules.specs.Rounds.{steps, past, takeUp, takeRound, byRounds}
@@ -23,7 +23,7 @@ use Rattle.promises.specs.Trace
 use Rattle.promises.specs.Solve.{stops, stops-visit, no-cons, not-ended}
 use Rattle.promises.specs.Nots.{inner}
 use Rattle.round_promises.specs.Listed.{Step, one, whole, upAtom, up, round, fresh, onward, through, byLists}
-use Rattle.round_promises.specs.Tree.{Unmarked, Taking, plain, denied, taking, up-some}
+use Rattle.round_promises.specs.Tree.{Unmarked, Taking, single, denied, taking, up-some}
 
 -- ---- What is met from waiting states.
 
@@ -188,135 +188,137 @@ module _ (p : Pattern) (m : Matcher) (v : Valueᵒ) (older : List Atom) (e : Bin
   unfolding trace
   not-whole n h = its-search n ∙ seen-whole e older n (met [] (inner p m v e ∷ [])) (solve p m v e) its-stops h
 
--- ---- The states of a search inside a not are passed.
+-- Everything below is of rows in one form.
+module _ (form : Form) where
+  -- ---- The states of a search inside a not are passed.
 
-unfoldable Silent : List Taken → Type 0
-Silent [] = Unit {0}
-Silent (passed ∷ ts) = Silent ts
-Silent (found e ∷ ts) = ⊥
+  unfoldable Silent : List Taken → Type 0
+  Silent [] = Unit {0}
+  Silent (passed ∷ ts) = Silent ts
+  Silent (found e ∷ ts) = ⊥
 
-silent : (ms : List Met) → Rowless ms → Silent (close ms)
-unfolding Silent Rowless close
-silent [] h = tt
-silent (taken passed ∷ ms) h = silent ms h
-silent (taken (found e) ∷ ms) h = absurd h
-silent (ended ∷ ms) h = tt
+  silent : (ms : List Met) → Rowless ms → Silent (close ms)
+  unfolding Silent Rowless close
+  silent [] h = tt
+  silent (taken passed ∷ ms) h = silent ms h
+  silent (taken (found e) ∷ ms) h = absurd h
+  silent (ended ∷ ms) h = tt
 
-through-short : (n : ℕ) (ts us : List Taken) (free : ℕ) (f : ℕ → ℕ → Run) → Silent ts → n < length ts → through n (ts ++ us) free f ≡ stopped 7 n
-unfolding through Silent stopped step
-through-short n [] us free f s h = absurd (not-suc-le-zero h)
-through-short zero (t ∷ ts) us free f s h = refl
-through-short (suc n) (passed ∷ ts) us free f s h = ap step (through-short n ts us free f s (le-of-suc-le-suc h))
-through-short (suc n) (found e ∷ ts) us free f s h = absurd s
+  through-short : (n : ℕ) (ts us : List Taken) (free : ℕ) (f : ℕ → ℕ → Run) → Silent ts → n < length ts → through form n (ts ++ us) free f ≡ stopped 7 n
+  unfolding through Silent stopped step
+  through-short n [] us free f s h = absurd (not-suc-le-zero h)
+  through-short zero (t ∷ ts) us free f s h = refl
+  through-short (suc n) (passed ∷ ts) us free f s h = ap step (through-short n ts us free f s (le-of-suc-le-suc h))
+  through-short (suc n) (found e ∷ ts) us free f s h = absurd s
 
-steps-zero : (r : Run) → r ≡ steps 0 r
-unfolding steps
-steps-zero r = ap {B = Run} (λ i. record { answer = r .answer; rows = r .rows; steps = i; written = r .written }) (sym (zero-add (r .steps)))
+  steps-zero : (r : Run) → r ≡ steps 0 r
+  unfolding steps
+  steps-zero r = ap {B = Run} (λ i. record { answer = r .answer; rows = r .rows; steps = i; written = r .written }) (sym (zero-add (r .steps)))
 
-steps-suc : (k : ℕ) (r : Run) → step (steps k r) ≡ steps (suc k) r
-unfolding steps step
-steps-suc k r = ap {B = Run} (λ i. record { answer = r .answer; rows = r .rows; steps = i; written = r .written }) (sym (suc-add k (r .steps)))
+  steps-suc : (k : ℕ) (r : Run) → step (steps k r) ≡ steps (suc k) r
+  unfolding steps step
+  steps-suc k r = ap {B = Run} (λ i. record { answer = r .answer; rows = r .rows; steps = i; written = r .written }) (sym (suc-add k (r .steps)))
 
-through-whole : (n : ℕ) (ts : List Taken) (free : ℕ) (f : ℕ → ℕ → Run) → Silent ts → length ts ≤ n
-    → through n ts free f ≡ steps (length ts) (f (n - length ts) free)
-unfolding through Silent
-through-whole n [] free f s h = ap (λ i. f i free) (sym (sub-zero n)) ∙ steps-zero (f (n - 0) free)
-through-whole zero (t ∷ ts) free f s h = absurd (not-suc-le-zero h)
-through-whole (suc n) (passed ∷ ts) free f s h = ap step (through-whole n ts free f s (le-of-suc-le-suc h)) ∙ steps-suc (length ts) (f (n - length ts) free)
-    ∙ ap (λ i. steps (suc (length ts)) (f i free)) (omega arith)
-through-whole (suc n) (found e ∷ ts) free f s h = absurd s
+  through-whole : (n : ℕ) (ts : List Taken) (free : ℕ) (f : ℕ → ℕ → Run) → Silent ts → length ts ≤ n
+      → through form n ts free f ≡ steps (length ts) (f (n - length ts) free)
+  unfolding through Silent
+  through-whole n [] free f s h = ap (λ i. f i free) (sym (sub-zero n)) ∙ steps-zero (f (n - 0) free)
+  through-whole zero (t ∷ ts) free f s h = absurd (not-suc-le-zero h)
+  through-whole (suc n) (passed ∷ ts) free f s h = ap step (through-whole n ts free f s (le-of-suc-le-suc h)) ∙ steps-suc (length ts) (f (n - length ts) free)
+      ∙ ap (λ i. steps (suc (length ts)) (f i free)) (omega arith)
+  through-whole (suc n) (found e ∷ ts) free f s h = absurd s
 
--- ---- A state.
+  -- ---- A state.
 
-none-searching : (ss : List State) → Unmarked ss → anyMarked ss ≡ false
-unfolding anyMarked marked Unmarked
-none-searching [] u = refl
-none-searching (state true o e ∷ ss) u = absurd u
-none-searching (state false o e ∷ ss) u = none-searching ss u
+  none-searching : (ss : List State) → Unmarked ss → anyMarked ss ≡ false
+  unfolding anyMarked marked Unmarked
+  none-searching [] u = refl
+  none-searching (state true o e ∷ ss) u = absurd u
+  none-searching (state false o e ∷ ss) u = none-searching ss u
 
-not-searching : (ss : List State) → Unmarked ss → searching ss ≡ false
-unfolding searching Unmarked
-not-searching [] u = refl
-not-searching (state true o e ∷ ss) u = absurd u
-not-searching (state false o e ∷ ss) u = none-searching ss u
+  not-searching : (ss : List State) → Unmarked ss → searching ss ≡ false
+  unfolding searching Unmarked
+  not-searching [] u = refl
+  not-searching (state true o e ∷ ss) u = absurd u
+  not-searching (state false o e ∷ ss) u = none-searching ss u
 
-all-unmarked : (ss : List State) → Unmarked ss → map unmarked ss ≡ ss
-unfolding unmarked Unmarked
-all-unmarked [] u = refl
-all-unmarked (state true o e ∷ ss) u = absurd u
-all-unmarked (state false o e ∷ ss) u = ap {B = List State} (λ l. state false o e ∷ l) (all-unmarked ss u)
+  all-unmarked : (ss : List State) → Unmarked ss → map unmarked ss ≡ ss
+  unfolding unmarked Unmarked
+  all-unmarked [] u = refl
+  all-unmarked (state true o e ∷ ss) u = absurd u
+  all-unmarked (state false o e ∷ ss) u = ap {B = List State} (λ l. state false o e ∷ l) (all-unmarked ss u)
 
-at-once : (n : ℕ) (ss : List State) → Unmarked ss → inside n ss ≡ left 0 ss
-unfolding inside
-at-once zero ss u = ap (λ b. elim b as (λ _. Inside) [ true ↦ spent | false ↦ left 0 (map unmarked ss) ]) (not-searching ss u) ∙ ap (left 0) (all-unmarked ss u)
-at-once (suc n) ss u = ap (λ b. elim b as (λ _. Inside) [ true ↦ oneMore (inside n (onFirst ss)) | false ↦ left 0 (map unmarked ss) ]) (not-searching ss u)
-    ∙ ap (left 0) (all-unmarked ss u)
+  at-once : (n : ℕ) (ss : List State) → Unmarked ss → inside n ss ≡ left 0 ss
+  unfolding inside
+  at-once zero ss u = ap (λ b. elim b as (λ _. Inside) [ true ↦ spent | false ↦ left 0 (map unmarked ss) ]) (not-searching ss u) ∙ ap (left 0) (all-unmarked ss u)
+  at-once (suc n) ss u = ap (λ b. elim b as (λ _. Inside) [ true ↦ oneMore (inside n (onFirst ss)) | false ↦ left 0 (map unmarked ss) ]) (not-searching ss u)
+      ∙ ap (left 0) (all-unmarked ss u)
 
-module _ (n : ℕ) (m : Matcher) (v : Valueᵒ) (older : List Atom) (e : Bindings) (free : ℕ) (next : ℕ → List State → ℕ → Run) where
-  atom-told : (p : Pattern) → Taking m v older e p → step (past n (inside n (after p m v older e)) free next)
-      ≡ through (suc n) (upAtom p m v older e .taken) free (λ i room. next i (upAtom p m v older e .next) room)
-  unfolding past through one upAtom whole
-  atom-told p (plain q u) = ap (λ x. step (past n x free next)) (at-once n (after p m v older e) u)
-      ∙ ap step (sym (ap (λ i. next i (after p m v older e) free) (sym (sub-zero n)) ∙ steps-zero (next (n - 0) (after p m v older e) free)))
-      ∙ sym (ap (λ (x : Step). through (suc n) (x .taken) free (λ i room. next i (x .next) room)) q)
-  atom-told _ (denied p) = go (leb (length (search p m v older e)) n) (leb→le (length (search p m v older e)) n) (le→leb (length (search p m v older e)) n)
-    where
-      quiet : Silent (search p m v older e)
-      quiet = silent (met [] (inner p m v e ∷ [])) (rowless e older (met [] (inner p m v e ∷ [])) (solve p m v e) (its-stops p m v older e))
+  module _ (n : ℕ) (m : Matcher) (v : Valueᵒ) (older : List Atom) (e : Bindings) (free : ℕ) (next : ℕ → List State → ℕ → Run) where
+    atom-told : (p : Pattern) → Taking m v older e p → step (past n (inside n (after p m v older e)) free next)
+        ≡ through form (suc n) (upAtom p m v older e .taken) free (λ i room. next i (upAtom p m v older e .next) room)
+    unfolding past through one upAtom whole
+    atom-told p (single q u) = ap (λ x. step (past n x free next)) (at-once n (after p m v older e) u)
+        ∙ ap step (sym (ap (λ i. next i (after p m v older e) free) (sym (sub-zero n)) ∙ steps-zero (next (n - 0) (after p m v older e) free)))
+        ∙ sym (ap (λ (x : Step). through form (suc n) (x .taken) free (λ i room. next i (x .next) room)) q)
+    atom-told _ (denied p) = go (leb (length (search p m v older e)) n) (leb→le (length (search p m v older e)) n) (le→leb (length (search p m v older e)) n)
+      where
+        quiet : Silent (search p m v older e)
+        quiet = silent (met [] (inner p m v e ∷ [])) (rowless e older (met [] (inner p m v e ∷ [])) (solve p m v e) (its-stops p m v older e))
 
-      go : (b : Bool) → (T b → length (search p m v older e) ≤ n) → (length (search p m v older e) ≤ n → T b)
-          → step (past n (inside n (after (never p) m v older e)) free next)
-          ≡ step (through n (search p m v older e) free (λ i room. next i (dropIf (noSolution (solve p m v e)) older e) room))
-      go true f g = ap (λ x. step (past n x free next)) (not-whole p m v older e n (f tt))
-          ∙ ap step (sym (through-whole n (search p m v older e) free (λ i room. next i (dropIf (noSolution (solve p m v e)) older e) room) quiet (f tt)))
-      go false f g = ap (λ x. step (past n x free next)) (not-short p m v older e n (omega (arith, g)))
-          ∙ ap step (sym (ap (λ l. through n l free (λ i room. next i (dropIf (noSolution (solve p m v e)) older e) room)) (sym (append-nil (search p m v older e)))
-          ∙ through-short n (search p m v older e) [] free (λ i room. next i (dropIf (noSolution (solve p m v e)) older e) room) quiet (omega (arith, g))))
+        go : (b : Bool) → (T b → length (search p m v older e) ≤ n) → (length (search p m v older e) ≤ n → T b)
+            → step (past n (inside n (after (never p) m v older e)) free next)
+            ≡ step (through form n (search p m v older e) free (λ i room. next i (dropIf (noSolution (solve p m v e)) older e) room))
+        go true f g = ap (λ x. step (past n x free next)) (not-whole p m v older e n (f tt))
+            ∙ ap step (sym (through-whole n (search p m v older e) free (λ i room. next i (dropIf (noSolution (solve p m v e)) older e) room) quiet (f tt)))
+        go false f g = ap (λ x. step (past n x free next)) (not-short p m v older e n (omega (arith, g)))
+            ∙ ap step (sym (ap (λ l. through form n l free (λ i room. next i (dropIf (noSolution (solve p m v e)) older e) room)) (sym (append-nil (search p m v older e)))
+            ∙ through-short n (search p m v older e) [] free (λ i room. next i (dropIf (noSolution (solve p m v e)) older e) room) quiet (omega (arith, g))))
 
-state-told : (n : ℕ) (s : State) (free : ℕ) (next : ℕ → List State → ℕ → Run)
-    → takeUp n s free next ≡ through (suc n) (up s .taken) free (λ i room. next i (up s .next) room)
-unfolding takeUp through up one
-state-told n (state g [] e) free next = refl
-state-told n (state g (endOfNot ∷ older) e) free next = refl
-state-told n (state g (atom p m v ∷ older) e) free next = atom-told n m v older e free next p (taking p m v older e)
+  state-told : (n : ℕ) (s : State) (free : ℕ) (next : ℕ → List State → ℕ → Run)
+      → takeUp form n s free next ≡ through form (suc n) (up s .taken) free (λ i room. next i (up s .next) room)
+  unfolding takeUp through up one
+  state-told n (state g [] e) free next = refl
+  state-told n (state g (endOfNot ∷ older) e) free next = refl
+  state-told n (state g (atom p m v ∷ older) e) free next = atom-told n m v older e free next p (taking p m v older e)
 
--- ---- A round.
+  -- ---- A round.
 
-through-append : (n : ℕ) (ts us : List Taken) (free : ℕ) (f : ℕ → ℕ → Run) → through n (ts ++ us) free f ≡ through n ts free (λ i room. through i us room f)
-unfolding through
-through-append n [] us free f = refl
-through-append zero (t ∷ ts) us free f = refl
-through-append (suc n) (passed ∷ ts) us free f = ap step (through-append n ts us free f)
-through-append (suc n) (found e ∷ ts) us free f =
-    ap (λ z. elim (leb (length (row asWords e)) free) as (λ _. Run) [ true ↦ rowStep (row asWords e) z | false ↦ stopped 8 1 ]) (through-append n ts us (free - length (row asWords e)) f)
+  through-append : (n : ℕ) (ts us : List Taken) (free : ℕ) (f : ℕ → ℕ → Run) → through form n (ts ++ us) free f ≡ through form n ts free (λ i room. through form i us room f)
+  unfolding through
+  through-append n [] us free f = refl
+  through-append zero (t ∷ ts) us free f = refl
+  through-append (suc n) (passed ∷ ts) us free f = ap step (through-append n ts us free f)
+  through-append (suc n) (found e ∷ ts) us free f =
+      ap (λ z. elim (leb (length (row form e)) free) as (λ _. Run) [ true ↦ rowStep (row form e) z | false ↦ stopped 8 1 ]) (through-append n ts us (free - length (row form e)) f)
 
-through-none : (ts us : List Taken) (free : ℕ) (f : ℕ → ℕ → Run) → 1 ≤ length ts → stopped 7 0 ≡ through 0 (ts ++ us) free f
-unfolding through
-through-none [] us free f h = absurd (not-suc-le-zero h)
-through-none (t ∷ ts) us free f h = refl
+  through-none : (ts us : List Taken) (free : ℕ) (f : ℕ → ℕ → Run) → 1 ≤ length ts → stopped 7 0 ≡ through form 0 (ts ++ us) free f
+  unfolding through
+  through-none [] us free f h = absurd (not-suc-le-zero h)
+  through-none (t ∷ ts) us free f h = refl
 
-round-told : (bs : List Branch) (n : ℕ) (new : List Branch) (free : ℕ) (rest : ℕ → List Branch → ℕ → Run)
-    → takeRound n bs new free rest ≡ through n (round bs) free (λ i room. rest i (new ++ fresh bs) room)
-unfolding takeRound through round fresh flatMap
-round-told [] zero new free rest = ap (λ l. rest 0 l free) (sym (append-nil new))
-round-told [] (suc n) new free rest = ap (λ l. rest (suc n) l free) (sym (append-nil new))
-round-told (b ∷ bs) zero new free rest =
-    through-none (up (b .first) .taken) (flatMap (λ x. up (x .first) .taken) bs) free (λ i room. rest i (new ++ fresh (b ∷ bs)) room) (up-some (b .first))
-round-told (b ∷ bs) (suc n) new free rest =
-    state-told n (b .first) free (λ i ss room. takeRound i bs (new ++ branch ss) room rest)
-    ∙ ap (through (suc n) (up (b .first) .taken) free)
-    (fun-ext (λ i. fun-ext (λ room. round-told bs i (new ++ branch (up (b .first) .next)) room rest
-    ∙ ap (λ l. through i (round bs) room (λ j x. rest j l x)) (append-assoc new (branch (up (b .first) .next)) (fresh bs)))))
-    ∙ sym (through-append (suc n) (up (b .first) .taken) (flatMap (λ x. up (x .first) .taken) bs) free (λ i room. rest i (new ++ fresh (b ∷ bs)) room))
+  round-told : (bs : List Branch) (n : ℕ) (new : List Branch) (free : ℕ) (rest : ℕ → List Branch → ℕ → Run)
+      → takeRound form n bs new free rest ≡ through form n (round bs) free (λ i room. rest i (new ++ fresh bs) room)
+  unfolding takeRound through round fresh flatMap
+  round-told [] zero new free rest = ap (λ l. rest 0 l free) (sym (append-nil new))
+  round-told [] (suc n) new free rest = ap (λ l. rest (suc n) l free) (sym (append-nil new))
+  round-told (b ∷ bs) zero new free rest =
+      through-none (up (b .first) .taken) (flatMap (λ x. up (x .first) .taken) bs) free (λ i room. rest i (new ++ fresh (b ∷ bs)) room) (up-some (b .first))
+  round-told (b ∷ bs) (suc n) new free rest =
+      state-told n (b .first) free (λ i ss room. takeRound form i bs (new ++ branch ss) room rest)
+      ∙ ap (through form (suc n) (up (b .first) .taken) free)
+      (fun-ext (λ i. fun-ext (λ room. round-told bs i (new ++ branch (up (b .first) .next)) room rest
+      ∙ ap (λ l. through form i (round bs) room (λ j x. rest j l x)) (append-assoc new (branch (up (b .first) .next)) (fresh bs)))))
+      ∙ sym (through-append (suc n) (up (b .first) .taken) (flatMap (λ x. up (x .first) .taken) bs) free (λ i room. rest i (new ++ fresh (b ∷ bs)) room))
 
--- ---- A run.
+  -- ---- A run.
 
-pub run-told : (r limit n : ℕ) (bs : List Branch) (free : ℕ) → byRounds r limit n bs free ≡ byLists r limit n bs free
-unfolding byRounds byLists onward
-run-told zero limit n [] free = refl
-run-told zero limit n (b ∷ bs) free = refl
-run-told (suc r) limit n [] free = refl
-run-told (suc r) limit zero (b ∷ bs) free = refl
-run-told (suc r) limit (suc n) (b ∷ bs) free = ap (λ x. elim (leb (waiting (b ∷ bs)) limit) as (λ _. Run) [ true ↦ x | false ↦ stopped 21 0 ])
-    (round-told (b ∷ bs) (suc n) [] free (λ i new room. byRounds r limit i (new ++ remainders (b ∷ bs)) room)
-    ∙ ap (through (suc n) (round (b ∷ bs)) free) (fun-ext (λ i. fun-ext (λ room. run-told r limit i (onward (b ∷ bs)) room))))
+  pub run-told : (r limit n : ℕ) (bs : List Branch) (free : ℕ) → byRounds form r limit n bs free ≡ byLists form r limit n bs free
+  unfolding byRounds byLists onward
+  run-told zero limit n [] free = refl
+  run-told zero limit n (b ∷ bs) free = refl
+  run-told (suc r) limit n [] free = refl
+  run-told (suc r) limit zero (b ∷ bs) free = refl
+  run-told (suc r) limit (suc n) (b ∷ bs) free = ap (λ x. elim (leb (waiting (b ∷ bs)) limit) as (λ _. Run) [ true ↦ x | false ↦ stopped 21 0 ])
+      (round-told (b ∷ bs) (suc n) [] free (λ i new room. byRounds form r limit i (new ++ remainders (b ∷ bs)) room)
+      ∙ ap (through form (suc n) (round (b ∷ bs)) free) (fun-ext (λ i. fun-ext (λ room. run-told r limit i (onward (b ∷ bs)) room))))

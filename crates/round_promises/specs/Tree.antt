@@ -6,10 +6,9 @@ use mathlib.Core.Bool.{Bool, true, false}
 use mathlib.Core.List.{List, [], _∷_, _++_, map, flatMap, append-nil, append-assoc}
 use lib.ListN.{length}
 use Rattle.rules.specs.Forms.{Matcher, Value, Patterns, Matchers}
-use Rattle.rules.specs.Origins.{Valueᵒ, intᵒ, collectionᵒ, tupledᵒ, Bindings, target}
-use Rattle.rules.specs.Origins as origins
 use Rattle.rules.specs.Forms.{Pattern, wildcard, variable, constant, value, nil, cons, join, tuple, both, either, never}
 use Rattle.rules.specs.Fit.{members, isSomething}
+use Rattle.rules.specs.Origins.{Valueᵒ, intᵒ, collectionᵒ, tupledᵒ, Bindings, plain, target}
 use Rattle.rules.specs.Equality.{isConstant, isValue, isEmpty}
 use Rattle.rules.specs.Search.{Halves, consHalves, joinHalves, Atom, atom, endOfNot, State, state, dropIf, apart, after, start}
 use Rattle.rules.specs.Following.{Solution, noSolution, solve}
@@ -76,21 +75,21 @@ apart-unmarked ps ms (tupledᵒ o vs) older e = tt
 
 -- An atom is taken up in one step, and none of the states that follow waits behind a search; or it is a not.
 pub data Taking (m : Matcher) (v : Valueᵒ) (older : List Atom) (e : Bindings) : Pattern → Type 0 where
-  plain : {p : Pattern} → upAtom p m v older e ≡ one (after p m v older e) → Unmarked (after p m v older e) → Taking m v older e p
+  single : {p : Pattern} → upAtom p m v older e ≡ one (after p m v older e) → Unmarked (after p m v older e) → Taking m v older e p
   denied : (p : Pattern) → Taking m v older e (never p)
 
 pub taking : (p : Pattern) (m : Matcher) (v : Valueᵒ) (older : List Atom) (e : Bindings) → Taking m v older e p
 unfolding upAtom after Unmarked
-taking wildcard m v older e = plain refl (leaf-unmarked (isSomething m) _ _ _ _)
-taking (variable x) m v older e = plain refl (leaf-unmarked (isSomething m) _ _ _ _)
-taking (constant c) m v older e = plain refl (test-unmarked (isConstant c (origins.plain v)) older e)
-taking (value x c) m v older e = plain refl (test-unmarked (isValue m (map origins.plain e) x c (origins.plain v)) older e)
-taking nil m v older e = plain refl (test-unmarked (isEmpty (origins.plain v)) older e)
-taking (cons p q) m v older e = plain refl (each-unmarked _ e (consHalves m v))
-taking (join p q) m v older e = plain refl (each-unmarked _ e (joinHalves v))
-taking (tuple ps) m v older e = plain refl (apart-unmarked ps (members m) v older e)
-taking (both p q) m v older e = plain refl tt
-taking (either p q) m v older e = plain refl tt
+taking wildcard m v older e = single refl (leaf-unmarked (isSomething m) _ _ _ _)
+taking (variable x) m v older e = single refl (leaf-unmarked (isSomething m) _ _ _ _)
+taking (constant c) m v older e = single refl (test-unmarked (isConstant c (plain v)) older e)
+taking (value x c) m v older e = single refl (test-unmarked (isValue m (map plain e) x c (plain v)) older e)
+taking nil m v older e = single refl (test-unmarked (isEmpty (plain v)) older e)
+taking (cons p q) m v older e = single refl (each-unmarked _ e (consHalves m v))
+taking (join p q) m v older e = single refl (each-unmarked _ e (joinHalves v))
+taking (tuple ps) m v older e = single refl (apart-unmarked ps (members m) v older e)
+taking (both p q) m v older e = single refl tt
+taking (either p q) m v older e = single refl tt
 taking (never p) m v older e = denied p
 
 -- ---- The law, for such an atom and for a not.
@@ -129,7 +128,7 @@ not-law p m v older e = ap {B = List Taken} (λ r. passed ∷ r)
 atom-law : (p : Pattern) (m : Matcher) (v : Valueᵒ) (older : List Atom) (e : Bindings) → Taking m v older e p
     → spread (visitAll (atom p m v ∷ older) e) ≡ upAtom p m v older e .taken ++ flatMap comes (upAtom p m v older e .next)
 unfolding one upAtom
-atom-law p m v older e (plain q u) = one-law p m v older e u ∙ sym (ap (λ (x : Step). x .taken ++ flatMap comes (x .next)) q)
+atom-law p m v older e (single q u) = one-law p m v older e u ∙ sym (ap (λ (x : Step). x .taken ++ flatMap comes (x .next)) q)
 atom-law _ m v older e (denied p) = not-law p m v older e
 
 -- THE LAW.
@@ -142,7 +141,7 @@ comes-up (state g (atom p m v ∷ older) e) = atom-law p m v older e (taking p m
 -- Something is taken up with every state.
 atom-some : (p : Pattern) (m : Matcher) (v : Valueᵒ) (older : List Atom) (e : Bindings) → Taking m v older e p → 1 ≤ length (upAtom p m v older e .taken)
 unfolding one upAtom whole
-atom-some p m v older e (plain q u) = let k = ap (λ (x : Step). length (x .taken)) q in omega arith
+atom-some p m v older e (single q u) = let k = ap (λ (x : Step). length (x .taken)) q in omega arith
 atom-some _ m v older e (denied p) = omega arith
 
 pub up-some : (s : State) → 1 ≤ length (up s .taken)

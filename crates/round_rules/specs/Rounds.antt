@@ -2,12 +2,13 @@
 -- form new lists, which come first, in order, and then the remainders, in order."
 use Prim.Native.Nat.{ℕ, zero, suc, _+_, _-_, _/_, min}
 use mathlib.Core.Bool.{Bool, true, false, _||_}
+use mathlib.Core.Option.{none, some}
 use mathlib.Core.List.{List, [], _∷_, _++_, map, flatMap}
 use lib.ListN.{length}
 use lib.Dec.{leb}
 use lib.IntN.{ℤ}
 use Rattle.rules.specs.Forms.{Value}
-use Rattle.rules.specs.Rows.{asWords, row}
+use Rattle.rules.specs.Rows.{Form, formOf, row}
 use Rattle.rules.specs.Search.{Atom, atom, endOfNot, State, state, after, leaveNot, start, Run, stopped, step, rowStep}
 use Rattle.rules.specs.Services.{Rule, Judged, accepted, refused, ruleOf, targetOf, Matched, turnedAway, carriedOut, causeIn}
 
@@ -92,37 +93,37 @@ past n spent free next = stopped 7 n
 past n (left k ss) free next = steps k (next (n - k) ss free)
 
 -- With the budget n after its own step. The end of a search inside a not stands in no state of a round.
-unfoldable pub takeUp : (n : ℕ) → State → (free : ℕ) → (next : ℕ → List State → ℕ → Run) → Run
+unfoldable pub takeUp : Form → (n : ℕ) → State → (free : ℕ) → (next : ℕ → List State → ℕ → Run) → Run
 unfolding stopped step rowStep row after inside past
-takeUp n (state g [] e) free next = elim (leb (length (row asWords e)) free) [
-  | true ↦ rowStep (row asWords e) (next n [] (free - length (row asWords e)))
+takeUp f n (state g [] e) free next = elim (leb (length (row f e)) free) [
+  | true ↦ rowStep (row f e) (next n [] (free - length (row f e)))
   | false ↦ stopped 8 1
 ]
-takeUp n (state g (endOfNot ∷ older) e) free next = step (next n [] free)
-takeUp n (state g (atom p m v ∷ older) e) free next = step (past n (inside n (after p m v older e)) free next)
+takeUp f n (state g (endOfNot ∷ older) e) free next = step (next n [] free)
+takeUp f n (state g (atom p m v ∷ older) e) free next = step (past n (inside n (after p m v older e)) free next)
 
 -- ---- A round: the first state of each list, in the order of the lists; `new` are the new lists so far. `rest` comes after it, with the budget, all new
 -- lists and the words then left.
 
-unfoldable pub takeRound : (budget : ℕ) → (lists new : List Branch) → (free : ℕ) → (rest : ℕ → List Branch → ℕ → Run) → Run
+unfoldable pub takeRound : Form → (budget : ℕ) → (lists new : List Branch) → (free : ℕ) → (rest : ℕ → List Branch → ℕ → Run) → Run
 unfolding stopped branch takeUp
-takeRound zero [] new free rest = rest 0 new free
-takeRound zero (b ∷ bs) new free rest = stopped 7 0
-takeRound (suc n) [] new free rest = rest (suc n) new free
-takeRound (suc n) (b ∷ bs) new free rest = takeUp n (b .first) free (λ left ss room. takeRound left bs (new ++ branch ss) room rest)
+takeRound f zero [] new free rest = rest 0 new free
+takeRound f zero (b ∷ bs) new free rest = stopped 7 0
+takeRound f (suc n) [] new free rest = rest (suc n) new free
+takeRound f (suc n) (b ∷ bs) new free rest = takeUp f n (b .first) free (λ left ss room. takeRound f left bs (new ++ branch ss) room rest)
 
 -- ---- A run.
 
 -- At most `rounds` rounds. 0: no state remains. 7: the budget is used up and states remain, "also where the budget ends with a round". 21: the round would
 -- begin with more than `limit` waiting states.
-unfoldable pub byRounds : (rounds limit budget : ℕ) → List Branch → (free : ℕ) → Run
+unfoldable pub byRounds : Form → (rounds limit budget : ℕ) → List Branch → (free : ℕ) → Run
 unfolding stopped waiting takeRound remainders
-byRounds zero limit n [] free = stopped 0 0
-byRounds zero limit n (b ∷ bs) free = stopped 7 0
-byRounds (suc r) limit n [] free = stopped 0 0
-byRounds (suc r) limit zero (b ∷ bs) free = stopped 7 0
-byRounds (suc r) limit (suc n) (b ∷ bs) free = elim (leb (waiting (b ∷ bs)) limit) [
-  | true ↦ takeRound (suc n) (b ∷ bs) [] free (λ left new room. byRounds r limit left (new ++ remainders (b ∷ bs)) room)
+byRounds f zero limit n [] free = stopped 0 0
+byRounds f zero limit n (b ∷ bs) free = stopped 7 0
+byRounds f (suc r) limit n [] free = stopped 0 0
+byRounds f (suc r) limit zero (b ∷ bs) free = stopped 7 0
+byRounds f (suc r) limit (suc n) (b ∷ bs) free = elim (leb (waiting (b ∷ bs)) limit) [
+  | true ↦ takeRound f (suc n) (b ∷ bs) [] free (λ left new room. byRounds f r limit left (new ++ remainders (b ∷ bs)) room)
   | false ↦ stopped 21 0
 ]
 
@@ -138,22 +139,27 @@ unfoldable pub statesIn : (size words : ℕ) → ℕ
 statesIn size words = words / size
 
 -- Each round takes a step, so that the budget bounds the rounds too.
-unfoldable pub runRounds : (table budget : ℕ) → List State → (free : ℕ) → Run
+unfoldable pub runRounds : Form → (table budget : ℕ) → List State → (free : ℕ) → Run
 unfolding byRounds branch limitOf
-runRounds table n ss free = byRounds n (limitOf table) n (branch ss) free
+runRounds f table n ss free = byRounds f n (limitOf table) n (branch ss) free
 
 -- ---- The service: match in the other order, with a table that holds `table` states.
 
-unfoldable pub roundsTarget : (table budget : ℕ) (room : List ℤ) (ts : List ℤ) → Rule → Judged Value → Matched
+unfoldable pub roundsTarget : Form → (table budget : ℕ) (room : List ℤ) (ts : List ℤ) → Rule → Judged Value → Matched
 unfolding turnedAway carriedOut causeIn runRounds start
-roundsTarget table budget room ts r (refused a i) = turnedAway a i (causeIn a ts) room
-roundsTarget table budget room ts r (accepted v) = carriedOut (runRounds table budget (start (r .matcher) (r .pattern) v ∷ []) (length room)) room
+roundsTarget f table budget room ts r (refused a i) = turnedAway a i (causeIn a ts) room
+roundsTarget f table budget room ts r (accepted v) = carriedOut (runRounds f table budget (start (r .matcher) (r .pattern) v ∷ []) (length room)) room
 
-unfoldable pub roundsRule : (table budget : ℕ) (room : List ℤ) (ts : List ℤ) → Judged Rule → Matched
+unfoldable pub roundsRule : Form → (table budget : ℕ) (room : List ℤ) (ts : List ℤ) → Judged Rule → Matched
 unfolding turnedAway roundsTarget targetOf
-roundsRule table budget room ts (refused a i) = turnedAway a i 0 room
-roundsRule table budget room ts (accepted r) = roundsTarget table budget room ts r (targetOf (r .matcher) ts)
+roundsRule f table budget room ts (refused a i) = turnedAway a i 0 room
+roundsRule f table budget room ts (accepted r) = roundsTarget f table budget room ts r (targetOf (r .matcher) ts)
 
-unfoldable pub matchRounds : (ms ps ts : List ℤ) (table budget : ℕ) (room : List ℤ) → Matched
+unfoldable pub matchRounds : Form → (ms ps ts : List ℤ) (table budget : ℕ) (room : List ℤ) → Matched
 unfolding roundsRule ruleOf
-matchRounds ms ps ts table budget room = roundsRule table budget room ts (ruleOf ms ps)
+matchRounds f ms ps ts table budget room = roundsRule f table budget room ts (ruleOf ms ps)
+
+-- "20, unknown row form, before 1": with 0 in every further number, and the room as it was.
+unfoldable pub matchRoundsWith : (form : ℕ) (ms ps ts : List ℤ) (table budget : ℕ) (room : List ℤ) → Matched
+unfolding formOf turnedAway matchRounds
+matchRoundsWith n ms ps ts table budget room = elim (formOf n) [ none ↦ turnedAway 20 0 0 room | some f ↦ matchRounds f ms ps ts table budget room ]

@@ -5,10 +5,11 @@ use mathlib.Core.List.{List, [], _∷_, _++_, map}
 use lib.ListN.{length, replicate}
 use lib.IntN.{ℤ, pos}
 use Rattle.rules.specs.Tables.{Outcome, held, ofMatch, nums, ints, braces}
-use Rattle.round_rules.specs.Rounds.{statesIn, matchRounds}
+use Rattle.round_rules.specs.Rounds.{statesIn, matchRoundsWith}
 
--- Matcher, pattern, target; how many states the table holds, budget, room; the six numbers, and the words written.
+-- Row form, matcher, pattern, target; how many states the table holds, budget, room; the six numbers, and the words written.
 pub record Case : Type 0 where
+  pub form : ℕ
   pub matcher : List ℤ
   pub pattern : List ℤ
   pub target : List ℤ
@@ -18,13 +19,18 @@ pub record Case : Type 0 where
   pub numbers : List ℕ
   pub written : List ℤ
 
+unfoldable pub askedIn : (form : ℕ) (ms ps ts : List ℤ) (table budget room : ℕ) (ns : List ℕ) (ws : List ℤ) → Case
+askedIn form ms ps ts table budget room ns ws =
+    record { form = form; matcher = ms; pattern = ps; target = ts; table = table; budget = budget; room = room; numbers = ns; written = ws }
+
+-- Rows in form 1.
 unfoldable pub asked : (ms ps ts : List ℤ) (table budget room : ℕ) (ns : List ℕ) (ws : List ℤ) → Case
-asked ms ps ts table budget room ns ws =
-    record { matcher = ms; pattern = ps; target = ts; table = table; budget = budget; room = room; numbers = ns; written = ws }
+unfolding askedIn
+asked ms ps ts table budget room ns ws = askedIn 1 ms ps ts table budget room ns ws
 
 unfoldable pub computed : Case → Outcome
-unfolding matchRounds ofMatch held
-computed c = ofMatch (matchRounds (c .matcher) (c .pattern) (c .target) (c .table) (c .budget) (held (c .room)))
+unfolding matchRoundsWith ofMatch held
+computed c = ofMatch (matchRoundsWith (c .form) (c .matcher) (c .pattern) (c .target) (c .table) (c .budget) (held (c .room)))
 
 unfoldable pub stated : Case → Outcome
 unfolding held
@@ -64,7 +70,7 @@ abbrev pairRows : List ℤ
 pairRows = ints (nums (1 ∷ 2 ∷ 2 ∷ 1 ∷ 1 ∷ 3 ∷ 3 ∷ 1 ∷ 2 ∷ 3 ∷ 3 ∷ 2 ∷ []))
 
 unfoldable pub table : List Case
-unfolding asked statesIn
+unfolding askedIn asked statesIn
 table =
     asked multisetInteger pair (braces (nums (1 ∷ 2 ∷ 3 ∷ []))) 257 1000 64 (0 ∷ 0 ∷ 6 ∷ 40 ∷ 24 ∷ 0 ∷ []) pairRows  -- the rows of each round together
     ∷ asked multisetInteger pair (braces (nums (1 ∷ 2 ∷ 3 ∷ []))) 6 1000 64 (0 ∷ 0 ∷ 6 ∷ 40 ∷ 24 ∷ 0 ∷ []) pairRows  -- a table of six is enough
@@ -72,6 +78,8 @@ table =
     ∷ asked multisetInteger pair (braces (nums (1 ∷ 2 ∷ 3 ∷ []))) 5 14 64 (7 ∷ 0 ∷ 0 ∷ 14 ∷ 0 ∷ 0 ∷ []) []  -- the budget ends with round 6
     ∷ asked multisetInteger pair (braces (nums (1 ∷ 2 ∷ 3 ∷ []))) 5 15 64 (21 ∷ 0 ∷ 0 ∷ 14 ∷ 0 ∷ 0 ∷ []) []
     ∷ asked multisetInteger pair (braces (nums (1 ∷ 2 ∷ 3 ∷ []))) 6 1000 6 (8 ∷ 0 ∷ 1 ∷ 32 ∷ 4 ∷ 0 ∷ []) (ints (nums (1 ∷ 2 ∷ [])))  -- the second row, in round 10, does not fit
+    ∷ askedIn 2 multisetInteger pair (braces (nums (1 ∷ 2 ∷ 3 ∷ []))) 6 40 13 (8 ∷ 0 ∷ 2 ∷ 34 ∷ 12 ∷ 0 ∷ []) (nums (2 ∷ 0 ∷ 0 ∷ 4 ∷ 0 ∷ 0 ∷ 4 ∷ 0 ∷ 0 ∷ 2 ∷ 0 ∷ 0 ∷ []))  -- form 2: where the units stand, in the same order
+    ∷ askedIn 3 [] pair (braces (nums (1 ∷ 2 ∷ 3 ∷ []))) 6 40 13 (20 ∷ 0 ∷ 0 ∷ 0 ∷ 0 ∷ 0 ∷ []) []  -- 20 before 1
     ∷ asked listInteger halves (braces (nums (1 ∷ []))) 1 1 99 (7 ∷ 0 ∷ 0 ∷ 1 ∷ 0 ∷ 0 ∷ []) []  -- 7 against 21
     ∷ asked listInteger halves (braces (nums (1 ∷ []))) 1 2 99 (21 ∷ 0 ∷ 0 ∷ 1 ∷ 0 ∷ 0 ∷ []) []
     ∷ asked listInteger halves (braces (nums (1 ∷ []))) 0 0 99 (7 ∷ 0 ∷ 0 ∷ 0 ∷ 0 ∷ 0 ∷ []) []

@@ -9,7 +9,7 @@ use mathlib.Core.List.{List, [], _∷_, _++_}
 use lib.ListN.{length, length-append, take, drop, take-append-drop}
 use lib.Dec.{T, eqb, eqb→eq, eqb-refl}
 use lib.IntN.{ℤ}
-use Rattle.rules.specs.Rows.{asWords}
+use Rattle.rules.specs.Rows.{Form}
 use Rattle.rules.specs.Search.{State, Run, stopped, run}
 use Rattle.forms.specs.Tests.{is-true, is-false}
 use Rattle.run_rules.specs.Lent.{Numbers, Held, ended, going, Lent, remaining, holding, allowed, since, writtenAt, told, heldAfter, roomAfter, Advanced, goOn, unlike, advanced}
@@ -46,7 +46,7 @@ unfolding since behind
 since-behind rows steps words a b = same-numbers (b .answer) (add-assoc rows (a .rows) (b .rows)) (add-assoc steps (a .steps) (b .steps))
     (add-assoc words (length (a .written)) (length (b .written)) ∙ ap (λ (i : ℕ). words + i) (sym (length-append (a .written) (b .written))))
 
-module _ (a b size : ℕ) (s : State) (ss : List State) (rows steps words : ℕ) where
+module _ (form : Form) (a b size : ℕ) (s : State) (ss : List State) (rows steps words : ℕ) where
   abbrev p : ℕ
   p = allowed a steps
 
@@ -57,29 +57,29 @@ module _ (a b size : ℕ) (s : State) (ss : List State) (rows steps words : ℕ)
   free = size - words
 
   abbrev first : Run
-  first = run asWords p (s ∷ ss) free
+  first = run form p (s ∷ ss) free
 
   abbrev k : Numbers
   k = since rows steps words first
 
   -- What the run by both portions tells and leaves.
-  both-told : told (a + b) size (going s ss rows steps words) ≡ since rows steps words (run asWords (p + q) (s ∷ ss) free)
+  both-told : told (a + b) size (going form s ss rows steps words) ≡ since rows steps words (run form (p + q) (s ∷ ss) free)
   unfolding told
-  both-told = ap (λ i. since rows steps words (run asWords i (s ∷ ss) free)) (allowed-add a b steps)
+  both-told = ap (λ i. since rows steps words (run form i (s ∷ ss) free)) (allowed-add a b steps)
 
-  both-held : heldAfter (a + b) size (going s ss rows steps words) ≡ holding (since rows steps words (run asWords (p + q) (s ∷ ss) free)) (remaining (p + q) (s ∷ ss) free)
+  both-held : heldAfter (a + b) size (going form s ss rows steps words) ≡ holding form (since rows steps words (run form (p + q) (s ∷ ss) free)) (remaining form (p + q) (s ∷ ss) free)
   unfolding heldAfter told
-  both-held = ap (λ i. holding (since rows steps words (run asWords i (s ∷ ss) free)) (remaining i (s ∷ ss) free)) (allowed-add a b steps)
+  both-held = ap (λ i. holding form (since rows steps words (run form i (s ∷ ss) free)) (remaining form i (s ∷ ss) free)) (allowed-add a b steps)
 
   -- After the first portion it has ended, or goes on.
-  pub over-held : remaining p (s ∷ ss) free ≡ [] → heldAfter a size (going s ss rows steps words) ≡ ended k
+  pub over-held : remaining form p (s ∷ ss) free ≡ [] → heldAfter a size (going form s ss rows steps words) ≡ ended k
   unfolding heldAfter told holding
-  over-held e = ap (holding k) e
+  over-held e = ap (holding form k) e
 
-  pub further-held : (t : State) (ts : List State) → remaining p (s ∷ ss) free ≡ t ∷ ts
-      → heldAfter a size (going s ss rows steps words) ≡ going t ts (rows + first .rows) (steps + first .steps) (words + length (first .written))
+  pub further-held : (t : State) (ts : List State) → remaining form p (s ∷ ss) free ≡ t ∷ ts
+      → heldAfter a size (going form s ss rows steps words) ≡ going form t ts (rows + first .rows) (steps + first .steps) (words + length (first .written))
   unfolding heldAfter told holding since
-  further-held t ts e = ap (holding k) e
+  further-held t ts e = ap (holding form k) e
 
   -- The second run.
   pub second-steps : first .steps ≡ p → allowed b (steps + first .steps) ≡ q
@@ -88,34 +88,34 @@ module _ (a b size : ℕ) (s : State) (ss : List State) (rows steps words : ℕ)
   pub second-free : size - (words + length (first .written)) ≡ free - length (first .written)
   second-free = omega arith
 
-  two-held : Split p q (s ∷ ss) free → heldAfter b size (heldAfter a size (going s ss rows steps words)) ≡ heldAfter (a + b) size (going s ss rows steps words)
+  two-held : Split form p q (s ∷ ss) free → heldAfter b size (heldAfter a size (going form s ss rows steps words)) ≡ heldAfter (a + b) size (going form s ss rows steps words)
   unfolding heldAfter told holding
-  two-held (over e n f r) = ap (heldAfter b size) (over-held e) ∙ sym (both-held ∙ ap₂ holding (ap (since rows steps words) r) f)
+  two-held (over e n f r) = ap (heldAfter b size) (over-held e) ∙ sym (both-held ∙ ap₂ (holding form) (ap (since rows steps words) r) f)
   two-held (further t ts e n i f r) = ap (heldAfter b size) (further-held t ts e)
-      ∙ ap₂ (λ x y. holding (since (rows + first .rows) (steps + first .steps) (words + length (first .written)) (run asWords x (t ∷ ts) y)) (remaining x (t ∷ ts) y))
+      ∙ ap₂ (λ x y. holding form (since (rows + first .rows) (steps + first .steps) (words + length (first .written)) (run form x (t ∷ ts) y)) (remaining form x (t ∷ ts) y))
       (second-steps i) second-free
-      ∙ ap (λ x. holding x (remaining q (t ∷ ts) (free - length (first .written)))) (since-behind rows steps words first (run asWords q (t ∷ ts) (free - length (first .written))))
-      ∙ sym (both-held ∙ ap₂ holding (ap (since rows steps words) r) f)
+      ∙ ap (λ x. holding form x (remaining form q (t ∷ ts) (free - length (first .written)))) (since-behind rows steps words first (run form q (t ∷ ts) (free - length (first .written))))
+      ∙ sym (both-held ∙ ap₂ (holding form) (ap (since rows steps words) r) f)
 
-  two-told : Split p q (s ∷ ss) free → told b size (heldAfter a size (going s ss rows steps words)) ≡ told (a + b) size (going s ss rows steps words)
+  two-told : Split form p q (s ∷ ss) free → told b size (heldAfter a size (going form s ss rows steps words)) ≡ told (a + b) size (going form s ss rows steps words)
   unfolding told
   two-told (over e n f r) = ap (told b size) (over-held e) ∙ sym (both-told ∙ ap (since rows steps words) r)
   two-told (further t ts e n i f r) = ap (told b size) (further-held t ts e)
-      ∙ ap₂ (λ x y. since (rows + first .rows) (steps + first .steps) (words + length (first .written)) (run asWords x (t ∷ ts) y)) (second-steps i) second-free
-      ∙ since-behind rows steps words first (run asWords q (t ∷ ts) (free - length (first .written)))
+      ∙ ap₂ (λ x y. since (rows + first .rows) (steps + first .steps) (words + length (first .written)) (run form x (t ∷ ts) y)) (second-steps i) second-free
+      ∙ since-behind rows steps words first (run form q (t ∷ ts) (free - length (first .written)))
       ∙ sym (both-told ∙ ap (since rows steps words) r)
 
 pub held-add : (a b size : ℕ) (h : Held) → heldAfter b size (heldAfter a size h) ≡ heldAfter (a + b) size h
 unfolding heldAfter
 held-add a b size (ended k) = refl
-held-add a b size (going s ss rows steps words) =
-    two-held a b size s ss rows steps words (split (allowed a steps) (allowed b (steps + allowed a steps)) (s ∷ ss) (size - words))
+held-add a b size (going f s ss rows steps words) =
+    two-held f a b size s ss rows steps words (split f (allowed a steps) (allowed b (steps + allowed a steps)) (s ∷ ss) (size - words))
 
 pub told-add : (a b size : ℕ) (h : Held) → told b size (heldAfter a size h) ≡ told (a + b) size h
 unfolding heldAfter told
 told-add a b size (ended k) = refl
-told-add a b size (going s ss rows steps words) =
-    two-told a b size s ss rows steps words (split (allowed a steps) (allowed b (steps + allowed a steps)) (s ∷ ss) (size - words))
+told-add a b size (going f s ss rows steps words) =
+    two-told f a b size s ss rows steps words (split f (allowed a steps) (allowed b (steps + allowed a steps)) (s ∷ ss) (size - words))
 
 -- ---- A portion of 0.
 
@@ -130,18 +130,18 @@ none-written at room = ap (λ i. take at room ++ drop i room) (add-zero at) ∙ 
 pub held-zero : (size : ℕ) (h : Held) → heldAfter 0 size h ≡ h
 unfolding heldAfter told holding since run remaining stopped
 held-zero size (ended k) = refl
-held-zero size (going s ss rows steps words) =
-    ap (λ i. holding (since rows steps words (run asWords i (s ∷ ss) (size - words))) (remaining i (s ∷ ss) (size - words))) (no-steps steps)
+held-zero size (going f s ss rows steps words) =
+    ap (λ i. holding f (since rows steps words (run f i (s ∷ ss) (size - words))) (remaining f i (s ∷ ss) (size - words))) (no-steps steps)
     ∙ go (add-zero rows) (add-zero steps) (add-zero words)
   where
-    go : {x y z : ℕ} → x ≡ rows → y ≡ steps → z ≡ words → going s ss x y z ≡ going s ss rows steps words
-    go a b c i = going s ss (a i) (b i) (c i)
+    go : {x y z : ℕ} → x ≡ rows → y ≡ steps → z ≡ words → going f s ss x y z ≡ going f s ss rows steps words
+    go a b c i = going f s ss (a i) (b i) (c i)
 
 pub room-zero : (size : ℕ) (h : Held) (room : List ℤ) → roomAfter 0 size h room ≡ room
 unfolding roomAfter run stopped
 room-zero size (ended k) room = refl
-room-zero size (going s ss rows steps words) room =
-    ap (λ i. writtenAt words ((run asWords i (s ∷ ss) (size - words)) .written) room) (no-steps steps) ∙ none-written words room
+room-zero size (going f s ss rows steps words) room =
+    ap (λ i. writtenAt words ((run f i (s ∷ ss) (size - words)) .written) room) (no-steps steps) ∙ none-written words room
 
 -- ---- An ended run.
 
@@ -149,11 +149,11 @@ room-zero size (going s ss rows steps words) room =
 pub held-ended : (n size : ℕ) (h : Held) → told n size h .answer ≢ 7 → heldAfter n size h ≡ ended (told n size h)
 unfolding heldAfter told holding since
 held-ended n size (ended k) a = refl
-held-ended n size (going s ss rows steps words) a = go (split (allowed n steps) 0 (s ∷ ss) (size - words))
+held-ended n size (going f s ss rows steps words) a = go (split f (allowed n steps) 0 (s ∷ ss) (size - words))
   where
-    go : Split (allowed n steps) 0 (s ∷ ss) (size - words) → heldAfter n size (going s ss rows steps words) ≡ ended (told n size (going s ss rows steps words))
-    go (over e b f r) = ap (holding (told n size (going s ss rows steps words))) e
-    go (further t ts e b i f r) = absurd (a b)
+    go : Split f (allowed n steps) 0 (s ∷ ss) (size - words) → heldAfter n size (going f s ss rows steps words) ≡ ended (told n size (going f s ss rows steps words))
+    go (over e b g r) = ap (holding f (told n size (going f s ss rows steps words))) e
+    go (further t ts e b i g r) = absurd (a b)
 
 -- ---- Calls.
 

@@ -1,12 +1,13 @@
 -- Document 02, No. 8: a run is opened once with matcher, pattern, target and room size, and is then lent by the game to be advanced by some number of steps.
 use Prim.Native.Nat.{ℕ, zero, suc, _+_, _-_, _^_, min}
 use mathlib.Core.Bool.{true, false}
+use mathlib.Core.Option.{none, some}
 use mathlib.Core.List.{List, [], _∷_, _++_}
 use lib.ListN.{length, take, drop}
 use lib.Dec.{leb, eqb}
 use lib.IntN.{ℤ}
 use Rattle.rules.specs.Forms.{Value}
-use Rattle.rules.specs.Rows.{asWords, row}
+use Rattle.rules.specs.Rows.{Form, formOf, row}
 use Rattle.rules.specs.Search.{atom, endOfNot, State, state, after, leaveNot, start, Run, run}
 use Rattle.rules.specs.Services.{Rule, Judged, accepted, refused, ruleOf, targetOf, causeIn}
 
@@ -28,11 +29,11 @@ pub record Numbers : Type 0 where
 
 -- ---- What a run holds between two calls.
 
--- It has ended, with the numbers that it gives again; or it goes on: "the run holds its waiting states", of which there is a first one, and how many rows,
--- steps and words there were since the opening.
+-- It has ended, with the numbers that it gives again; or it goes on: the form of its rows, "the run holds its waiting states", of which there is a first one,
+-- and how many rows, steps and words there were since the opening.
 pub data Held : Type 0 where
   ended : Numbers → Held
-  going : (first : State) (others : List State) (rows steps words : ℕ) → Held
+  going : (form : Form) (first : State) (others : List State) (rows steps words : ℕ) → Held
 
 -- The room's size that was given at the opening, and what is held.
 pub record Lent : Type 0 where
@@ -57,41 +58,46 @@ turnedAway size a i c = record {
   run = record { size = size; held = ended (record { answer = a; place = i; rows = 0; steps = 0; words = 0; cause = c }) };
 }
 
-unfoldable pub begun : (size : ℕ) → Rule → Value → Opened
+unfoldable pub begun : Form → (size : ℕ) → Rule → Value → Opened
 unfolding start
-begun size r v =
-    record { answer = 0; place = 0; cause = 0; run = record { size = size; held = going (start (r .matcher) (r .pattern) v) [] 0 0 0 } }
+begun f size r v =
+    record { answer = 0; place = 0; cause = 0; run = record { size = size; held = going f (start (r .matcher) (r .pattern) v) [] 0 0 0 } }
 
-unfoldable pub openTarget : (size : ℕ) (ts : List ℤ) → Rule → Judged Value → Opened
+unfoldable pub openTarget : Form → (size : ℕ) (ts : List ℤ) → Rule → Judged Value → Opened
 unfolding turnedAway begun causeIn
-openTarget size ts r (refused a i) = turnedAway size a i (causeIn a ts)
-openTarget size ts r (accepted v) = begun size r v
+openTarget f size ts r (refused a i) = turnedAway size a i (causeIn a ts)
+openTarget f size ts r (accepted v) = begun f size r v
 
-unfoldable pub openRule : (size : ℕ) (ts : List ℤ) → Judged Rule → Opened
+unfoldable pub openRule : Form → (size : ℕ) (ts : List ℤ) → Judged Rule → Opened
 unfolding turnedAway openTarget targetOf
-openRule size ts (refused a i) = turnedAway size a i 0
-openRule size ts (accepted r) = openTarget size ts r (targetOf (r .matcher) ts)
+openRule f size ts (refused a i) = turnedAway size a i 0
+openRule f size ts (accepted r) = openTarget f size ts r (targetOf (r .matcher) ts)
 
 -- "Opening makes the checks 1 to 6."
-unfoldable pub opened : (ms ps ts : List ℤ) (size : ℕ) → Opened
+unfoldable pub openedIn : Form → (ms ps ts : List ℤ) (size : ℕ) → Opened
 unfolding openRule ruleOf
-opened ms ps ts size = openRule size ts (ruleOf ms ps)
+openedIn f ms ps ts size = openRule f size ts (ruleOf ms ps)
+
+-- The opening is told the row form: "20, unknown row form, before 1".
+unfoldable pub opened : (form : ℕ) (ms ps ts : List ℤ) (size : ℕ) → Opened
+unfolding formOf turnedAway openedIn
+opened n ms ps ts size = elim (formOf n) [ none ↦ turnedAway size 20 0 0 | some f ↦ openedIn f ms ps ts size ]
 
 -- ---- An advance.
 
 -- The states that wait after a run by a budget over the waiting states, with `free` words of the room left. None where it ends with 8.
-unfoldable pub remaining : (budget : ℕ) → List State → (free : ℕ) → List State
+unfoldable pub remaining : Form → (budget : ℕ) → List State → (free : ℕ) → List State
 unfolding row after leaveNot
-remaining zero ss free = ss
-remaining (suc n) [] free = []
-remaining (suc n) (state g [] e ∷ ss) free = elim (leb (length (row asWords e)) free) [ true ↦ remaining n ss (free - length (row asWords e)) | false ↦ [] ]
-remaining (suc n) (state g (endOfNot ∷ older) e ∷ ss) free = remaining n (leaveNot ss) free
-remaining (suc n) (state g (atom p m v ∷ older) e ∷ ss) free = remaining n (after p m v older e ++ ss) free
+remaining f zero ss free = ss
+remaining f (suc n) [] free = []
+remaining f (suc n) (state g [] e ∷ ss) free = elim (leb (length (row f e)) free) [ true ↦ remaining f n ss (free - length (row f e)) | false ↦ [] ]
+remaining f (suc n) (state g (endOfNot ∷ older) e ∷ ss) free = remaining f n (leaveNot ss) free
+remaining f (suc n) (state g (atom p m v ∷ older) e ∷ ss) free = remaining f n (after p m v older e ++ ss) free
 
 -- What is held of the states that wait: with none the run has ended.
-unfoldable pub holding : Numbers → List State → Held
-holding k [] = ended k
-holding k (s ∷ ss) = going s ss (k .rows) (k .steps) (k .words)
+unfoldable pub holding : Form → Numbers → List State → Held
+holding f k [] = ended k
+holding f k (s ∷ ss) = going f s ss (k .rows) (k .steps) (k .words)
 
 -- The steps that a portion may take after those that were taken.
 unfoldable pub allowed : (portion taken : ℕ) → ℕ
@@ -111,18 +117,18 @@ writtenAt at new room = take at room ++ (new ++ drop (at + length new) room)
 unfoldable pub told : (portion size : ℕ) → Held → Numbers
 unfolding run allowed since
 told n size (ended k) = k
-told n size (going s ss rows steps words) = since rows steps words (run asWords (allowed n steps) (s ∷ ss) (size - words))
+told n size (going f s ss rows steps words) = since rows steps words (run f (allowed n steps) (s ∷ ss) (size - words))
 
 unfoldable pub heldAfter : (portion size : ℕ) → Held → Held
 unfolding allowed remaining holding told
 heldAfter n size (ended k) = ended k
-heldAfter n size (going s ss rows steps words) =
-    holding (told n size (going s ss rows steps words)) (remaining (allowed n steps) (s ∷ ss) (size - words))
+heldAfter n size (going f s ss rows steps words) =
+    holding f (told n size (going f s ss rows steps words)) (remaining f (allowed n steps) (s ∷ ss) (size - words))
 
 unfoldable pub roomAfter : (portion size : ℕ) → Held → (room : List ℤ) → List ℤ
 unfolding run allowed writtenAt
 roomAfter n size (ended k) room = room
-roomAfter n size (going s ss rows steps words) room = writtenAt words ((run asWords (allowed n steps) (s ∷ ss) (size - words)) .written) room
+roomAfter n size (going f s ss rows steps words) room = writtenAt words ((run f (allowed n steps) (s ∷ ss) (size - words)) .written) room
 
 -- What a call gives: the numbers, what the room then holds, and the run.
 pub record Advanced : Type 0 where

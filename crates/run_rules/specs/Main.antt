@@ -4,29 +4,34 @@ use Prim.Native.Nat.{ℕ, _+_, min}
 use native.Mathlib.Omega.{arith}
 use mathlib.Core.Path.{_≡_, refl, sym, ap, _∙_}
 use mathlib.Core.Logic.{_≢_, _↔_}
+use mathlib.Core.Option.{none, some}
 use mathlib.Core.List.{List, _++_}
 use lib.ListN.{length, take, drop}
 use lib.IntN.{ℤ}
 use Rattle.rules.specs.Forms.{Value}
-use Rattle.rules.specs.Services.{Rule, Matched, causeIn, match}
+use Rattle.rules.specs.Rows.{Form, formOf}
+use Rattle.rules.specs.Services.{Rule, Matched, causeIn, matchWith}
 use Rattle.forms.specs.Faults.{Fault, Sane}
 use Rattle.run_rules.specs.Lent.{cut, Numbers, Lent, turnedAway, begun, opened, goOn, unlike, Advanced, advanced}
 use Rattle.run_rules.specs.Calls.{like, other, held-zero, room-zero, Call, called, given}
 use Rattle.run_rules.specs.Matches.{numbersOf, matchedBy, portioned, sum, as-one, calls-told, calls-room, calls-size, again, zero-again, refusal, refused-ended}
-use Rattle.run_rules.specs.Matches.{opening-refused, opening-begins, match-most}
+use Rattle.run_rules.specs.Matches.{opening-unknown, opening-refused, opening-begins, match-never-19}
 
--- ---- "Opening makes the checks 1 to 6; a run refused there has ended."
+-- ---- "Opening makes the checks 1 to 6; a run refused there has ended." 20 comes before them.
 
-module _ (ms ps ts : List ℤ) (size : ℕ) where
-  pub refused-at-opening : (a i : ℕ) → Fault ms ps ts a i → opened ms ps ts size ≡ turnedAway size a i (causeIn a ts)
-  refused-at-opening = opening-refused ms ps ts size
+module _ (form : ℕ) (ms ps ts : List ℤ) (size : ℕ) where
+  pub unknown-at-opening : formOf form ≡ none → opened form ms ps ts size ≡ turnedAway size 20 0 0
+  unknown-at-opening = opening-unknown form ms ps ts size
 
-  pub begun-at-opening : (r : Rule) (v : Value) → Sane ms ps ts r v → opened ms ps ts size ≡ begun size r v
-  begun-at-opening = opening-begins ms ps ts size
+  pub refused-at-opening : (f : Form) → formOf form ≡ some f → (a i : ℕ) → Fault ms ps ts a i → opened form ms ps ts size ≡ turnedAway size a i (causeIn a ts)
+  refused-at-opening = opening-refused form ms ps ts size
 
-  pub refused-has-ended : opened ms ps ts size .answer ≢ 0 → (n : ℕ) (room : List ℤ) → length room ≡ size
-      → advanced n room (opened ms ps ts size .run) ≡ record { numbers = refusal (opened ms ps ts size); room = room; run = opened ms ps ts size .run }
-  refused-has-ended = refused-ended ms ps ts size
+  pub begun-at-opening : (f : Form) → formOf form ≡ some f → (r : Rule) (v : Value) → Sane ms ps ts r v → opened form ms ps ts size ≡ begun f size r v
+  begun-at-opening = opening-begins form ms ps ts size
+
+  pub refused-has-ended : opened form ms ps ts size .answer ≢ 0 → (n : ℕ) (room : List ℤ) → length room ≡ size
+      → advanced n room (opened form ms ps ts size .run) ≡ record { numbers = refusal (opened form ms ps ts size); room = room; run = opened form ms ps ts size .run }
+  refused-has-ended = refused-ended form ms ps ts size
 
 -- ---- "However the steps are portioned, the rows, steps and answer shall be those of one match with the portions' sum, cut at 4,294,967,295, as budget."
 
@@ -35,36 +40,36 @@ unfolding cut
 cut-is n = refl
 
 -- Every number and every word of the room, where the game leaves the room as it is between the calls.
-pub one-match : (ms ps ts : List ℤ) (n : ℕ) (ns : List ℕ) (room : List ℤ)
-    → matchedBy (portioned n ns room (opened ms ps ts (length room) .run)) ≡ match ms ps ts (cut (n + sum ns)) room
-one-match ms ps ts n ns room = as-one ms ps ts (length room) n ns room refl
+pub one-match : (form : ℕ) (ms ps ts : List ℤ) (n : ℕ) (ns : List ℕ) (room : List ℤ)
+    → matchedBy (portioned n ns room (opened form ms ps ts (length room) .run)) ≡ matchWith form ms ps ts (cut (n + sum ns)) room
+one-match form ms ps ts n ns room = as-one form ms ps ts (length room) n ns room refl
 
 -- Whatever the game writes in the room between the calls, and whatever else it calls for: the numbers are those of that match; from the end of the words
 -- written before, the room holds what that match leaves there, and up to there what it held.
-module _ (ms ps ts : List ℤ) (size : ℕ) (calls : List Call) where
+module _ (form : ℕ) (ms ps ts : List ℤ) (size : ℕ) (calls : List Call) where
   abbrev lent : Lent
-  lent = called calls (opened ms ps ts size .run)
+  lent = called calls (opened form ms ps ts size .run)
 
   abbrev before : (room : List ℤ) → Matched
-  before room = match ms ps ts (cut (given size calls)) room
+  before room = matchWith form ms ps ts (cut (given size calls)) room
 
   abbrev now : (n : ℕ) (room : List ℤ) → Matched
-  now n room = match ms ps ts (cut (given size calls + n)) room
+  now n room = matchWith form ms ps ts (cut (given size calls + n)) room
 
   pub portions-add-up : (n : ℕ) (room : List ℤ) → length room ≡ size → advanced n room lent .numbers ≡ numbersOf (now n room)
-  portions-add-up = calls-told ms ps ts size calls
+  portions-add-up = calls-told form ms ps ts size calls
 
   pub room-holds : (n : ℕ) (room : List ℤ) → length room ≡ size
       → advanced n room lent .room ≡ take (before room .words) room ++ drop (before room .words) (now n room .room)
-  room-holds = calls-room ms ps ts size calls
+  room-holds = calls-room form ms ps ts size calls
 
   -- "19, a result room unlike the size given at opening": exactly then.
   pub unlike-exactly : (n : ℕ) (room : List ℤ) → advanced n room lent .numbers .answer ≡ 19 ↔ length room ≢ size
   unfolding numbersOf unlike
   unlike-exactly n room = (
     λ a e. let k = ap (λ (x : Numbers). x .answer) (portions-add-up n room e) in
-        let m = match-most ms ps ts (cut (given size calls + n)) room in omega arith,
-    λ h. ap (λ (x : Advanced). x .numbers .answer) (other n room lent (λ e. h (e ∙ calls-size ms ps ts size calls))),
+        match-never-19 form ms ps ts (cut (given size calls + n)) room (sym k ∙ a),
+    λ h. ap (λ (x : Advanced). x .numbers .answer) (other n room lent (λ e. h (e ∙ calls-size form ms ps ts size calls))),
   )
 
 -- ---- Any run, however lent: "19 .. before anything else, the run unchanged"; "a portion of 0 changes nothing"; "a run that has ended gives its answer again

@@ -5,18 +5,19 @@ use native.Mathlib.Omega.{arith}
 use mathlib.Core.Path.{_≡_, refl, sym, ap, ap₂, _∙_, subst}
 use mathlib.Core.Logic.{_≢_}
 use mathlib.Core.Bool.{Bool, true, false}
+use mathlib.Core.Option.{Option, none, some}
 use mathlib.Core.List.{List, [], _∷_, _++_, append-nil, append-assoc}
 use lib.ListN.{length, length-append, take, drop, take-append-drop, length-drop}
 use lib.Seq.{take-append-seam, drop-append-seam, drop-append-add, drop-drop}
 use lib.Dec.{leb}
 use lib.IntN.{ℤ}
 use Rattle.rules.specs.Forms.{Value}
-use Rattle.rules.specs.Rows.{asWords, row}
+use Rattle.rules.specs.Rows.{Form, formOf, row}
 use Rattle.rules.specs.Search.{atom, endOfNot, State, state, after, leaveNot, start, Run, stopped, rowStep, run}
-use Rattle.rules.specs.Services.{Rule, Judged, accepted, refused, ruleOf, targetOf, Matched, carriedOut, causeIn, matchIn, match, matchRule, matchTarget}
+use Rattle.rules.specs.Services.{Rule, Judged, accepted, refused, ruleOf, targetOf, Matched, carriedOut, causeIn, matchIn, matchWith, matchRule, matchTarget}
 use Rattle.rules.specs.Services
 use Rattle.forms.specs.Faults.{Fault, Sane, rule-accepted, target-accepted, refused-exactly, Judgement, match-turned, match-judged, turned, ran}
-use Rattle.run_rules.specs.Lent.{cut, Numbers, Held, ended, going, Lent, Opened, turnedAway, begun, openTarget, openRule, opened, allowed}
+use Rattle.run_rules.specs.Lent.{cut, Numbers, Held, ended, going, Lent, Opened, turnedAway, begun, openTarget, openRule, openedIn, opened, allowed}
 use Rattle.run_rules.specs.Lent.{since, writtenAt, told, heldAfter, roomAfter, Advanced, goOn, unlike, advanced}
 use Rattle.run_rules.specs.Splits.{behind, Split, over, further, split, written-fits}
 use Rattle.run_rules.specs.Calls.{like, other, same-numbers, held-add, told-add, held-zero, held-ended, none-written, over-held, further-held, second-steps}
@@ -38,22 +39,29 @@ matchedBy a = matched (a .numbers) (a .room)
 
 pub data Beside (size : ℕ) (o : Opened) (m : ℕ → List ℤ → Matched) : Type 0 where
   away : (a i c : ℕ) → o ≡ turnedAway size a i c → ((budget : ℕ) (room : List ℤ) → m budget room ≡ Services.turnedAway a i c room) → Beside size o m
-  fresh : (r : Rule) (v : Value) → o ≡ begun size r v
-      → ((budget : ℕ) (room : List ℤ) → m budget room ≡ carriedOut (run asWords budget (start (r .matcher) (r .pattern) v ∷ []) (length room)) room) → Beside size o m
+  fresh : (form : Form) (r : Rule) (v : Value) → o ≡ begun form size r v
+      → ((budget : ℕ) (room : List ℤ) → m budget room ≡ carriedOut (run form budget (start (r .matcher) (r .pattern) v ∷ []) (length room)) room)
+      → Beside size o m
 
-beside-target : (size : ℕ) (ts : List ℤ) (r : Rule) (x : Judged Value) → Beside size (openTarget size ts r x) (λ budget room. matchTarget asWords budget room ts r x)
+beside-target : (form : Form) (size : ℕ) (ts : List ℤ) (r : Rule) (x : Judged Value)
+    → Beside size (openTarget form size ts r x) (λ budget room. matchTarget form budget room ts r x)
 unfolding openTarget matchTarget
-beside-target size ts r (refused a i) = away a i (causeIn a ts) refl (λ budget room. refl)
-beside-target size ts r (accepted v) = fresh r v refl (λ budget room. refl)
+beside-target form size ts r (refused a i) = away a i (causeIn a ts) refl (λ budget room. refl)
+beside-target form size ts r (accepted v) = fresh form r v refl (λ budget room. refl)
 
-beside-rule : (size : ℕ) (ts : List ℤ) (x : Judged Rule) → Beside size (openRule size ts x) (λ budget room. matchRule asWords budget room ts x)
+beside-rule : (form : Form) (size : ℕ) (ts : List ℤ) (x : Judged Rule) → Beside size (openRule form size ts x) (λ budget room. matchRule form budget room ts x)
 unfolding openRule matchRule
-beside-rule size ts (refused a i) = away a i 0 refl (λ budget room. refl)
-beside-rule size ts (accepted r) = beside-target size ts r (targetOf (r .matcher) ts)
+beside-rule form size ts (refused a i) = away a i 0 refl (λ budget room. refl)
+beside-rule form size ts (accepted r) = beside-target form size ts r (targetOf (r .matcher) ts)
 
-pub beside : (ms ps ts : List ℤ) (size : ℕ) → Beside size (opened ms ps ts size) (match ms ps ts)
-unfolding opened match matchIn
-beside ms ps ts size = beside-rule size ts (ruleOf ms ps)
+pub beside : (n : ℕ) (ms ps ts : List ℤ) (size : ℕ) → Beside size (opened n ms ps ts size) (matchWith n ms ps ts)
+unfolding opened openedIn matchWith matchIn
+beside n ms ps ts size = go (formOf n)
+  where
+    go : (x : Option Form) → Beside size (elim x as (λ _. Opened) [ none ↦ turnedAway size 20 0 0 | some f ↦ openedIn f ms ps ts size ])
+        (λ budget room. elim x as (λ _. Matched) [ none ↦ Services.turnedAway 20 0 0 room | some f ↦ matchIn f ms ps ts budget room ])
+    go none = away 20 0 0 refl (λ budget room. refl)
+    go (some f) = beside-rule f size ts (ruleOf ms ps)
 
 -- ---- What is written in the room.
 
@@ -71,14 +79,14 @@ onto-old old new room =
     (drop-append-add old (drop (length old) room) (length new) ∙ drop-drop (length new) (length old) room ∙ ap (λ i. drop i room) (sym (length-append old new)))
     ∙ sym (append-assoc old new (drop (length (old ++ new)) room))
 
-module _ (size : ℕ) (s : State) where
+module _ (form : Form) (size : ℕ) (s : State) where
   abbrev begin : Held
-  begin = going s [] 0 0 0
+  begin = going form s [] 0 0 0
 
   -- What a run from the beginning writes with a sum of portions.
   unfoldable wordsBy : ℕ → List ℤ
   unfolding allowed run
-  wordsBy n = (run asWords (allowed n 0) (s ∷ []) (size - 0)) .written
+  wordsBy n = (run form (allowed n 0) (s ∷ []) (size - 0)) .written
 
   -- A further portion adds some words, and writes these.
   record Adds (a b : ℕ) : Type 0 where
@@ -86,27 +94,27 @@ module _ (size : ℕ) (s : State) where
     is : wordsBy (a + b) ≡ wordsBy a ++ new
     leaves : (room : List ℤ) → roomAfter b size (heldAfter a size begin) room ≡ writtenAt (length (wordsBy a)) new room
 
-  both-words : (a b : ℕ) → wordsBy (a + b) ≡ (run asWords (allowed a 0 + allowed b (0 + allowed a 0)) (s ∷ []) (size - 0)) .written
+  both-words : (a b : ℕ) → wordsBy (a + b) ≡ (run form (allowed a 0 + allowed b (0 + allowed a 0)) (s ∷ []) (size - 0)) .written
   unfolding wordsBy
-  both-words a b = ap (λ i. (run asWords i (s ∷ []) (size - 0)) .written) (allowed-add a b 0)
+  both-words a b = ap (λ i. (run form i (s ∷ []) (size - 0)) .written) (allowed-add a b 0)
 
-  adds-by : (a b : ℕ) → Split (allowed a 0) (allowed b (0 + allowed a 0)) (s ∷ []) (size - 0) → Adds a b
+  adds-by : (a b : ℕ) → Split form (allowed a 0) (allowed b (0 + allowed a 0)) (s ∷ []) (size - 0) → Adds a b
   unfolding wordsBy roomAfter behind
   adds-by a b (over e n f r) = record {
     new = [];
     is = both-words a b ∙ ap (λ (x : Run). x .written) r ∙ sym (append-nil (wordsBy a));
-    leaves = λ room. ap (λ h. roomAfter b size h room) (over-held a b size s [] 0 0 0 e) ∙ sym (none-written (length (wordsBy a)) room);
+    leaves = λ room. ap (λ h. roomAfter b size h room) (over-held form a b size s [] 0 0 0 e) ∙ sym (none-written (length (wordsBy a)) room);
   }
   adds-by a b (further t ts e n i f r) = record {
-    new = (run asWords (allowed b (0 + allowed a 0)) (t ∷ ts) (size - 0 - length (wordsBy a))) .written;
+    new = (run form (allowed b (0 + allowed a 0)) (t ∷ ts) (size - 0 - length (wordsBy a))) .written;
     is = both-words a b ∙ ap (λ (x : Run). x .written) r;
-    leaves = λ room. ap (λ h. roomAfter b size h room) (further-held a b size s [] 0 0 0 t ts e)
-        ∙ ap₂ (λ x y. writtenAt (0 + length (wordsBy a)) ((run asWords x (t ∷ ts) y) .written) room) (second-steps a b size s [] 0 0 0 i) (second-free a b size s [] 0 0 0)
-        ∙ ap (λ x. writtenAt x ((run asWords (allowed b (0 + allowed a 0)) (t ∷ ts) (size - 0 - length (wordsBy a))) .written) room) (zero-add (length (wordsBy a)));
+    leaves = λ room. ap (λ h. roomAfter b size h room) (further-held form a b size s [] 0 0 0 t ts e)
+        ∙ ap₂ (λ x y. writtenAt (0 + length (wordsBy a)) ((run form x (t ∷ ts) y) .written) room) (second-steps form a b size s [] 0 0 0 i) (second-free form a b size s [] 0 0 0)
+        ∙ ap (λ x. writtenAt x ((run form (allowed b (0 + allowed a 0)) (t ∷ ts) (size - 0 - length (wordsBy a))) .written) room) (zero-add (length (wordsBy a)));
   }
 
   adds : (a b : ℕ) → Adds a b
-  adds a b = adds-by a b (split (allowed a 0) (allowed b (0 + allowed a 0)) (s ∷ []) (size - 0))
+  adds a b = adds-by a b (split form (allowed a 0) (allowed b (0 + allowed a 0)) (s ∷ []) (size - 0))
 
   -- The whole room after a sum of portions, where the game leaves it as it is.
   unfoldable roomBy : ℕ → List ℤ → List ℤ
@@ -126,7 +134,7 @@ module _ (size : ℕ) (s : State) where
   room-long : (n : ℕ) (room : List ℤ) → length room ≡ size → length (roomBy n room) ≡ size
   unfolding roomBy wordsBy
   room-long n room e =
-      let k = written-fits (allowed n 0) (s ∷ []) (size - 0) in
+      let k = written-fits form (allowed n 0) (s ∷ []) (size - 0) in
       let a = length-append (wordsBy n) (drop (length (wordsBy n)) room) in let b = length-drop (length (wordsBy n)) room in
       omega arith
 
@@ -141,20 +149,20 @@ unfoldable pub sum : List ℕ → ℕ
 sum [] = 0
 sum (n ∷ ns) = n + sum ns
 
-module _ (size : ℕ) (s : State) where
+module _ (form : Form) (size : ℕ) (s : State) where
   portioned-fresh : (g n : ℕ) (ns : List ℕ) (room : List ℤ) → length room ≡ size
-      → matchedBy (portioned n ns (roomBy size s g room) (record { size = size; held = heldAfter g size (going s [] 0 0 0) }))
-      ≡ matched (told (g + (n + sum ns)) size (going s [] 0 0 0)) (roomBy size s (g + (n + sum ns)) room)
+      → matchedBy (portioned n ns (roomBy form size s g room) (record { size = size; held = heldAfter g size (going form s [] 0 0 0) }))
+      ≡ matched (told (g + (n + sum ns)) size (going form s [] 0 0 0)) (roomBy form size s (g + (n + sum ns)) room)
   unfolding portioned sum matchedBy goOn
-  portioned-fresh g n [] room e = ap matchedBy (like n (roomBy size s g room) (record { size = size; held = heldAfter g size (going s [] 0 0 0) }) (room-long size s g room e))
-      ∙ ap₂ matched (told-add g n size (going s [] 0 0 0)) (room-onto size s g n room)
-      ∙ ap (λ i. matched (told i size (going s [] 0 0 0)) (roomBy size s i room)) (ap (λ (i : ℕ). g + i) (sym (add-zero n)))
+  portioned-fresh g n [] room e = ap matchedBy (like n (roomBy form size s g room) (record { size = size; held = heldAfter g size (going form s [] 0 0 0) }) (room-long form size s g room e))
+      ∙ ap₂ matched (told-add g n size (going form s [] 0 0 0)) (room-onto form size s g n room)
+      ∙ ap (λ i. matched (told i size (going form s [] 0 0 0)) (roomBy form size s i room)) (ap (λ (i : ℕ). g + i) (sym (add-zero n)))
   portioned-fresh g n (m ∷ ns) room e =
       ap (λ (a : Advanced). matchedBy (portioned m ns (a .room) (a .run)))
-      (like n (roomBy size s g room) (record { size = size; held = heldAfter g size (going s [] 0 0 0) }) (room-long size s g room e))
-      ∙ ap₂ (λ x h. matchedBy (portioned m ns x (record { size = size; held = h }))) (room-onto size s g n room) (held-add g n size (going s [] 0 0 0))
+      (like n (roomBy form size s g room) (record { size = size; held = heldAfter g size (going form s [] 0 0 0) }) (room-long form size s g room e))
+      ∙ ap₂ (λ x h. matchedBy (portioned m ns x (record { size = size; held = h }))) (room-onto form size s g n room) (held-add g n size (going form s [] 0 0 0))
       ∙ portioned-fresh (g + n) m ns room e
-      ∙ ap (λ i. matched (told i size (going s [] 0 0 0)) (roomBy size s i room)) (add-assoc g n (m + sum ns))
+      ∙ ap (λ i. matched (told i size (going form s [] 0 0 0)) (roomBy form size s i room)) (add-assoc g n (m + sum ns))
 
 portioned-away : (size : ℕ) (k : Numbers) (n : ℕ) (ns : List ℕ) (room : List ℤ) → length room ≡ size
     → matchedBy (portioned n ns room (record { size = size; held = ended k })) ≡ matched k room
@@ -166,81 +174,81 @@ portioned-away size k n (m ∷ ns) room e =
 -- ---- As one match.
 
 -- From the beginning with one portion.
-fresh-run : (n size : ℕ) (s : State) (room : List ℤ) → length room ≡ size
-    → run asWords (allowed n 0) (s ∷ []) (size - 0) ≡ run asWords (cut n) (s ∷ []) (length room)
+fresh-run : (form : Form) (n size : ℕ) (s : State) (room : List ℤ) → length room ≡ size
+    → run form (allowed n 0) (s ∷ []) (size - 0) ≡ run form (cut n) (s ∷ []) (length room)
 unfolding allowed cut
-fresh-run n size s room e = ap (λ i. run asWords (cut n) (s ∷ []) i) (sub-zero size ∙ sym e)
+fresh-run form n size s room e = ap (λ i. run form (cut n) (s ∷ []) i) (sub-zero size ∙ sym e)
 
-fresh-told : (n size : ℕ) (s : State) (room : List ℤ) → length room ≡ size
-    → told n size (going s [] 0 0 0) ≡ numbersOf (carriedOut (run asWords (cut n) (s ∷ []) (length room)) room)
+fresh-told : (form : Form) (n size : ℕ) (s : State) (room : List ℤ) → length room ≡ size
+    → told n size (going form s [] 0 0 0) ≡ numbersOf (carriedOut (run form (cut n) (s ∷ []) (length room)) room)
 unfolding told since numbersOf carriedOut
-fresh-told n size s room e = ap (since 0 0 0) (fresh-run n size s room e)
-    ∙ same-numbers ((run asWords (cut n) (s ∷ []) (length room)) .answer) (zero-add _) (zero-add _) (zero-add _)
+fresh-told form n size s room e = ap (since 0 0 0) (fresh-run form n size s room e)
+    ∙ same-numbers ((run form (cut n) (s ∷ []) (length room)) .answer) (zero-add _) (zero-add _) (zero-add _)
 
-fresh-room : (n size : ℕ) (s : State) (room : List ℤ) → length room ≡ size
-    → roomBy size s n room ≡ carriedOut (run asWords (cut n) (s ∷ []) (length room)) room .room
+fresh-room : (form : Form) (n size : ℕ) (s : State) (room : List ℤ) → length room ≡ size
+    → roomBy form size s n room ≡ carriedOut (run form (cut n) (s ∷ []) (length room)) room .room
 unfolding roomBy wordsBy carriedOut
-fresh-room n size s room e = ap (λ (r : Run). r .written ++ drop (length (r .written)) room) (fresh-run n size s room e)
+fresh-room form n size s room e = ap (λ (r : Run). r .written ++ drop (length (r .written)) room) (fresh-run form n size s room e)
 
-fresh-words : (n size : ℕ) (s : State) (room : List ℤ) → length room ≡ size
-    → length (wordsBy size s n) ≡ carriedOut (run asWords (cut n) (s ∷ []) (length room)) room .words
+fresh-words : (form : Form) (n size : ℕ) (s : State) (room : List ℤ) → length room ≡ size
+    → length (wordsBy form size s n) ≡ carriedOut (run form (cut n) (s ∷ []) (length room)) room .words
 unfolding wordsBy carriedOut
-fresh-words n size s room e = ap (λ (r : Run). length (r .written)) (fresh-run n size s room e)
+fresh-words form n size s room e = ap (λ (r : Run). length (r .written)) (fresh-run form n size s room e)
 
-module _ (ms ps ts : List ℤ) (size : ℕ) where
+module _ (form : ℕ) (ms ps ts : List ℤ) (size : ℕ) where
   abbrev it : Lent
-  it = opened ms ps ts size .run
+  it = opened form ms ps ts size .run
 
   pub opened-size : it ≡ record { size = size; held = it .held }
   unfolding turnedAway begun
-  opened-size = go (beside ms ps ts size)
+  opened-size = go (beside form ms ps ts size)
     where
-      go : Beside size (opened ms ps ts size) (match ms ps ts) → it ≡ record { size = size; held = it .held }
+      go : Beside size (opened form ms ps ts size) (matchWith form ms ps ts) → it ≡ record { size = size; held = it .held }
       go (away a i c e f) = subst (λ (o : Opened). o .run ≡ record { size = size; held = o .run .held }) (sym e) refl
-      go (fresh r v e f) = subst (λ (o : Opened). o .run ≡ record { size = size; held = o .run .held }) (sym e) refl
+      go (fresh g r v e f) = subst (λ (o : Opened). o .run ≡ record { size = size; held = o .run .held }) (sym e) refl
 
   -- One portion tells what the match tells.
-  one-told : (n : ℕ) (room : List ℤ) → length room ≡ size → told n size (it .held) ≡ numbersOf (match ms ps ts (cut n) room)
+  one-told : (n : ℕ) (room : List ℤ) → length room ≡ size → told n size (it .held) ≡ numbersOf (matchWith form ms ps ts (cut n) room)
   unfolding turnedAway begun told numbersOf Services.turnedAway
-  one-told n room z = go (beside ms ps ts size)
+  one-told n room z = go (beside form ms ps ts size)
     where
-      go : Beside size (opened ms ps ts size) (match ms ps ts) → told n size (it .held) ≡ numbersOf (match ms ps ts (cut n) room)
+      go : Beside size (opened form ms ps ts size) (matchWith form ms ps ts) → told n size (it .held) ≡ numbersOf (matchWith form ms ps ts (cut n) room)
       go (away a i c e f) = ap (λ (o : Opened). told n size (o .run .held)) e ∙ sym (ap numbersOf (f (cut n) room))
-      go (fresh r v e f) = ap (λ (o : Opened). told n size (o .run .held)) e ∙ fresh-told n size (start (r .matcher) (r .pattern) v) room z
+      go (fresh g r v e f) = ap (λ (o : Opened). told n size (o .run .held)) e ∙ fresh-told g n size (start (r .matcher) (r .pattern) v) room z
           ∙ sym (ap numbersOf (f (cut n) room))
 
   -- A portion leaves in the room what the match leaves, behind the words of the portions before.
   one-room : (a b : ℕ) (room : List ℤ) → length room ≡ size
       → roomAfter b size (heldAfter a size (it .held)) room
-      ≡ take (match ms ps ts (cut a) room .words) room ++ drop (match ms ps ts (cut a) room .words) (match ms ps ts (cut (a + b)) room .room)
+      ≡ take (matchWith form ms ps ts (cut a) room .words) room ++ drop (matchWith form ms ps ts (cut a) room .words) (matchWith form ms ps ts (cut (a + b)) room .room)
   unfolding turnedAway begun heldAfter roomAfter Services.turnedAway
-  one-room a b room z = go (beside ms ps ts size)
+  one-room a b room z = go (beside form ms ps ts size)
     where
-      go : Beside size (opened ms ps ts size) (match ms ps ts) → roomAfter b size (heldAfter a size (it .held)) room
-          ≡ take (match ms ps ts (cut a) room .words) room ++ drop (match ms ps ts (cut a) room .words) (match ms ps ts (cut (a + b)) room .room)
+      go : Beside size (opened form ms ps ts size) (matchWith form ms ps ts) → roomAfter b size (heldAfter a size (it .held)) room
+          ≡ take (matchWith form ms ps ts (cut a) room .words) room ++ drop (matchWith form ms ps ts (cut a) room .words) (matchWith form ms ps ts (cut (a + b)) room .room)
       go (away x i c e f) = ap (λ (o : Opened). roomAfter b size (heldAfter a size (o .run .held)) room) e
           ∙ sym (ap₂ (λ (k m : Matched). take (k .words) room ++ drop (k .words) (m .room)) (f (cut a) room) (f (cut (a + b)) room))
-      go (fresh r v e f) =
+      go (fresh g r v e f) =
           let s = start (r .matcher) (r .pattern) v in
-          ap (λ (o : Opened). roomAfter b size (heldAfter a size (o .run .held)) room) e ∙ room-behind size s a b room
-          ∙ ap₂ (λ (i : ℕ) (l : List ℤ). take i room ++ drop i l) (fresh-words a size s room z) (fresh-room (a + b) size s room z)
+          ap (λ (o : Opened). roomAfter b size (heldAfter a size (o .run .held)) room) e ∙ room-behind g size s a b room
+          ∙ ap₂ (λ (i : ℕ) (l : List ℤ). take i room ++ drop i l) (fresh-words g a size s room z) (fresh-room g (a + b) size s room z)
           ∙ sym (ap₂ (λ (k m : Matched). take (k .words) room ++ drop (k .words) (m .room)) (f (cut a) room) (f (cut (a + b)) room))
 
   -- The portions one after the other.
-  pub as-one : (n : ℕ) (ns : List ℕ) (room : List ℤ) → length room ≡ size → matchedBy (portioned n ns room it) ≡ match ms ps ts (cut (n + sum ns)) room
+  pub as-one : (n : ℕ) (ns : List ℕ) (room : List ℤ) → length room ≡ size → matchedBy (portioned n ns room it) ≡ matchWith form ms ps ts (cut (n + sum ns)) room
   unfolding turnedAway begun numbersOf matched Services.turnedAway roomBy wordsBy
-  as-one n ns room z = go (beside ms ps ts size)
+  as-one n ns room z = go (beside form ms ps ts size)
     where
-      go : Beside size (opened ms ps ts size) (match ms ps ts) → matchedBy (portioned n ns room it) ≡ match ms ps ts (cut (n + sum ns)) room
+      go : Beside size (opened form ms ps ts size) (matchWith form ms ps ts) → matchedBy (portioned n ns room it) ≡ matchWith form ms ps ts (cut (n + sum ns)) room
       go (away a i c e f) = ap (λ (o : Opened). matchedBy (portioned n ns room (o .run))) e
           ∙ portioned-away size (record { answer = a; place = i; rows = 0; steps = 0; words = 0; cause = c }) n ns room z ∙ sym (f (cut (n + sum ns)) room)
-      go (fresh r v e f) =
+      go (fresh g r v e f) =
           let s = start (r .matcher) (r .pattern) v in
           ap (λ (o : Opened). matchedBy (portioned n ns room (o .run))) e
-          ∙ ap (λ h. matchedBy (portioned n ns room (record { size = size; held = h }))) (sym (held-zero size (going s [] 0 0 0)))
-          ∙ portioned-fresh size s 0 n ns room z
-          ∙ ap (λ i. matched (told i size (going s [] 0 0 0)) (roomBy size s i room)) (zero-add (n + sum ns))
-          ∙ ap₂ matched (fresh-told (n + sum ns) size s room z) (fresh-room (n + sum ns) size s room z)
+          ∙ ap (λ h. matchedBy (portioned n ns room (record { size = size; held = h }))) (sym (held-zero size (going g s [] 0 0 0)))
+          ∙ portioned-fresh g size s 0 n ns room z
+          ∙ ap (λ i. matched (told i size (going g s [] 0 0 0)) (roomBy g size s i room)) (zero-add (n + sum ns))
+          ∙ ap₂ matched (fresh-told g (n + sum ns) size s room z) (fresh-room g (n + sum ns) size s room z)
           ∙ sym (f (cut (n + sum ns)) room)
 
   module _ (calls : List Call) where
@@ -250,15 +258,15 @@ module _ (ms ps ts : List ℤ) (size : ℕ) where
     lent-is : lent ≡ record { size = size; held = heldAfter (given size calls) size (it .held) }
     lent-is = ap (called calls) opened-size ∙ called-held calls size (it .held)
 
-    pub calls-told : (n : ℕ) (room : List ℤ) → length room ≡ size → advanced n room lent .numbers ≡ numbersOf (match ms ps ts (cut (given size calls + n)) room)
+    pub calls-told : (n : ℕ) (room : List ℤ) → length room ≡ size → advanced n room lent .numbers ≡ numbersOf (matchWith form ms ps ts (cut (given size calls + n)) room)
     unfolding goOn
     calls-told n room z = ap (λ l. advanced n room l .numbers) lent-is
         ∙ ap (λ (a : Advanced). a .numbers) (like n room (record { size = size; held = heldAfter (given size calls) size (it .held) }) z)
         ∙ told-add (given size calls) n size (it .held) ∙ one-told (given size calls + n) room z
 
     pub calls-room : (n : ℕ) (room : List ℤ) → length room ≡ size → advanced n room lent .room
-        ≡ take (match ms ps ts (cut (given size calls)) room .words) room
-        ++ drop (match ms ps ts (cut (given size calls)) room .words) (match ms ps ts (cut (given size calls + n)) room .room)
+        ≡ take (matchWith form ms ps ts (cut (given size calls)) room .words) room
+        ++ drop (matchWith form ms ps ts (cut (given size calls)) room .words) (matchWith form ms ps ts (cut (given size calls + n)) room .room)
     unfolding goOn
     calls-room n room z = ap (λ l. advanced n room l .room) lent-is
         ∙ ap (λ (a : Advanced). a .room) (like n room (record { size = size; held = heldAfter (given size calls) size (it .held) }) z)
@@ -295,65 +303,88 @@ zero-again n x l hx y hy = ap (λ (a : Advanced). advanced 0 y (a .run) .numbers
 unfoldable pub refusal : Opened → Numbers
 refusal o = record { answer = o .answer; place = o .place; rows = 0; steps = 0; words = 0; cause = o .cause }
 
-module _ (ms ps ts : List ℤ) (size : ℕ) where
-  pub refused-ended : opened ms ps ts size .answer ≢ 0 → (n : ℕ) (room : List ℤ) → length room ≡ size
-      → advanced n room (opened ms ps ts size .run) ≡ record { numbers = refusal (opened ms ps ts size); room = room; run = opened ms ps ts size .run }
+module _ (form : ℕ) (ms ps ts : List ℤ) (size : ℕ) where
+  pub refused-ended : opened form ms ps ts size .answer ≢ 0 → (n : ℕ) (room : List ℤ) → length room ≡ size
+      → advanced n room (opened form ms ps ts size .run) ≡ record { numbers = refusal (opened form ms ps ts size); room = room; run = opened form ms ps ts size .run }
   unfolding turnedAway begun goOn told heldAfter roomAfter refusal
-  refused-ended h n room z = go (beside ms ps ts size)
+  refused-ended h n room z = go (beside form ms ps ts size)
     where
-      go : Beside size (opened ms ps ts size) (match ms ps ts) → advanced n room (opened ms ps ts size .run)
-          ≡ record { numbers = refusal (opened ms ps ts size); room = room; run = opened ms ps ts size .run }
+      go : Beside size (opened form ms ps ts size) (matchWith form ms ps ts) → advanced n room (opened form ms ps ts size .run)
+          ≡ record { numbers = refusal (opened form ms ps ts size); room = room; run = opened form ms ps ts size .run }
       go (away a i c e f) = subst (λ (o : Opened). advanced n room (o .run) ≡ record { numbers = refusal o; room = room; run = o .run })
           (sym e) (like n room (turnedAway size a i c .run) z)
-      go (fresh r v e f) = absurd (h (ap (λ (o : Opened). o .answer) e))
+      go (fresh g r v e f) = absurd (h (ap (λ (o : Opened). o .answer) e))
 
-  -- "The checks 1 to 6."
-  pub opening-refused : (a i : ℕ) → Fault ms ps ts a i → opened ms ps ts size ≡ turnedAway size a i (causeIn a ts)
-  unfolding match Services.turnedAway carriedOut run stopped
-  opening-refused a i w = go (beside ms ps ts size)
-    where
-      q : match ms ps ts 0 [] ≡ Services.turnedAway a i (causeIn a ts) []
-      q = match-turned asWords ms ps ts 0 [] a i w
+  -- "20, unknown row form, before 1."
+  pub opening-unknown : formOf form ≡ none → opened form ms ps ts size ≡ turnedAway size 20 0 0
+  unfolding opened
+  opening-unknown e = ap (λ (x : Option Form). elim x as (λ _. Opened) [ none ↦ turnedAway size 20 0 0 | some f ↦ openedIn f ms ps ts size ]) e
 
-      six : a ≤ 6
-      six = refused-exactly asWords ms ps ts 0 [] a i .0 w .1
+  module _ (g : Form) (known : formOf form ≡ some g) where
+    opened-in : opened form ms ps ts size ≡ openedIn g ms ps ts size
+    unfolding opened
+    opened-in = ap (λ (x : Option Form). elim x as (λ _. Opened) [ none ↦ turnedAway size 20 0 0 | some f ↦ openedIn f ms ps ts size ]) known
 
-      clash : 7 ≡ a → ⊥
-      clash h = let k = six in omega arith
+    matched-in : (budget : ℕ) (room : List ℤ) → matchWith form ms ps ts budget room ≡ matchIn g ms ps ts budget room
+    unfolding matchWith
+    matched-in budget room =
+        ap (λ (x : Option Form). elim x as (λ _. Matched) [ none ↦ Services.turnedAway 20 0 0 room | some f ↦ matchIn f ms ps ts budget room ]) known
 
-      go : Beside size (opened ms ps ts size) (match ms ps ts) → opened ms ps ts size ≡ turnedAway size a i (causeIn a ts)
-      go (away b j c e f) =
-          let t = sym (f 0 []) ∙ q in
-          e ∙ ap₂ (λ x y. turnedAway size x y c) (ap (λ (m : Matched). m .answer) t) (ap (λ (m : Matched). m .place) t)
-          ∙ ap (turnedAway size a i) (ap (λ (m : Matched). m .cause) t)
-      go (fresh r v e f) = absurd (clash (ap (λ (m : Matched). m .answer) (sym (f 0 []) ∙ q)))
+    -- "The checks 1 to 6."
+    pub opening-refused : (a i : ℕ) → Fault ms ps ts a i → opened form ms ps ts size ≡ turnedAway size a i (causeIn a ts)
+    unfolding Services.turnedAway carriedOut run stopped
+    opening-refused a i w = go (beside form ms ps ts size)
+      where
+        q : matchWith form ms ps ts 0 [] ≡ Services.turnedAway a i (causeIn a ts) []
+        q = matched-in 0 [] ∙ match-turned g ms ps ts 0 [] a i w
 
-  pub opening-begins : (r : Rule) (v : Value) → Sane ms ps ts r v → opened ms ps ts size ≡ begun size r v
-  unfolding opened openRule openTarget
-  opening-begins r v w =
-      ap (openRule size ts) (rule-accepted ms ps r .1 (w .rule)) ∙ ap (openTarget size ts r) (target-accepted (r .matcher) ts v .1 (w .target))
+        six : a ≤ 6
+        six = refused-exactly g ms ps ts 0 [] a i .0 w .1
+
+        clash : 7 ≡ a → ⊥
+        clash h = let k = six in omega arith
+
+        go : Beside size (opened form ms ps ts size) (matchWith form ms ps ts) → opened form ms ps ts size ≡ turnedAway size a i (causeIn a ts)
+        go (away b j c e f) =
+            let t = sym (f 0 []) ∙ q in
+            e ∙ ap₂ (λ x y. turnedAway size x y c) (ap (λ (m : Matched). m .answer) t) (ap (λ (m : Matched). m .place) t)
+            ∙ ap (turnedAway size a i) (ap (λ (m : Matched). m .cause) t)
+        go (fresh h r v e f) = absurd (clash (ap (λ (m : Matched). m .answer) (sym (f 0 []) ∙ q)))
+
+    pub opening-begins : (r : Rule) (v : Value) → Sane ms ps ts r v → opened form ms ps ts size ≡ begun g size r v
+    unfolding openedIn openRule openTarget
+    opening-begins r v w = opened-in ∙ ap (openRule g size ts) (rule-accepted ms ps r .1 (w .rule))
+        ∙ ap (openTarget g size ts r) (target-accepted (r .matcher) ts v .1 (w .target))
 
 -- ---- 19 is no answer of a match.
 
-run-most : (n : ℕ) (ss : List State) (free : ℕ) → (run asWords n ss free) .answer ≤ 8
+run-most : (form : Form) (n : ℕ) (ss : List State) (free : ℕ) → (run form n ss free) .answer ≤ 8
 unfolding run
-run-most zero [] free = omega arith
-run-most zero (s ∷ ss) free = omega arith
-run-most (suc n) [] free = omega arith
-run-most (suc n) (state g [] e ∷ ss) free = go (leb (length (row asWords e)) free) (run-most n ss (free - length (row asWords e)))
+run-most form zero [] free = omega arith
+run-most form zero (s ∷ ss) free = omega arith
+run-most form (suc n) [] free = omega arith
+run-most form (suc n) (state g [] e ∷ ss) free = go (leb (length (row form e)) free) (run-most form n ss (free - length (row form e)))
   where
-    go : (b : Bool) → (run asWords n ss (free - length (row asWords e))) .answer ≤ 8
-        → (elim b as (λ _. Run) [ true ↦ rowStep (row asWords e) (run asWords n ss (free - length (row asWords e))) | false ↦ stopped 8 1 ]) .answer ≤ 8
+    go : (b : Bool) → (run form n ss (free - length (row form e))) .answer ≤ 8
+        → (elim b as (λ _. Run) [ true ↦ rowStep (row form e) (run form n ss (free - length (row form e))) | false ↦ stopped 8 1 ]) .answer ≤ 8
     go true h = h
     go false h = omega arith
-run-most (suc n) (state g (endOfNot ∷ older) e ∷ ss) free = run-most n (leaveNot ss) free
-run-most (suc n) (state g (atom p m v ∷ older) e ∷ ss) free = run-most n (after p m v older e ++ ss) free
+run-most form (suc n) (state g (endOfNot ∷ older) e ∷ ss) free = run-most form n (leaveNot ss) free
+run-most form (suc n) (state g (atom p m v ∷ older) e ∷ ss) free = run-most form n (after p m v older e ++ ss) free
 
-pub match-most : (ms ps ts : List ℤ) (budget : ℕ) (room : List ℤ) → (match ms ps ts budget room) .answer ≤ 8
-unfolding match Services.turnedAway carriedOut
-match-most ms ps ts budget room = go (match-judged asWords ms ps ts budget room)
+match-most : (form : Form) (ms ps ts : List ℤ) (budget : ℕ) (room : List ℤ) → (matchIn form ms ps ts budget room) .answer ≤ 8
+unfolding Services.turnedAway carriedOut
+match-most form ms ps ts budget room = go (match-judged form ms ps ts budget room)
   where
-    go : Judgement asWords ms ps ts budget room (match ms ps ts budget room) → (match ms ps ts budget room) .answer ≤ 8
-    go (turned a i f q) = let k = refused-exactly asWords ms ps ts budget room a i .0 f .1 in let e = ap (λ (m : Matched). m .answer) q in omega arith
+    go : Judgement form ms ps ts budget room (matchIn form ms ps ts budget room) → (matchIn form ms ps ts budget room) .answer ≤ 8
+    go (turned a i f q) = let k = refused-exactly form ms ps ts budget room a i .0 f .1 in let e = ap (λ (m : Matched). m .answer) q in omega arith
     go (ran r v s q) =
-        let k = run-most budget (start (r .matcher) (r .pattern) v ∷ []) (length room) in let e = ap (λ (m : Matched). m .answer) q in omega arith
+        let k = run-most form budget (start (r .matcher) (r .pattern) v ∷ []) (length room) in let e = ap (λ (m : Matched). m .answer) q in omega arith
+
+pub match-never-19 : (n : ℕ) (ms ps ts : List ℤ) (budget : ℕ) (room : List ℤ) → (matchWith n ms ps ts budget room) .answer ≢ 19
+unfolding matchWith Services.turnedAway
+match-never-19 n ms ps ts budget room = go (formOf n)
+  where
+    go : (x : Option Form) → (elim x as (λ _. Matched) [ none ↦ Services.turnedAway 20 0 0 room | some f ↦ matchIn f ms ps ts budget room ]) .answer ≢ 19
+    go none h = omega arith
+    go (some f) h = let k = match-most f ms ps ts budget room in omega arith

@@ -8,7 +8,7 @@ use mathlib.Core.List.{List, [], _∷_, _++_, append-assoc}
 use lib.ListN.{length, length-append}
 use lib.Dec.{T, leb, leb→le}
 use lib.IntN.{ℤ}
-use Rattle.rules.specs.Rows.{asWords, row}
+use Rattle.rules.specs.Rows.{Form, row}
 use Rattle.rules.specs.Search.{atom, endOfNot, State, state, after, leaveNot, Run, stopped, step, rowStep, run}
 use Rattle.run_rules.specs.Lent.{remaining}
 
@@ -16,132 +16,134 @@ use Rattle.run_rules.specs.Lent.{remaining}
 unfoldable pub behind : Run → Run → Run
 behind a b = record { answer = b .answer; rows = a .rows + b .rows; steps = a .steps + b .steps; written = a .written ++ b .written }
 
-pub data Split (p q : ℕ) (ss : List State) (free : ℕ) : Type 0 where
-  -- After p steps it has ended.
-  over : remaining p ss free ≡ [] → ((run asWords p ss free) .answer ≡ 7 → ⊥) → remaining (p + q) ss free ≡ [] → run asWords (p + q) ss free ≡ run asWords p ss free → Split p q ss free
-  -- It has taken p steps, and states remain.
-  further : (s : State) (others : List State) → remaining p ss free ≡ s ∷ others → (run asWords p ss free) .answer ≡ 7 → (run asWords p ss free) .steps ≡ p
-      → remaining (p + q) ss free ≡ remaining q (s ∷ others) (free - length ((run asWords p ss free) .written))
-      → run asWords (p + q) ss free ≡ behind (run asWords p ss free) (run asWords q (s ∷ others) (free - length ((run asWords p ss free) .written))) → Split p q ss free
-
 same-run : (a : ℕ) {x x′ y y′ : ℕ} {w w′ : List ℤ} → x ≡ x′ → y ≡ y′ → w ≡ w′
     → _≡_ {A = Run} (record { answer = a; rows = x; steps = y; written = w }) (record { answer = a; rows = x′; steps = y′; written = w′ })
 same-run a p q r i = record { answer = a; rows = p i; steps = q i; written = r i }
 
--- ---- One step before what comes; one step and one row before it.
+-- Everything below is of rows in one form.
+module _ (form : Form) where
+  pub data Split (p q : ℕ) (ss : List State) (free : ℕ) : Type 0 where
+    -- After p steps it has ended.
+    over : remaining form p ss free ≡ [] → ((run form p ss free) .answer ≡ 7 → ⊥) → remaining form (p + q) ss free ≡ [] → run form (p + q) ss free ≡ run form p ss free → Split p q ss free
+    -- It has taken p steps, and states remain.
+    further : (s : State) (others : List State) → remaining form p ss free ≡ s ∷ others → (run form p ss free) .answer ≡ 7 → (run form p ss free) .steps ≡ p
+        → remaining form (p + q) ss free ≡ remaining form q (s ∷ others) (free - length ((run form p ss free) .written))
+        → run form (p + q) ss free ≡ behind (run form p ss free) (run form q (s ∷ others) (free - length ((run form p ss free) .written))) → Split p q ss free
 
-module _ (p q : ℕ) (ss next : List State) (free : ℕ) (runs : (n : ℕ) → run asWords (suc n) ss free ≡ step (run asWords n next free))
-    (waits : (n : ℕ) → remaining (suc n) ss free ≡ remaining n next free) where
-  behind-step : (a b : Run) → step (behind a b) ≡ behind (step a) b
-  unfolding step behind
-  behind-step a b = same-run (b .answer) refl (sym (suc-add (a .steps) (b .steps))) refl
+  -- ---- One step before what comes; one step and one row before it.
 
-  on-step : Split p q next free → Split (suc p) q ss free
-  unfolding step
-  on-step (over e n f r) = over (waits p ∙ e) (λ a. n (sym (ap (λ (x : Run). x .answer) (runs p)) ∙ a))
-      (ap (λ i. remaining i ss free) (suc-add p q) ∙ waits (p + q) ∙ f)
-      (ap (λ i. run asWords i ss free) (suc-add p q) ∙ runs (p + q) ∙ ap step r ∙ sym (runs p))
-  on-step (further s others e a k f r) =
-      let w : (run asWords (suc p) ss free) .written ≡ (run asWords p next free) .written = ap (λ (x : Run). x .written) (runs p) in
-      further s others (waits p ∙ e) (ap (λ (x : Run). x .answer) (runs p) ∙ a) (ap (λ (x : Run). x .steps) (runs p) ∙ ap suc k)
-      (ap (λ i. remaining i ss free) (suc-add p q) ∙ waits (p + q) ∙ f ∙ ap (λ (l : List ℤ). remaining q (s ∷ others) (free - length l)) (sym w))
-      (ap (λ i. run asWords i ss free) (suc-add p q) ∙ runs (p + q) ∙ ap step r ∙ behind-step (run asWords p next free) _
-      ∙ ap (λ x. behind x (run asWords q (s ∷ others) (free - length ((run asWords p next free) .written)))) (sym (runs p))
-      ∙ ap (λ (l : List ℤ). behind (run asWords (suc p) ss free) (run asWords q (s ∷ others) (free - length l))) (sym w))
+  module _ (p q : ℕ) (ss next : List State) (free : ℕ) (runs : (n : ℕ) → run form (suc n) ss free ≡ step (run form n next free))
+      (waits : (n : ℕ) → remaining form (suc n) ss free ≡ remaining form n next free) where
+    behind-step : (a b : Run) → step (behind a b) ≡ behind (step a) b
+    unfolding step behind
+    behind-step a b = same-run (b .answer) refl (sym (suc-add (a .steps) (b .steps))) refl
 
-module _ (p q : ℕ) (ss next : List State) (free : ℕ) (ws : List ℤ) (runs : (n : ℕ) → run asWords (suc n) ss free ≡ rowStep ws (run asWords n next (free - length ws)))
-    (waits : (n : ℕ) → remaining (suc n) ss free ≡ remaining n next (free - length ws)) where
-  behind-row : (a b : Run) → rowStep ws (behind a b) ≡ behind (rowStep ws a) b
-  unfolding rowStep behind
-  behind-row a b = same-run (b .answer) (sym (suc-add (a .rows) (b .rows))) (sym (suc-add (a .steps) (b .steps))) (sym (append-assoc ws (a .written) (b .written)))
+    on-step : Split p q next free → Split (suc p) q ss free
+    unfolding step
+    on-step (over e n f r) = over (waits p ∙ e) (λ a. n (sym (ap (λ (x : Run). x .answer) (runs p)) ∙ a))
+        (ap (λ i. remaining form i ss free) (suc-add p q) ∙ waits (p + q) ∙ f)
+        (ap (λ i. run form i ss free) (suc-add p q) ∙ runs (p + q) ∙ ap step r ∙ sym (runs p))
+    on-step (further s others e a k f r) =
+        let w : (run form (suc p) ss free) .written ≡ (run form p next free) .written = ap (λ (x : Run). x .written) (runs p) in
+        further s others (waits p ∙ e) (ap (λ (x : Run). x .answer) (runs p) ∙ a) (ap (λ (x : Run). x .steps) (runs p) ∙ ap suc k)
+        (ap (λ i. remaining form i ss free) (suc-add p q) ∙ waits (p + q) ∙ f ∙ ap (λ (l : List ℤ). remaining form q (s ∷ others) (free - length l)) (sym w))
+        (ap (λ i. run form i ss free) (suc-add p q) ∙ runs (p + q) ∙ ap step r ∙ behind-step (run form p next free) _
+        ∙ ap (λ x. behind x (run form q (s ∷ others) (free - length ((run form p next free) .written)))) (sym (runs p))
+        ∙ ap (λ (l : List ℤ). behind (run form (suc p) ss free) (run form q (s ∷ others) (free - length l))) (sym w))
 
-  left-over : (us : List ℤ) → free - length ws - length us ≡ free - length (ws ++ us)
-  left-over us = let l = length-append ws us in omega arith
+  module _ (p q : ℕ) (ss next : List State) (free : ℕ) (ws : List ℤ) (runs : (n : ℕ) → run form (suc n) ss free ≡ rowStep ws (run form n next (free - length ws)))
+      (waits : (n : ℕ) → remaining form (suc n) ss free ≡ remaining form n next (free - length ws)) where
+    behind-row : (a b : Run) → rowStep ws (behind a b) ≡ behind (rowStep ws a) b
+    unfolding rowStep behind
+    behind-row a b = same-run (b .answer) (sym (suc-add (a .rows) (b .rows))) (sym (suc-add (a .steps) (b .steps))) (sym (append-assoc ws (a .written) (b .written)))
 
-  on-row : Split p q next (free - length ws) → Split (suc p) q ss free
-  unfolding rowStep
-  on-row (over e n f r) = over (waits p ∙ e) (λ a. n (sym (ap (λ (x : Run). x .answer) (runs p)) ∙ a))
-      (ap (λ i. remaining i ss free) (suc-add p q) ∙ waits (p + q) ∙ f)
-      (ap (λ i. run asWords i ss free) (suc-add p q) ∙ runs (p + q) ∙ ap (rowStep ws) r ∙ sym (runs p))
-  on-row (further s others e a k f r) =
-      let w : (run asWords (suc p) ss free) .written ≡ ws ++ (run asWords p next (free - length ws)) .written = ap (λ (x : Run). x .written) (runs p) in
-      let z : free - length ws - length ((run asWords p next (free - length ws)) .written) ≡ free - length ((run asWords (suc p) ss free) .written) =
-      left-over ((run asWords p next (free - length ws)) .written) ∙ ap (λ (l : List ℤ). free - length l) (sym w) in
-      further s others (waits p ∙ e) (ap (λ (x : Run). x .answer) (runs p) ∙ a) (ap (λ (x : Run). x .steps) (runs p) ∙ ap suc k)
-      (ap (λ i. remaining i ss free) (suc-add p q) ∙ waits (p + q) ∙ f ∙ ap (λ i. remaining q (s ∷ others) i) z)
-      (ap (λ i. run asWords i ss free) (suc-add p q) ∙ runs (p + q) ∙ ap (rowStep ws) r ∙ behind-row (run asWords p next (free - length ws)) _
-      ∙ ap (λ x. behind x (run asWords q (s ∷ others) (free - length ws - length ((run asWords p next (free - length ws)) .written)))) (sym (runs p))
-      ∙ ap (λ i. behind (run asWords (suc p) ss free) (run asWords q (s ∷ others) i)) z)
+    left-over : (us : List ℤ) → free - length ws - length us ≡ free - length (ws ++ us)
+    left-over us = let l = length-append ws us in omega arith
 
--- ---- No step.
+    on-row : Split p q next (free - length ws) → Split (suc p) q ss free
+    unfolding rowStep
+    on-row (over e n f r) = over (waits p ∙ e) (λ a. n (sym (ap (λ (x : Run). x .answer) (runs p)) ∙ a))
+        (ap (λ i. remaining form i ss free) (suc-add p q) ∙ waits (p + q) ∙ f)
+        (ap (λ i. run form i ss free) (suc-add p q) ∙ runs (p + q) ∙ ap (rowStep ws) r ∙ sym (runs p))
+    on-row (further s others e a k f r) =
+        let w : (run form (suc p) ss free) .written ≡ ws ++ (run form p next (free - length ws)) .written = ap (λ (x : Run). x .written) (runs p) in
+        let z : free - length ws - length ((run form p next (free - length ws)) .written) ≡ free - length ((run form (suc p) ss free) .written) =
+        left-over ((run form p next (free - length ws)) .written) ∙ ap (λ (l : List ℤ). free - length l) (sym w) in
+        further s others (waits p ∙ e) (ap (λ (x : Run). x .answer) (runs p) ∙ a) (ap (λ (x : Run). x .steps) (runs p) ∙ ap suc k)
+        (ap (λ i. remaining form i ss free) (suc-add p q) ∙ waits (p + q) ∙ f ∙ ap (λ i. remaining form q (s ∷ others) i) z)
+        (ap (λ i. run form i ss free) (suc-add p q) ∙ runs (p + q) ∙ ap (rowStep ws) r ∙ behind-row (run form p next (free - length ws)) _
+        ∙ ap (λ x. behind x (run form q (s ∷ others) (free - length ws - length ((run form p next (free - length ws)) .written)))) (sym (runs p))
+        ∙ ap (λ i. behind (run form (suc p) ss free) (run form q (s ∷ others) i)) z)
 
-none-run : (n free : ℕ) → run asWords n [] free ≡ stopped 0 0
-unfolding run
-none-run zero free = refl
-none-run (suc n) free = refl
+  -- ---- No step.
 
-none-remain : (n free : ℕ) → remaining n [] free ≡ []
-unfolding remaining
-none-remain zero free = refl
-none-remain (suc n) free = refl
+  none-run : (n free : ℕ) → run form n [] free ≡ stopped 0 0
+  unfolding run
+  none-run zero free = refl
+  none-run (suc n) free = refl
 
-none-split : (p q free : ℕ) → Split p q [] free
-unfolding stopped
-none-split p q free = over (none-remain p free) (λ a. clash (sym (ap (λ (x : Run). x .answer) (none-run p free)) ∙ a)) (none-remain (p + q) free)
-    (none-run (p + q) free ∙ sym (none-run p free))
-  where
-    clash : _≡_ {A = ℕ} 0 7 → ⊥
-    clash h = omega arith
+  none-remain : (n free : ℕ) → remaining form n [] free ≡ []
+  unfolding remaining
+  none-remain zero free = refl
+  none-remain (suc n) free = refl
 
-first-split : (q : ℕ) (s : State) (ss : List State) (free : ℕ) → Split 0 q (s ∷ ss) free
-unfolding run remaining stopped behind
-first-split q s ss free = further s ss refl refl refl
-    (ap (λ i. remaining i (s ∷ ss) free) (zero-add q) ∙ ap (λ i. remaining q (s ∷ ss) i) (sym (sub-zero free)))
-    (ap (λ i. run asWords i (s ∷ ss) free) (zero-add q) ∙ ap (λ i. run asWords q (s ∷ ss) i) (sym (sub-zero free))
-    ∙ same-run ((run asWords q (s ∷ ss) (free - 0)) .answer) (sym (zero-add _)) (sym (zero-add _)) refl)
+  none-split : (p q free : ℕ) → Split p q [] free
+  unfolding stopped
+  none-split p q free = over (none-remain p free) (λ a. clash (sym (ap (λ (x : Run). x .answer) (none-run p free)) ∙ a)) (none-remain (p + q) free)
+      (none-run (p + q) free ∙ sym (none-run p free))
+    where
+      clash : _≡_ {A = ℕ} 0 7 → ⊥
+      clash h = omega arith
 
--- ---- Every run is so divided.
+  first-split : (q : ℕ) (s : State) (ss : List State) (free : ℕ) → Split 0 q (s ∷ ss) free
+  unfolding run remaining stopped behind
+  first-split q s ss free = further s ss refl refl refl
+      (ap (λ i. remaining form i (s ∷ ss) free) (zero-add q) ∙ ap (λ i. remaining form q (s ∷ ss) i) (sym (sub-zero free)))
+      (ap (λ i. run form i (s ∷ ss) free) (zero-add q) ∙ ap (λ i. run form q (s ∷ ss) i) (sym (sub-zero free))
+      ∙ same-run ((run form q (s ∷ ss) (free - 0)) .answer) (sym (zero-add _)) (sym (zero-add _)) refl)
 
-pub split : (p q : ℕ) (ss : List State) (free : ℕ) → Split p q ss free
-unfolding run remaining
-split zero q [] free = none-split 0 q free
-split zero q (s ∷ ss) free = first-split q s ss free
-split (suc p) q [] free = none-split (suc p) q free
-split (suc p) q (state g [] e ∷ ss) free = go (leb (length (row asWords e)) free) refl (split p q ss (free - length (row asWords e)))
-  where
-    go : (b : Bool) → leb (length (row asWords e)) free ≡ b → Split p q ss (free - length (row asWords e)) → Split (suc p) q (state g [] e ∷ ss) free
-    go true t h = on-row p q (state g [] e ∷ ss) ss free (row asWords e)
-        (λ n. ap (λ b. elim b as (λ _. Run) [ true ↦ rowStep (row asWords e) (run asWords n ss (free - length (row asWords e))) | false ↦ stopped 8 1 ]) t)
-        (λ n. ap (λ b. elim b as (λ _. List State) [ true ↦ remaining n ss (free - length (row asWords e)) | false ↦ [] ]) t) h
-    go false t h = over (none p) (λ a. clash (sym (ap (λ (x : Run). x .answer) (full p)) ∙ a))
-        (ap (λ i. remaining i (state g [] e ∷ ss) free) (suc-add p q) ∙ none (p + q)) (ap (λ i. run asWords i (state g [] e ∷ ss) free) (suc-add p q) ∙ full (p + q) ∙ sym (full p))
-      where
-        full : (n : ℕ) → run asWords (suc n) (state g [] e ∷ ss) free ≡ stopped 8 1
-        full n = ap (λ b. elim b as (λ _. Run) [ true ↦ rowStep (row asWords e) (run asWords n ss (free - length (row asWords e))) | false ↦ stopped 8 1 ]) t
+  -- ---- Every run is so divided.
 
-        none : (n : ℕ) → remaining (suc n) (state g [] e ∷ ss) free ≡ []
-        none n = ap (λ b. elim b as (λ _. List State) [ true ↦ remaining n ss (free - length (row asWords e)) | false ↦ [] ]) t
+  pub split : (p q : ℕ) (ss : List State) (free : ℕ) → Split p q ss free
+  unfolding run remaining
+  split zero q [] free = none-split 0 q free
+  split zero q (s ∷ ss) free = first-split q s ss free
+  split (suc p) q [] free = none-split (suc p) q free
+  split (suc p) q (state g [] e ∷ ss) free = go (leb (length (row form e)) free) refl (split p q ss (free - length (row form e)))
+    where
+      go : (b : Bool) → leb (length (row form e)) free ≡ b → Split p q ss (free - length (row form e)) → Split (suc p) q (state g [] e ∷ ss) free
+      go true t h = on-row p q (state g [] e ∷ ss) ss free (row form e)
+          (λ n. ap (λ b. elim b as (λ _. Run) [ true ↦ rowStep (row form e) (run form n ss (free - length (row form e))) | false ↦ stopped 8 1 ]) t)
+          (λ n. ap (λ b. elim b as (λ _. List State) [ true ↦ remaining form n ss (free - length (row form e)) | false ↦ [] ]) t) h
+      go false t h = over (none p) (λ a. clash (sym (ap (λ (x : Run). x .answer) (full p)) ∙ a))
+          (ap (λ i. remaining form i (state g [] e ∷ ss) free) (suc-add p q) ∙ none (p + q)) (ap (λ i. run form i (state g [] e ∷ ss) free) (suc-add p q) ∙ full (p + q) ∙ sym (full p))
+        where
+          full : (n : ℕ) → run form (suc n) (state g [] e ∷ ss) free ≡ stopped 8 1
+          full n = ap (λ b. elim b as (λ _. Run) [ true ↦ rowStep (row form e) (run form n ss (free - length (row form e))) | false ↦ stopped 8 1 ]) t
 
-        clash : _≡_ {A = ℕ} 8 7 → ⊥
-        clash h = omega arith
-split (suc p) q (state g (endOfNot ∷ older) e ∷ ss) free =
-    on-step p q (state g (endOfNot ∷ older) e ∷ ss) (leaveNot ss) free (λ n. refl) (λ n. refl) (split p q (leaveNot ss) free)
-split (suc p) q (state g (atom x m v ∷ older) e ∷ ss) free =
-    on-step p q (state g (atom x m v ∷ older) e ∷ ss) (after x m v older e ++ ss) free (λ n. refl) (λ n. refl) (split p q (after x m v older e ++ ss) free)
+          none : (n : ℕ) → remaining form (suc n) (state g [] e ∷ ss) free ≡ []
+          none n = ap (λ b. elim b as (λ _. List State) [ true ↦ remaining form n ss (free - length (row form e)) | false ↦ [] ]) t
 
--- ---- What is written has its place in the room.
+          clash : _≡_ {A = ℕ} 8 7 → ⊥
+          clash h = omega arith
+  split (suc p) q (state g (endOfNot ∷ older) e ∷ ss) free =
+      on-step p q (state g (endOfNot ∷ older) e ∷ ss) (leaveNot ss) free (λ n. refl) (λ n. refl) (split p q (leaveNot ss) free)
+  split (suc p) q (state g (atom x m v ∷ older) e ∷ ss) free =
+      on-step p q (state g (atom x m v ∷ older) e ∷ ss) (after x m v older e ++ ss) free (λ n. refl) (λ n. refl) (split p q (after x m v older e ++ ss) free)
 
-pub written-fits : (n : ℕ) (ss : List State) (free : ℕ) → length ((run asWords n ss free) .written) ≤ free
-unfolding run
-written-fits zero [] free = zero-le
-written-fits zero (s ∷ ss) free = zero-le
-written-fits (suc n) [] free = zero-le
-written-fits (suc n) (state g [] e ∷ ss) free =
-    go (leb (length (row asWords e)) free) (leb→le (length (row asWords e)) free) (written-fits n ss (free - length (row asWords e)))
-  where
-    go : (b : Bool) → (T b → length (row asWords e) ≤ free) → length ((run asWords n ss (free - length (row asWords e))) .written) ≤ free - length (row asWords e)
-        → length ((elim b as (λ _. Run) [ true ↦ rowStep (row asWords e) (run asWords n ss (free - length (row asWords e))) | false ↦ stopped 8 1 ]) .written) ≤ free
-    go true f h = let k = f tt in omega (arith, length-append (row asWords e) ((run asWords n ss (free - length (row asWords e))) .written))
-    go false f h = zero-le
-written-fits (suc n) (state g (endOfNot ∷ older) e ∷ ss) free = written-fits n (leaveNot ss) free
-written-fits (suc n) (state g (atom p m v ∷ older) e ∷ ss) free = written-fits n (after p m v older e ++ ss) free
+  -- ---- What is written has its place in the room.
+
+  pub written-fits : (n : ℕ) (ss : List State) (free : ℕ) → length ((run form n ss free) .written) ≤ free
+  unfolding run
+  written-fits zero [] free = zero-le
+  written-fits zero (s ∷ ss) free = zero-le
+  written-fits (suc n) [] free = zero-le
+  written-fits (suc n) (state g [] e ∷ ss) free =
+      go (leb (length (row form e)) free) (leb→le (length (row form e)) free) (written-fits n ss (free - length (row form e)))
+    where
+      go : (b : Bool) → (T b → length (row form e) ≤ free) → length ((run form n ss (free - length (row form e))) .written) ≤ free - length (row form e)
+          → length ((elim b as (λ _. Run) [ true ↦ rowStep (row form e) (run form n ss (free - length (row form e))) | false ↦ stopped 8 1 ]) .written) ≤ free
+      go true f h = let k = f tt in omega (arith, length-append (row form e) ((run form n ss (free - length (row form e))) .written))
+      go false f h = zero-le
+  written-fits (suc n) (state g (endOfNot ∷ older) e ∷ ss) free = written-fits n (leaveNot ss) free
+  written-fits (suc n) (state g (atom p m v ∷ older) e ∷ ss) free = written-fits n (after p m v older e ++ ss) free

@@ -13,8 +13,9 @@ pub data Line : Type 0 where
   advances : (portion lent : ℕ) (numbers : List ℕ) (at : ℕ) (written : List ℤ) → Line
   fills : ℤ → Line
 
--- Matcher, pattern, target, room size; what the opening must answer; the lines.
+-- Row form, matcher, pattern, target, room size; what the opening must answer; the lines.
 pub record Script : Type 0 where
+  pub form : ℕ
   pub matcher : List ℤ
   pub pattern : List ℤ
   pub target : List ℤ
@@ -58,7 +59,7 @@ gameRoom = held 9
 unfoldable pub computed : Script → List Seen
 unfolding played opened held
 computed s =
-    let o = opened (s .matcher) (s .pattern) (s .target) (s .size) in
+    let o = opened (s .form) (s .matcher) (s .pattern) (s .target) (s .size) in
     record { numbers = o .answer ∷ o .place ∷ o .cause ∷ []; room = gameRoom } ∷ played (o .run) gameRoom (s .lines)
 
 unfoldable pub stated : Script → List Seen
@@ -67,8 +68,13 @@ stated s = record { numbers = s .answer; room = gameRoom } ∷ said gameRoom (s 
 
 -- ---- The scripts.
 
+unfoldable pub scriptIn : (form : ℕ) (ms ps ts : List ℤ) (size : ℕ) → List ℕ → List Line → Script
+scriptIn form ms ps ts size ns ls = record { form = form; matcher = ms; pattern = ps; target = ts; size = size; answer = ns; lines = ls }
+
+-- Rows in form 1.
 unfoldable pub script : (ms ps ts : List ℤ) (size : ℕ) → List ℕ → List Line → Script
-script ms ps ts size ns ls = record { matcher = ms; pattern = ps; target = ts; size = size; answer = ns; lines = ls }
+unfolding scriptIn
+script ms ps ts size ns ls = scriptIn 1 ms ps ts size ns ls
 
 -- P1: two of a rank on {2 8 2}; the rows, of two words each, are at the steps 9 and 21 of 22.
 unfoldable pub pair : (size : ℕ) → List Line → Script
@@ -82,7 +88,7 @@ abbrev other : List ℕ
 other = 19 ∷ 0 ∷ 0 ∷ 0 ∷ 0 ∷ 0 ∷ []
 
 unfoldable pub scripts : List Script
-unfolding script pair
+unfolding scriptIn script pair
 scripts =
     -- In portions, past the end.
     pair 8 (
@@ -155,6 +161,19 @@ scripts =
     ∷ script (nums (2 ∷ 1 ∷ [])) (nums (10 ∷ 4 ∷ [])) (braces []) 0 (0 ∷ 0 ∷ 0 ∷ []) (
     advances 2 0 (7 ∷ 0 ∷ 0 ∷ 2 ∷ 0 ∷ 0 ∷ []) 0 []
     ∷ advances 1 0 (0 ∷ 0 ∷ 0 ∷ 3 ∷ 0 ∷ 0 ∷ []) 0 []
+    ∷ []
+    )
+    -- In form 2, a pair's row is where its unit stands; the room of five words holds one.
+    ∷ scriptIn 2 (nums (3 ∷ 1 ∷ [])) (nums (5 ∷ 1 ∷ 0 ∷ 5 ∷ 3 ∷ 0 ∷ 0 ∷ 0 ∷ [])) (braces (nums (2 ∷ 8 ∷ 2 ∷ []))) 5 (0 ∷ 0 ∷ 0 ∷ []) (
+    advances 9 5 (7 ∷ 0 ∷ 1 ∷ 9 ∷ 3 ∷ 0 ∷ []) 0 (nums (2 ∷ 0 ∷ 0 ∷ []))
+    ∷ advances 11 5 (7 ∷ 0 ∷ 1 ∷ 20 ∷ 3 ∷ 0 ∷ []) 3 []
+    ∷ advances 11 5 (8 ∷ 0 ∷ 1 ∷ 21 ∷ 3 ∷ 0 ∷ []) 3 []
+    ∷ []
+    )
+    -- An unknown row form, before 1.
+    ∷ scriptIn 3 [] [] [] 2 (20 ∷ 0 ∷ 0 ∷ []) (
+    advances 9 2 (20 ∷ 0 ∷ 0 ∷ 0 ∷ 0 ∷ 0 ∷ []) 0 []
+    ∷ advances 9 1 other 0 []
     ∷ []
     )
     ∷ []
