@@ -1,0 +1,2 @@
+-- What a test says.
+pub mod Tested
