@@ -101,9 +101,25 @@ static void too_short(void)
     for (size_t n = 0; n < LOZHBINOR_REVIEW_BYTES; n++) {
         clear();
         check(lozhbinor_review(one, 1, seven, 1, 3, bytes + GUARD, n) == LOZHBINOR_SHORT, "review 24");
+        check(lozhbinor_room(9, one, 1, seven, 1, 3, 8, bytes + GUARD, n) == LOZHBINOR_SHORT, "room 24");
         untouched(0, 0);
     }
-    printf("match and review 24\n");
+    printf("match, review and room 24\n");
+}
+
+static void room(uint32_t form, const char *m, const char *p, int32_t cap, uint32_t longest, const char *expected)
+{
+    int32_t mw[64], pw[64];
+    size_t mn = parse(m, mw), pn = parse(p, pw);
+    char got[128];
+    clear();
+    uint32_t answer = lozhbinor_room(form, mw, mn, pw, pn, cap, longest, bytes + GUARD, LOZHBINOR_ROOM_BYTES);
+    struct lozhbinor_roomed r = lozhbinor_roomed_of(bytes + GUARD);
+    snprintf(got, sizeof got, "%" PRIu32 " %zu %" PRIu64, r.answer, r.place, r.words);
+    printf("room   %s\n", got);
+    check(answer == r.answer, "the call's answer is the first number");
+    check(strcmp(got, expected) == 0, expected);
+    untouched(0, LOZHBINOR_ROOM_BYTES);
 }
 
 /* Slices of no words and null pointers: refused as every other words, and a match with no room. */
@@ -153,6 +169,16 @@ int main(void)
     review("1", "9 0 2 5", 3, "0 0 6");
     review("3 1", "5 1 0 5 3 0 0 0", 65, "9 0 0");
     review("3 1", "5 0 5 0 5 0 5 0 5 0 0", 64, "10 0 0");
+    room(1, "3 1", "5 1 0 5 3 0 0 0", 3, 8, "0 0 48");
+    room(2, "3 1", "5 1 0 5 3 0 0 0", 3, 8, "0 0 18");
+    room(1, "3 1", "5 1 0 5 3 0 0 0", 3, 5000, "0 0 6144");
+    room(1, "3 1", "5 1 0 1 1", 64, 130, "0 0 16640");
+    room(1, "3 1", "5 0 0", 64, 130, "0 0 0");
+    room(3, "9", "0", 3, 8, "20 0 0");
+    room(1, "9", "0", 3, 8, "1 0 0");
+    room(1, "2 1", "6 0 0", 3, 8, "11 0 0");
+    room(1, "3 1", "5 1 0 5 3 0 0 0", 65, 8, "9 0 0");
+    room(1, "3 1", "5 0 5 0 5 0 5 0 5 0 0", 64, 8, "10 0 0");
     too_short();
     printf("%d wrong\n", faults);
     return faults != 0;

@@ -252,13 +252,34 @@ static void review(uint64_t no, const struct lent *l, const struct call *c)
         wrong(no, "a refusal with a count");
 }
 
+/* The words that suffice; where there are so many, a match with them and review's count is stopped by neither. */
+static int room(uint64_t no, const struct lent *l, const struct call *c)
+{
+    uint8_t *numbers = place_of(l->numbers, LOZHBINOR_MATCH_BYTES, c->at_end);
+    const int32_t *m = laid(l->matcher, &c->m, c->at_end), *p = laid(l->pattern, &c->p, c->at_end), *t = laid(l->target, &c->t, c->at_end);
+    uint32_t form = below(4), reviewed = lozhbinor_review(m, c->m.count, p, c->p.count, LOZHBINOR_CAP_LARGEST, numbers, LOZHBINOR_MATCH_BYTES);
+    uint32_t budget = lozhbinor_reviewed_of(numbers).count;
+    uint32_t answer =
+        lozhbinor_room(form, m, c->m.count, p, c->p.count, LOZHBINOR_CAP_LARGEST, (uint32_t)c->t.count, numbers, LOZHBINOR_MATCH_BYTES);
+    struct lozhbinor_roomed r = lozhbinor_roomed_of(numbers);
+    if (r.answer != answer || answer != (form == 1 || form == 2 ? reviewed : LOZHBINOR_FORM) || (answer != LOZHBINOR_DONE && r.words != 0))
+        wrong(no, "an answer that room does not give");
+    if (answer != LOZHBINOR_DONE || form != LOZHBINOR_FORM_WORDS || r.words > WORDS || budget > 100000)
+        return 0;
+    answer = lozhbinor_match(m, c->m.count, p, c->p.count, t, c->t.count, budget, place_of(l->room, 4 * (size_t)r.words, c->at_end), (size_t)r.words,
+                             numbers, LOZHBINOR_MATCH_BYTES);
+    if (answer == LOZHBINOR_BUDGET || answer == LOZHBINOR_FULL)
+        wrong(no, "the words that suffice do not");
+    return answer == LOZHBINOR_DONE;
+}
+
 int main(int argc, char **argv)
 {
     uint64_t calls = argc > 1 ? strtoull(argv[1], NULL, 10) : 50000;
     state = 2463534242u + (argc > 2 ? strtoull(argv[2], NULL, 10) : 1);
     struct lent l = {pages_for(4 * WORDS), pages_for(4 * WORDS), pages_for(4 * WORDS), pages_for(4 * WORDS), pages_for(64)};
     static struct call c;
-    uint64_t answers[LOZHBINOR_SHORT + 1] = {0};
+    uint64_t answers[LOZHBINOR_SHORT + 1] = {0}, sufficed = 0;
     for (uint64_t no = 0; no < calls; no++) {
         uint8_t once[64], again[64];
         int next = 0;
@@ -279,8 +300,10 @@ int main(int argc, char **argv)
             wrong(no, "the same call answers something else");
         answers[c.bytes < LOZHBINOR_MATCH_BYTES ? LOZHBINOR_SHORT : lozhbinor_number(once, LOZHBINOR_ANSWER)]++;
         review(no, &l, &c);
+        sufficed += (uint64_t)room(no, &l, &c);
     }
     printf("fuzz: %" PRIu64 " random calls of match, twice each, and of review, between guard pages: 0 differ\n", calls);
+    printf("fuzz: %" PRIu64 " of these rules matched in the room that suffices\n", sufficed);
     printf("fuzz: answers");
     for (uint32_t a = 0; a <= LOZHBINOR_SHORT; a++)
         if (answers[a] > 0)

@@ -28,9 +28,8 @@
  *
  * How to choose a room. Either by what the game shows: with room for some rows
  * a match ends with 8 when the next one does not fit, and the rows before it
- * stand whole. Or so that it is never full: rows times variables times
- * target_words words, where rows is at most the product of the rule's factors
- * (docs/RULES.md), and review's count is more than that product.
+ * stand whole. Or so that it is never full: lozhbinor_room tells how many words
+ * suffice for a rule.
  */
 #ifndef LOZHBINOR_H
 #define LOZHBINOR_H
@@ -101,6 +100,7 @@ enum {
     LOZHBINOR_CAP = 9,          /* review: the cap is outside 0 to 64 */
     LOZHBINOR_TOO_BIG = 10,     /* review: the count passes 4,294,967,295 */
     LOZHBINOR_ALWAYS_TRUE = 11, /* review: no tag of the pattern can fail; before 9 and 10 */
+    LOZHBINOR_FORM = 20,        /* there is no such row form; before 1 */
     LOZHBINOR_SHORT = 24        /* `numbers` is too short; nothing was written */
 };
 
@@ -155,6 +155,31 @@ uint32_t lozhbinor_review(const int32_t *matcher, size_t matcher_words,
                           int32_t cap,
                           uint8_t *numbers, size_t numbers_bytes);
 
+/* The row forms: the words of each value; or, three words for a value, where it
+ * stands in the target and which of its elements remain. */
+enum {
+    LOZHBINOR_FORM_WORDS = 1,
+    LOZHBINOR_FORM_ORIGINS = 2
+};
+
+/* The numbers of room: answer and place as review gives them, or 20, and the
+ * words. */
+enum {
+    LOZHBINOR_SUFFICE = 2,
+    LOZHBINOR_ROOM_NUMBERS = 3,
+    LOZHBINOR_ROOM_BYTES = 24
+};
+
+/* The words of room that suffice for a rule, in a row form, on targets of at
+ * most `longest` words where no collection has more than `cap` elements: with
+ * them, and review's count as budget, a match is stopped by neither. They are 0
+ * in a refusal, and for a rule without variables. */
+uint32_t lozhbinor_room(uint32_t form,
+                        const int32_t *matcher, size_t matcher_words,
+                        const int32_t *pattern, size_t pattern_words,
+                        int32_t cap, uint32_t longest,
+                        uint8_t *numbers, size_t numbers_bytes);
+
 /* The number with this index, of those that a call has written. */
 static inline uint64_t lozhbinor_number(const uint8_t *numbers, size_t index)
 {
@@ -178,6 +203,11 @@ struct lozhbinor_reviewed {
     size_t place;
     uint32_t count;
 };
+struct lozhbinor_roomed {
+    uint32_t answer;
+    size_t place;
+    uint64_t words;
+};
 
 static inline struct lozhbinor_matched lozhbinor_matched_of(const uint8_t *numbers)
 {
@@ -200,6 +230,15 @@ static inline struct lozhbinor_reviewed lozhbinor_reviewed_of(const uint8_t *num
     return r;
 }
 
+static inline struct lozhbinor_roomed lozhbinor_roomed_of(const uint8_t *numbers)
+{
+    struct lozhbinor_roomed r;
+    r.answer = (uint32_t)lozhbinor_number(numbers, LOZHBINOR_ANSWER);
+    r.place = (size_t)lozhbinor_number(numbers, LOZHBINOR_PLACE);
+    r.words = lozhbinor_number(numbers, LOZHBINOR_SUFFICE);
+    return r;
+}
+
 /* An answer and a cause in a word or two, for a log. */
 static inline const char *lozhbinor_answer_name(uint32_t answer)
 {
@@ -216,6 +255,7 @@ static inline const char *lozhbinor_answer_name(uint32_t answer)
     case LOZHBINOR_CAP: return "cap";
     case LOZHBINOR_TOO_BIG: return "too big";
     case LOZHBINOR_ALWAYS_TRUE: return "always true";
+    case LOZHBINOR_FORM: return "form";
     case LOZHBINOR_SHORT: return "short";
     default: return "no answer";
     }

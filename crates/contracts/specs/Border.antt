@@ -4,6 +4,7 @@ use mathlib.Core.List.{List, []}
 use Prim.Native.Nat.{ℕ}
 use lib.IntN.{ℤ}
 use Rattle.host.specs.Border.{Called, called, matchCalled, reviewCalled}
+use Rattle.host.specs.Rooms.{roomCalled}
 
 same-call : (a b : ℕ) (x y : List ℤ) (m n : List ℕ) (c : Called) → called a x m ≡ c → called b y n ≡ c → (a ≡ b) × (x ≡ y) × (m ≡ n)
 same-call a b x y m n c p q =
@@ -16,3 +17,7 @@ match-called-once ms ps ts budget room numbers a b x y m n = same-call a b x y m
 pub review-called-once : (ms ps : List ℤ) (cap : ℤ) (numbers : List ℕ) (a b : ℕ) (m n : List ℕ)
     → called a [] m ≡ reviewCalled ms ps cap numbers → called b [] n ≡ reviewCalled ms ps cap numbers → (a ≡ b) × (m ≡ n)
 review-called-once ms ps cap numbers a b m n p q = let r = same-call a b [] [] m n (reviewCalled ms ps cap numbers) p q in (r .0, r .2)
+
+pub room-called-once : (form : ℕ) (ms ps : List ℤ) (cap : ℤ) (longest : ℕ) (numbers : List ℕ) (a b : ℕ) (m n : List ℕ)
+    → called a [] m ≡ roomCalled form ms ps cap longest numbers → called b [] n ≡ roomCalled form ms ps cap longest numbers → (a ≡ b) × (m ≡ n)
+room-called-once form ms ps cap longest numbers a b m n p q = let r = same-call a b [] [] m n (roomCalled form ms ps cap longest numbers) p q in (r .0, r .2)

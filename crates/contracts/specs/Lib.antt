@@ -2,3 +2,4 @@
 pub mod Services
 pub mod Border
 pub mod Lines
+pub mod Rooms

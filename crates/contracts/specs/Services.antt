@@ -16,9 +16,9 @@ pub told-once : (r q : Matched) (x y : List ℤ) (m : paper.Matched) → told r 
 unfolding told untold
 told-once r q x y m e f = (ap untold (e ∙ sym f), ap (λ (z : paper.Matched). z .room) (e ∙ sym f))
 
-unreviewed : paper.Reviewed → Reviewed
-unreviewed x = record { answer = x .answer; place = x .place; count = x .count }
+unreviewed : paper.Reviewed → ℕ → Reviewed
+unreviewed x n = record { answer = x .answer; place = x .place; count = x .count; rows = n }
 
-pub reviewed-once : (r q : Reviewed) (m : paper.Reviewed) → reviewed r ≡ m → reviewed q ≡ m → r ≡ q
+pub reviewed-once : (r q : Reviewed) (m : paper.Reviewed) (n : ℕ) → reviewed r ≡ m → r .rows ≡ n → reviewed q ≡ m → q .rows ≡ n → r ≡ q
 unfolding reviewed unreviewed
-reviewed-once r q m e f = ap unreviewed (e ∙ sym f)
+reviewed-once r q m n e g f h = ap (λ (x : paper.Reviewed). unreviewed x (r .rows)) (e ∙ sym f) ∙ ap (unreviewed (reviewed q)) (g ∙ sym h)

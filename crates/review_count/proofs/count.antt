@@ -1,5 +1,6 @@
 -- The sum over the lines is review's formula, and the code finds it.
 pub mod Costs
+pub mod Products
 pub mod Counted
 pub mod Pile
 pub mod Turns

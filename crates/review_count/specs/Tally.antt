@@ -118,6 +118,17 @@ sumFrom most ops s zero pc (suc left) =
 unfoldable pub wholeSum : (most : ℕ) (ops : List ℕ) → ℕ
 wholeSum most ops = sumFrom most ops (along 1 0 0 []) 0 0 entries
 
--- The count, unless it passes 4,294,967,295.
-unfoldable pub within : ℕ → Tally
-within n = cond (ltb n (2 ^ 32)) (Count n) TooBig
+-- The product of all factors: the one before the end.
+unfoldable pub productFrom : (most : ℕ) (ops : List ℕ) → Along → (skip pc left : ℕ) → ℕ
+unfolding onward reserving reservedAfter
+productFrom most ops s skip pc zero = s .earlier
+productFrom most ops s (suc skip) pc (suc left) = productFrom most ops (reserving s) skip (pc + 1) left
+productFrom most ops s zero pc (suc left) =
+    cond (eqb (getD ops pc 0) 0) (s .earlier) (productFrom most ops (onward most (getD ops pc 0) s) (reservedAfter (getD ops pc 0)) (pc + 1) left)
+
+unfoldable pub wholeProduct : (most : ℕ) (ops : List ℕ) → ℕ
+wholeProduct most ops = productFrom most ops (along 1 0 0 []) 0 0 entries
+
+-- The count and that product, unless the count passes 4,294,967,295.
+unfoldable pub within : (count product : ℕ) → Tally
+within n p = cond (ltb n (2 ^ 32)) (Count n p) TooBig

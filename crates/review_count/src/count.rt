@@ -3,11 +3,12 @@ use words::ENTRIES;
 ghost use mathlib.Core.Path.{_≡_};
 ghost use Prim.Native.Nat.{_≤_, _<_, _+_, _-_};
 ghost use Rattle.words.specs.Words.{entries};
-ghost use Rattle.review_count.specs.Tally.{stepOf, factorOf, nextOf, reservedAfter, turnOf, laidOf, takenOf, lastOf, wholeSum, within};
+ghost use Rattle.review_count.specs.Tally.{stepOf, factorOf, nextOf, reservedAfter, turnOf, laidOf, takenOf, lastOf, wholeSum, wholeProduct, within};
 ghost use Rattle.review_count.specs.Pile.{topIn, depthBy};
 
+// The count, and the product of all factors.
 pub enum Tally {
-    Count(u64),
+    Count(u64, u64),
     TooBig,
 }
 
@@ -173,7 +174,7 @@ fn depth_after(t: Turn, depth: usize) -> usize
 // the product before the line that laid it aside, and how many conses are taken from its collection.
 pub fn tallied(op: &[u8; ENTRIES], cap: u64) -> Tally
     requires { ⌜ cap ≤ 64 ⌝ }
-    ensures { λ r. ⌜ r ≡ within (wholeSum cap (now (op .entry))) ⌝ }
+    ensures { λ r. ⌜ r ≡ within (wholeSum cap (now (op .entry))) (wholeProduct cap (now (op .entry))) ⌝ }
 {
     let mut kept = [0u64; ENTRIES];
     let mut takens = [0u16; ENTRIES];
@@ -198,7 +199,7 @@ pub fn tallied(op: &[u8; ENTRIES], cap: u64) -> Tally
                 return Tally::TooBig;
             }
             if o == 0 {
-                return Tally::Count(total);
+                return Tally::Count(total, earlier);
             }
             let t = turn_of(o);
             kept[depth] = earlier;
@@ -210,5 +211,5 @@ pub fn tallied(op: &[u8; ENTRIES], cap: u64) -> Tally
             skip = reserved_after(o);
         }
     }
-    Tally::Count(total)
+    Tally::Count(total, earlier)
 }

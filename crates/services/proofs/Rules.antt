@@ -10,7 +10,7 @@ use lib.ListN.{length, replicate}
 use lib.IntN.{ℤ, pos, negsuc}
 use borrow.Author.Needs.{needs}
 use borrow.Author.Tests.{lt-ltb, le-ltb}
-use Rattle.rules.specs.Review.{formula}
+use Rattle.rules.specs.Review.{formula, factor}
 use Rattle.rules.specs.Always.{alwaysTrue}
 use Rattle.rules.specs.Services.{Judged, accepted, refused, Rule, ruleOf, declined, counted, capped, unlessAlwaysTrue, reviewRule, review}
 use Rattle.rules.specs.Services as paper
@@ -26,11 +26,12 @@ use Rattle.review_count.specs.Plain.{plain-is}
 use Rattle.tests.specs.Judgements.{judgement}
 use Rattle.tests.specs.declared.Judgement.{Judgement}
 use Rattle.tests.specs.declared.Judgement.the-variants.{Accepted, Refused}
-use Rattle.review_count.specs.Tally.{wholeSum, within}
-use Rattle.services.specs.Reviews.{Sound, sound, countedBy, reviewed}
+use Rattle.review_count.specs.Tally.{wholeSum, wholeProduct, within}
+use Rattle.room_rules.specs.Rooms.{rowsCounted, rowsCapped, rowsUnlessAlways, rowsReviewed}
+use Rattle.services.specs.Reviews.{Sound, sound, countedBy, rowsBy, reviewed}
 use Rattle.review_count.specs.declared.count.Tally.{Tally}
 use Rattle.review_count.specs.declared.count.Tally.the-variants.{Count, TooBig}
-use Rattle.review_count.proofs.count.Counted.{counted-is}
+use Rattle.review_count.proofs.count.Counted.{counted-is, multiplied-is}
 
 -- ---- A rule that was accepted.
 
@@ -66,34 +67,74 @@ inside cap m ops e h =
     let k : tagZ cap ≤ 64 = omega arith in
     ap (λ n. counted (wholeSum n ops)) e ∙ sym (ap (by-limit cap ops) (le-ltb 64 (tagZ cap) k))
 
-count-told : (f n : ℕ) → Count n ≡ within f → done n ≡ counted f
+count-told : (f g n k : ℕ) → Count n k ≡ within f g → done n ≡ counted f
 unfolding within counted
-count-told f n e = go (ltb f (2 ^ 32)) e
+count-told f g n k e = go (ltb f (2 ^ 32)) e
   where
-    go : (b : Bool) → Count n ≡ cond b (Count f) TooBig
+    go : (b : Bool) → Count n k ≡ cond b (Count f g) TooBig
         → done n ≡ elim b as (λ _. paper.Reviewed) [ true ↦ done f | false ↦ declined 10 0 ]
     go true e = let q : n ≡ f = cc in rw q
     go false e = let z : _≡_ {A = ℕ} 0 1 = cc in absurd (omega arith)
 
-big-told : (f : ℕ) → TooBig ≡ within f → declined 10 0 ≡ counted f
+big-told : (f g : ℕ) → TooBig ≡ within f g → declined 10 0 ≡ counted f
 unfolding within counted
-big-told f e = go (ltb f (2 ^ 32)) e
+big-told f g e = go (ltb f (2 ^ 32)) e
   where
-    go : (b : Bool) → TooBig ≡ cond b (Count f) TooBig
+    go : (b : Bool) → TooBig ≡ cond b (Count f g) TooBig
         → declined 10 0 ≡ elim b as (λ _. paper.Reviewed) [ true ↦ done f | false ↦ declined 10 0 ]
     go true e = let z : _≡_ {A = ℕ} 0 1 = cc in absurd (omega arith)
     go false e = refl
 
 -- w is m as a wide number, and x what the count is found to be.
-pub count-given : (cap : ℤ) (m w : ℕ) (ops : List ℕ) (x : Tally) (n : ℕ) → m ≡ tagZ cap → m ≤ 64 → w ≡ m → x ≡ within (wholeSum w ops) → x ≡ Count n
+pub count-given : (cap : ℤ) (m w : ℕ) (ops : List ℕ) (x : Tally) (n f : ℕ) → m ≡ tagZ cap → m ≤ 64 → w ≡ m → x ≡ within (wholeSum w ops) (wholeProduct w ops) → x ≡ Count n f
     → done n ≡ countedBy cap ops
-count-given cap m w ops x n e h k q c =
-    count-told (wholeSum m ops) n (sym c ∙ q ∙ ap (λ i. within (wholeSum i ops)) k) ∙ inside cap m ops e h
+count-given cap m w ops x n f e h k q c =
+    count-told (wholeSum m ops) (wholeProduct m ops) n f (sym c ∙ q ∙ ap (λ i. within (wholeSum i ops) (wholeProduct i ops)) k) ∙ inside cap m ops e h
 
-pub too-big-given : (cap : ℤ) (m w : ℕ) (ops : List ℕ) (x : Tally) → m ≡ tagZ cap → m ≤ 64 → w ≡ m → x ≡ within (wholeSum w ops) → x ≡ TooBig
+pub too-big-given : (cap : ℤ) (m w : ℕ) (ops : List ℕ) (x : Tally) → m ≡ tagZ cap → m ≤ 64 → w ≡ m → x ≡ within (wholeSum w ops) (wholeProduct w ops) → x ≡ TooBig
     → declined 10 0 ≡ countedBy cap ops
 too-big-given cap m w ops x e h k q c =
-    big-told (wholeSum m ops) (sym c ∙ q ∙ ap (λ i. within (wholeSum i ops)) k) ∙ inside cap m ops e h
+    big-told (wholeSum m ops) (wholeProduct m ops) (sym c ∙ q ∙ ap (λ i. within (wholeSum i ops) (wholeProduct i ops)) k) ∙ inside cap m ops e h
+
+-- The rows, likewise.
+by-rows : ℤ → List ℕ → Bool → ℕ
+by-rows cap ops b = cond b 0 (rowsCounted (wholeSum (tagZ cap) ops) (wholeProduct (tagZ cap) ops))
+
+pub rows-outside : (cap : ℤ) (m : ℕ) (ops : List ℕ) → m ≡ tagZ cap → 64 < m → 0 ≡ rowsBy cap ops
+unfolding by-rows rowsBy
+rows-outside cap m ops e h = let k : 64 < tagZ cap = omega arith in sym (ap (by-rows cap ops) (lt-ltb 64 (tagZ cap) k))
+
+rows-inside : (cap : ℤ) (m : ℕ) (ops : List ℕ) → m ≡ tagZ cap → m ≤ 64 → rowsCounted (wholeSum m ops) (wholeProduct m ops) ≡ rowsBy cap ops
+unfolding by-rows rowsBy
+rows-inside cap m ops e h =
+    let k : tagZ cap ≤ 64 = omega arith in
+    ap (λ n. rowsCounted (wholeSum n ops) (wholeProduct n ops)) e ∙ sym (ap (by-rows cap ops) (le-ltb 64 (tagZ cap) k))
+
+rows-told : (f g n k : ℕ) → Count n k ≡ within f g → k ≡ rowsCounted f g
+unfolding within rowsCounted
+rows-told f g n k e = go (ltb f (2 ^ 32)) e
+  where
+    go : (b : Bool) → Count n k ≡ cond b (Count f g) TooBig → k ≡ cond b g 0
+    go true e = cc
+    go false e = let z : _≡_ {A = ℕ} 0 1 = cc in absurd (omega arith)
+
+no-rows-told : (f g : ℕ) → TooBig ≡ within f g → 0 ≡ rowsCounted f g
+unfolding within rowsCounted
+no-rows-told f g e = go (ltb f (2 ^ 32)) e
+  where
+    go : (b : Bool) → TooBig ≡ cond b (Count f g) TooBig → 0 ≡ cond b g 0
+    go true e = let z : _≡_ {A = ℕ} 0 1 = cc in absurd (omega arith)
+    go false e = refl
+
+pub rows-given : (cap : ℤ) (m w : ℕ) (ops : List ℕ) (x : Tally) (n f : ℕ) → m ≡ tagZ cap → m ≤ 64 → w ≡ m → x ≡ within (wholeSum w ops) (wholeProduct w ops) → x ≡ Count n f
+    → f ≡ rowsBy cap ops
+rows-given cap m w ops x n f e h k q c =
+    rows-told (wholeSum m ops) (wholeProduct m ops) n f (sym c ∙ q ∙ ap (λ i. within (wholeSum i ops) (wholeProduct i ops)) k) ∙ rows-inside cap m ops e h
+
+pub no-rows-given : (cap : ℤ) (m w : ℕ) (ops : List ℕ) (x : Tally) → m ≡ tagZ cap → m ≤ 64 → w ≡ m → x ≡ within (wholeSum w ops) (wholeProduct w ops) → x ≡ TooBig
+    → 0 ≡ rowsBy cap ops
+no-rows-given cap m w ops x e h k q c =
+    no-rows-told (wholeSum m ops) (wholeProduct m ops) (sym c ∙ q ∙ ap (λ i. within (wholeSum i ops) (wholeProduct i ops)) k) ∙ rows-inside cap m ops e h
 
 -- ---- Test 11, over the lines that the compiler leaves.
 
@@ -109,6 +150,19 @@ capped-by (pos n) r ops f = go (decLe n 64)
     go : Dec (n ≤ 64) → countedBy (pos n) ops ≡ capped (pos n) r
     go (yes h) = sym (inside (pos n) n ops refl h) ∙ ap counted (f n) ∙ sym (ap (by-cap r n) (leb-true n 64 h))
     go (no h) = sym (cap-outside (pos n) n ops refl (omega arith)) ∙ sym (ap (by-cap r n) (leb-false n 64 (omega arith)))
+
+by-cap-rows : (r : Rule) (n : ℕ) → Bool → ℕ
+by-cap-rows r n b = cond b (rowsCounted (formula n (r .pattern) (r .matcher)) (factor n 0 (r .pattern) (r .matcher))) 0
+
+rows-capped-by : (cap : ℤ) (r : Rule) (ops : List ℕ) → ((m : ℕ) → wholeSum m ops ≡ formula m (r .pattern) (r .matcher))
+    → ((m : ℕ) → wholeProduct m ops ≡ factor m 0 (r .pattern) (r .matcher)) → rowsBy cap ops ≡ rowsCapped cap r
+unfolding rowsBy rowsCapped by-cap-rows
+rows-capped-by (negsuc n) r ops f g = refl
+rows-capped-by (pos n) r ops f g = go (decLe n 64)
+  where
+    go : Dec (n ≤ 64) → rowsBy (pos n) ops ≡ rowsCapped (pos n) r
+    go (yes h) = sym (rows-inside (pos n) n ops refl h) ∙ rw (f n, g n) (sym (ap (by-cap-rows r n) (leb-true n 64 h)))
+    go (no h) = sym (rows-outside (pos n) n ops refl (omega arith)) ∙ sym (ap (by-cap-rows r n) (leb-false n 64 (omega arith)))
 
 by-pattern : (cap : ℤ) (r : Rule) → Bool → paper.Reviewed
 by-pattern cap r b = elim b [ true ↦ declined 11 0 | false ↦ capped cap r ]
@@ -143,9 +197,32 @@ module _ (ms ps : List ℤ) (op from arg mat : List ℕ) (con : List ℤ) (s : S
       h ∙ ap (λ y. countedBy y op) k ∙ capped-by cap (sound-is s .0) op (λ m. counted-is ms ps (sound-is s .0) vars (columns op from arg mat con) tos m (sound-is s .1) held)
       ∙ ap (by-pattern cap (sound-is s .0)) (sym t) ∙ told cap b q
 
+  rows-rule-of : (cap : ℤ) → cond (alwaysTrue (sound-is s .0 .pattern)) 0 (rowsCapped cap (sound-is s .0)) ≡ rowsReviewed cap (ruleOf ms ps)
+  unfolding rowsReviewed rowsUnlessAlways
+  rows-rule-of cap = ap (rowsReviewed cap) (sym (sound-is s .1))
+
+  rows-of : (cap : ℤ) (b : Bool) → b ≡ noneFrom op 0 entries → cond b 0 (rowsCapped cap (sound-is s .0)) ≡ rowsReviewed cap (ruleOf ms ps)
+  rows-of cap b q =
+      ap (λ x. cond x 0 (rowsCapped cap (sound-is s .0))) (q ∙ plain-is ms ps (sound-is s .0) (sound-is s .1) vars (columns op from arg mat con) tos held) ∙ rows-rule-of cap
+
+  pub always-rows : (cap : ℤ) (b : Bool) → b ≡ noneFrom op 0 entries → b ≡ true → 0 ≡ rowsReviewed cap (ruleOf ms ps)
+  always-rows cap b q t = ap (λ x. cond x 0 (rowsCapped cap (sound-is s .0))) (sym t) ∙ rows-of cap b q
+
+  pub counted-rows : (z cap : ℤ) (b : Bool) (x : ℕ) → b ≡ noneFrom op 0 entries → b ≡ false → x ≡ rowsBy z op → z ≡ cap → x ≡ rowsReviewed cap (ruleOf ms ps)
+  counted-rows z cap b x q t h k =
+      h ∙ ap (λ y. rowsBy y op) k
+      ∙ rows-capped-by cap (sound-is s .0) op (λ m. counted-is ms ps (sound-is s .0) vars (columns op from arg mat con) tos m (sound-is s .1) held)
+      (λ m. multiplied-is ms ps (sound-is s .0) vars (columns op from arg mat con) tos m (sound-is s .1) held)
+      ∙ ap (λ x. cond x 0 (rowsCapped cap (sound-is s .0))) (sym t) ∙ rows-of cap b q
+
 -- ---- Tests 1 to 4.
 
 pub refused-given : (j : Judged Rule) (cap : ℤ) (a i : ℕ) (x : Judgement) → x ≡ judgement j → x ≡ Refused a i → declined a i ≡ reviewRule cap j
 unfolding judgement reviewRule
 refused-given (accepted r) cap a i x q e = let z : _≡_ {A = ℕ} 0 1 = cc in absurd (omega arith)
 refused-given (refused b k) cap a i x q e = let p : a ≡ b = cc in let q : i ≡ k = cc in rw (p, q)
+
+pub refused-rows : (j : Judged Rule) (cap : ℤ) (a i : ℕ) (x : Judgement) → x ≡ judgement j → x ≡ Refused a i → 0 ≡ rowsReviewed cap j
+unfolding judgement rowsReviewed
+refused-rows (accepted r) cap a i x q e = let z : _≡_ {A = ℕ} 0 1 = cc in absurd (omega arith)
+refused-rows (refused b k) cap a i x q e = refl

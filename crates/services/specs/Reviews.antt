@@ -7,7 +7,8 @@ use lib.IntN.{ℤ}
 use Rattle.rules.specs.Services.{Judged, accepted, Rule}
 use Rattle.rules.specs.Services as paper
 use Rattle.words.specs.Words.{tagZ}
-use Rattle.review_count.specs.Tally.{wholeSum}
+use Rattle.review_count.specs.Tally.{wholeSum, wholeProduct}
+use Rattle.room_rules.specs.Rooms.{rowsCounted}
 use Rattle.services.specs.declared.review.Reviewed.{Reviewed}
 
 -- Document 01's three numbers.
@@ -22,3 +23,8 @@ pub data Sound : Judged Rule → Type 0 where
 unfoldable pub countedBy : ℤ → (ops : List ℕ) → paper.Reviewed
 unfolding paper.declined paper.counted wholeSum
 countedBy cap ops = cond (ltb 64 (tagZ cap)) (paper.declined 9 0) (paper.counted (wholeSum (tagZ cap) ops))
+
+-- The product of the factors over those lines, where neither test refuses.
+unfoldable pub rowsBy : ℤ → (ops : List ℕ) → ℕ
+unfolding rowsCounted wholeSum wholeProduct
+rowsBy cap ops = cond (ltb 64 (tagZ cap)) 0 (rowsCounted (wholeSum (tagZ cap) ops) (wholeProduct (tagZ cap) ops))

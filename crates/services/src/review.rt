@@ -10,12 +10,15 @@ use words::casts::wide;
 use words::tag_of;
 ghost use mathlib.Core.Path.{_≡_};
 ghost use Rattle.rules.specs.Services.{ruleOf, reviewRule, review};
-ghost use Rattle.services.specs.Reviews.{Sound, countedBy, reviewed};
+ghost use Rattle.room_rules.specs.Rooms.{rowsReviewed};
+ghost use Rattle.services.specs.Reviews.{Sound, countedBy, rowsBy, reviewed};
 
+// Document 01's three numbers, and the product of the factors, which bounds the rows; 0 in a refusal.
 pub struct Reviewed {
     pub answer: u32,
     pub place: usize,
     pub count: u64,
+    pub rows: u64,
 }
 
 pub const CAP: u32 = 9;
@@ -27,6 +30,7 @@ pub const ALWAYS_TRUE: u32 = 11;
 // Tests 9 and 10, over the lines of a rule's program.
 fn counted(op: &[u8; ENTRIES], cap: i32) -> Reviewed
     ensures { λ r. ⌜ reviewed r ≡ countedBy cap (now (op .entry)) ⌝ }
+    ensures { λ r. ⌜ r .rows ≡ rowsBy cap (now (op .entry)) ⌝ }
 {
     let most = tag_of(cap);
     if 64 < most {
@@ -34,18 +38,21 @@ fn counted(op: &[u8; ENTRIES], cap: i32) -> Reviewed
             answer: CAP,
             place: 0,
             count: 0,
+            rows: 0,
         };
     }
     match tallied(op, wide(most)) {
-        Tally::Count(n) => Reviewed {
+        Tally::Count(n, f) => Reviewed {
             answer: 0,
             place: 0,
             count: n,
+            rows: f,
         },
         Tally::TooBig => Reviewed {
             answer: TOO_BIG,
             place: 0,
             count: 0,
+            rows: 0,
         },
     }
 }
@@ -54,6 +61,7 @@ fn counted(op: &[u8; ENTRIES], cap: i32) -> Reviewed
 fn of_rule(matcher: &[i32], pattern: &[i32], cap: i32) -> Reviewed
     requires { ⌜ Sound (ruleOf (now matcher) (now pattern)) ⌝ }
     ensures { λ r. ⌜ reviewed r ≡ reviewRule cap (ruleOf (now (matcher .entry)) (now (pattern .entry))) ⌝ }
+    ensures { λ r. ⌜ r .rows ≡ rowsReviewed cap (ruleOf (now (matcher .entry)) (now (pattern .entry))) ⌝ }
 {
     let mut op = [0u8; ENTRIES];
     let mut from = [0u16; ENTRIES];
@@ -76,6 +84,7 @@ fn of_rule(matcher: &[i32], pattern: &[i32], cap: i32) -> Reviewed
             answer: ALWAYS_TRUE,
             place: 0,
             count: 0,
+            rows: 0,
         };
     }
     counted(&op, cap)
@@ -84,12 +93,14 @@ fn of_rule(matcher: &[i32], pattern: &[i32], cap: i32) -> Reviewed
 // Review, for every input.
 pub fn review(matcher: &[i32], pattern: &[i32], cap: i32) -> Reviewed
     ensures { λ r. ⌜ reviewed r ≡ review (now (matcher .entry)) (now (pattern .entry)) cap ⌝ }
+    ensures { λ r. ⌜ r .rows ≡ rowsReviewed cap (ruleOf (now (matcher .entry)) (now (pattern .entry))) ⌝ }
 {
     match rule_refused(matcher, pattern) {
         Judgement::Refused(a, i) => Reviewed {
             answer: a,
             place: i,
             count: 0,
+            rows: 0,
         },
         Judgement::Accepted => of_rule(matcher, pattern, cap),
     }

@@ -53,6 +53,11 @@ pub data Reserves : ℕ → Point → Type 0 where
   none-beyond : Reserves 0 beyond
   one-more : {n : ℕ} {P : Point} → Reserves n P → Reserves (suc n) (reserve P)
 
+-- Nothing is left to do.
+pub data Ended : Point → Type 0 where
+  at-finish : {ms : List Matcher} → Ended (finish ms)
+  at-beyond : Ended beyond
+
 -- The number of an instruction's line.
 unfoldable pub numberBy : Instr → ℕ
 unfolding isInteger
@@ -93,7 +98,7 @@ none-beside ms (endOr ∷ ts) = none-close
 none-beside ms (stop j ∷ ts) = none-cut
 
 -- What waits after so many places that are reserved.
-unfoldable zeros : ℕ → List Laid → List Laid
+unfoldable pub zeros : ℕ → List Laid → List Laid
 zeros zero w = w
 zeros (suc n) w = zeros n (aside 0 0 ∷ w)
 
@@ -109,11 +114,11 @@ reserved-so zero h = h
 reserved-so (suc n) h = one-more (reserved-so n h)
 
 -- So many entries from which nothing is taken, on top of w.
-data Anew : ℕ → List Laid → List Laid → Type 0 where
+pub data Anew : ℕ → List Laid → List Laid → Type 0 where
   anew-none : {w : List Laid} → Anew 0 w w
   anew-more : {n x : ℕ} {v w : List Laid} → Anew n v w → Anew (suc n) (aside x 0 ∷ v) w
 
-anew-zeros : (n k : ℕ) {v w : List Laid} → Anew k v w → Anew (n + k) (zeros n v) w
+pub anew-zeros : (n k : ℕ) {v w : List Laid} → Anew k v w → Anew (n + k) (zeros n v) w
 unfolding zeros
 anew-zeros zero k {v} {w} h = let e : k ≡ 0 + k = omega arith in subst (λ i. Anew i v w) e h
 anew-zeros (suc n) k {v} {w} h =
@@ -133,7 +138,7 @@ count-parts most (p ▸ᵖ ps) (k ▸ᵐ ks) c ts e {w = w} h (anew-more n) =
 -- ---- What the numbers of the lines say.
 
 -- A value, which is a test: a step, and what waits on top is taken up.
-value-plain : (most : ℕ) (b : Bool) (e t l : ℕ) (w : List Laid)
+pub value-plain : (most : ℕ) (b : Bool) (e t l : ℕ) (w : List Laid)
     → (stepOf (cond b 5 6) e ≡ e) × (onward most (cond b 5 6) (along e t l w) ≡ along (e * 1) (topTaken w) (topProduct w) (restOf w)) × (reservedAfter (cond b 5 6) ≡ 0)
 unfolding stepOf onward nextOf factorOf turnOf takenOf lastOf waitingOf reservedAfter
 value-plain most true e t l w = (refl, refl, refl)
@@ -146,7 +151,7 @@ few (suc zero) h = refl
 few (suc (suc zero)) h = refl
 few (suc (suc (suc n))) h = absurd (omega arith)
 
-tuple-plain : (most n e t l : ℕ) (w : List Laid) → n ≤ 2
+pub tuple-plain : (most n e t l : ℕ) (w : List Laid) → n ≤ 2
     → (stepOf (11 + n) e ≡ e) × (onward most (11 + n) (along e t l w) ≡ along (e * 1) 0 0 (aside e 0 ∷ w))
 unfolding stepOf onward nextOf factorOf turnOf takenOf lastOf waitingOf laidOf
 tuple-plain most zero e t l w h = (refl, refl)
@@ -276,32 +281,38 @@ module _ (most pc : ℕ) where
   unfolding countAt followOf numberBy
   passed (one-more h) reserves = (refl, h, λ s. refl)
 
-  -- At the end the product of all factors is left.
-  pub last : {points : ℕ → Point} {i : Instr} {P : Point} (s : Along) → numberBy i ≡ 0 → Follows points pc i P → countAt most P s ≡ s .earlier
-  unfolding countAt numberBy
-  last a x (strips l h t) = absurd (omega arith)
-  last a x (drops l h) = absurd (omega arith)
-  last a x (binds l h) = absurd (omega arith)
-  last a x (tests (asConstant c) s l h) = absurd (omega arith)
-  last a x (tests (asValue m v c) s l h) = absurd (some-test (isInteger m) x)
+  -- Where the line says that it is the end.
+  pub ended : {points : ℕ → Point} {i : Instr} {P : Point} → numberBy i ≡ 0 → Follows points pc i P → Ended P
+  unfolding numberBy
+  ended x (strips l h t) = absurd (omega arith)
+  ended x (drops l h) = absurd (omega arith)
+  ended x (binds l h) = absurd (omega arith)
+  ended x (tests (asConstant c) s l h) = absurd (omega arith)
+  ended x (tests (asValue m v c) s l h) = absurd (some-test (isInteger m) x)
     where
       some-test : (b : Bool) → _≡_ {A = ℕ} (cond b 5 6) 0 → ⊥
       some-test true e = omega arith
       some-test false e = omega arith
-  last a x (tests (asNil m) s l h) = absurd (omega arith)
-  last a x (splits (listCons m) p q h) = absurd (omega arith)
-  last a x (splits (multisetCons m) p q h) = absurd (omega arith)
-  last a x (splits (joins m) p q h) = absurd (omega arith)
-  last a x (aparts p q ps m k ks h l t) = absurd (omega arith)
-  last a x (keeps p q h) = absurd (omega arith)
-  last a x (chooses p q l h g) = absurd (omega arith)
-  last a x (denies p l h g) = absurd (omega arith)
-  last a x cuts = absurd (omega arith)
-  last a x elses = absurd (omega arith)
-  last a x closes = absurd (omega arith)
-  last a x reserves = absurd (omega arith)
-  last a x ends = refl
-  last a x after-end = refl
+  ended x (tests (asNil m) s l h) = absurd (omega arith)
+  ended x (splits (listCons m) p q h) = absurd (omega arith)
+  ended x (splits (multisetCons m) p q h) = absurd (omega arith)
+  ended x (splits (joins m) p q h) = absurd (omega arith)
+  ended x (aparts p q ps m k ks h l t) = absurd (omega arith)
+  ended x (keeps p q h) = absurd (omega arith)
+  ended x (chooses p q l h g) = absurd (omega arith)
+  ended x (denies p l h g) = absurd (omega arith)
+  ended x cuts = absurd (omega arith)
+  ended x elses = absurd (omega arith)
+  ended x closes = absurd (omega arith)
+  ended x reserves = absurd (omega arith)
+  ended x ends = at-finish
+  ended x after-end = at-beyond
+
+-- At the end the product of all factors is left.
+count-ended : (most : ℕ) {P : Point} (s : Along) → Ended P → countAt most P s ≡ s .earlier
+unfolding countAt
+count-ended most s at-finish = refl
+count-ended most s at-beyond = refl
 
 -- The sum over lines that mean a program, up to its end, is the count of what is to do.
 module _ (most : ℕ) (ops : List ℕ) (code : ℕ → Instr) (points : ℕ → Point) (follows : (pc : ℕ) → Follows points pc (code pc) (points pc))
@@ -326,7 +337,7 @@ module _ (most : ℕ) (ops : List ℕ) (code : ℕ → Instr) (points : ℕ → 
   one-line left pc s o x h n again = go (ℕ-discrete o 0)
     where
       go : Dec (o ≡ 0) → stepOf o (s .earlier) + cond (eqb o 0) 0 (sumFrom most ops (onward most o s) (reservedAfter o) (pc + 1) left) ≡ countAt most (points pc) s
-      go (yes q) = let l = last most pc s (sym x ∙ q) (follows pc) in rw q (omega arith)
+      go (yes q) = let l = count-ended most s (ended most pc (sym x ∙ q) (follows pc)) in rw q (omega arith)
       go (no q) =
           let ne : numberBy (code pc) ≡ 0 → ⊥ = λ z. q (x ∙ z) in
           let b : eqb (numberBy (code pc)) 0 ≡ false = ne-eqb (numberBy (code pc)) 0 ne in

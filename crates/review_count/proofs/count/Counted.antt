@@ -1,4 +1,4 @@
--- The sum over the compiled lines of an accepted rule is review's formula. Assumes nothing.
+-- The sum over the compiled lines of an accepted rule is review's formula, and the product before their end that of its factors. Assumes nothing.
 use Prim.Native.Nat.{ℕ, _+_}
 use native.Mathlib.Omega.{arith}
 use native.Mathlib.Nat.{one-mul}
@@ -20,9 +20,10 @@ use Rattle.program_rules.specs.Meaning.{means-keep, means-choice, means-deny, m
 use Rattle.program_rules.specs.Numbered.{Numbered, numbered-at}
 use Rattle.program_rules.specs.Accepted.{one-finish, follows}
 use Rattle.program_rules.specs.Columns.{lineIn, Holds}
-use Rattle.review_count.specs.Tally.{along, wholeSum}
+use Rattle.review_count.specs.Tally.{along, wholeSum, wholeProduct}
 use Rattle.words.specs.Words.{entries}
 use Rattle.review_count.proofs.count.Costs.{numberBy, countAt, countLater, none-point, sum-is}
+use Rattle.review_count.proofs.count.Products.{productAt, productLater, product-is}
 
 -- The line's number is its instruction's.
 number-means : {ms : List ℤ} {vars : ℕ} {l : Line} {to : ℕ} {I : Instr} → Means ms vars l to I → l .op ≡ numberBy I
@@ -63,3 +64,17 @@ counted-is ms ps r vars t to most a h =
     (last-ends N (pointAt m p N) (numbered-at m p 0 (w .numbered .0) (w .numbered .1) N) (in-range m p N ∙ omega arith))
     (λ pc l. number-means (h .means pc l)) entries 0 0 (along 1 0 0 []) (omega arith) (omega arith) none-point
     ∙ ap (λ x. summed most 0 p m 1 + x) (one-mul (factor most 0 p m))
+
+pub multiplied-is : (ms ps : List ℤ) (r : Rule) (vars : ℕ) (t : Columns) (to : List ℕ) (most : ℕ) → ruleOf ms ps ≡ accepted r → Holds ms r vars t to
+    → wholeProduct most (t .op) ≡ factor most 0 (r .pattern) (r .matcher)
+unfolding wholeProduct pointAt productAt productLater program lineIn
+multiplied-is ms ps r vars t to most a h =
+    let w = rule-accepted ms ps r .0 a in
+    let m = r .matcher in
+    let p = r .pattern in
+    let N = instrs p m in
+    let b = h .last in
+    product-is most (t .op) (program m p) (pointAt m p) (follows ms ps r w) (λ pc. refl) N
+    (last-ends N (pointAt m p N) (numbered-at m p 0 (w .numbered .0) (w .numbered .1) N) (in-range m p N ∙ omega arith))
+    (λ pc l. number-means (h .means pc l)) entries 0 0 (along 1 0 0 []) (omega arith) (omega arith) none-point
+    ∙ one-mul (factor most 0 p m)

@@ -12,7 +12,7 @@ use borrow.Author.Needs.{needs}
 use mir.Syntax.{w16, w64}
 use mir.Val.{Fits}
 use Rattle.words.specs.Words.{entries}
-use Rattle.review_count.specs.Tally.{stepOf, factorOf, nextOf, reservedAfter, aside, turnOf, laidOf, takenOf, lastOf, along, onward, reserving, sumFrom, wholeSum, within}
+use Rattle.review_count.specs.Tally.{stepOf, factorOf, nextOf, reservedAfter, aside, turnOf, laidOf, takenOf, lastOf, along, onward, reserving, sumFrom, wholeSum, productFrom, wholeProduct, within}
 use Rattle.review_count.specs.Pile.{waitingAt, topIn, depthBy}
 use Rattle.review_count.specs.declared.count.Turn.{Turn}
 use Rattle.review_count.specs.declared.count.Tally.the-variants.{Count, TooBig}
@@ -44,9 +44,10 @@ next-factor most o e t l f a b c q = rw (ne-eqb o 17 a, ne-eqb o 18 b, ne-eqb o 
 
 -- ---- The sum.
 
--- The sum so far and the sum of the lines left make the whole; the products and the numbers taken have room.
-pub record Here (n most : ℕ) (op kept takens : List ℕ) (depth total earlier last taken skip pc : ℕ) : Type 0 where
+-- The sum so far and the sum of the lines left make the whole, and f is the product of all factors; the products and the numbers taken have room.
+pub record Here (n f most : ℕ) (op kept takens : List ℕ) (depth total earlier last taken skip pc : ℕ) : Type 0 where
   pub sum : n ≡ total + sumFrom most op (along earlier taken last (waitingAt kept takens depth)) skip pc (entries - pc)
+  pub product : f ≡ productFrom most op (along earlier taken last (waitingAt kept takens depth)) skip pc (entries - pc)
   pub small : total ≤ 4294967295
   pub room : earlier + (last + sumOf (waitingAt kept takens depth)) ≤ 279172874240 * (pc + 1)
   pub number : taken ≤ pc
@@ -56,10 +57,11 @@ pub record Here (n most : ℕ) (op kept takens : List ℕ) (depth total earlier 
   pub long : length kept ≡ entries
   pub wide : length takens ≡ entries
 
-pub here-start : (most : ℕ) (op : List ℕ) → Here (wholeSum most op) most op (replicate entries 0) (replicate entries 0) 0 0 1 0 0 0 0
-unfolding wholeSum waitingAt sumOf UpTo
+pub here-start : (most : ℕ) (op : List ℕ) → Here (wholeSum most op) (wholeProduct most op) most op (replicate entries 0) (replicate entries 0) 0 0 1 0 0 0 0
+unfolding wholeSum wholeProduct waitingAt sumOf UpTo
 here-start most op = record {
   sum = omega arith;
+  product = refl;
   small = omega arith;
   room = omega arith;
   number = omega arith;
@@ -85,7 +87,18 @@ module _ (most pc : ℕ) (op : List ℕ) (h : pc < entries) where
   unfolding sumFrom reserving
   passing e t l k w = rw one-less
 
-module _ {n most d t e l g k pc : ℕ} {op kept takens : List ℕ} (i : Here n most op kept takens d t e l g k pc) where
+  product-line : (e t l : ℕ) (w : List _)
+      → productFrom most op (along e t l w) 0 pc (entries - pc)
+      ≡ cond (eqb (getD op pc 0) 0) e (productFrom most op (onward most (getD op pc 0) (along e t l w)) (reservedAfter (getD op pc 0)) (pc + 1) (entries - (pc + 1)))
+  unfolding productFrom
+  product-line e t l w = rw one-less
+
+  product-passing : (e t l k : ℕ) (w : List _) → productFrom most op (along e t l w) (suc k) pc (entries - pc)
+      ≡ productFrom most op (along e t l (aside 0 0 ∷ w)) k (pc + 1) (entries - (pc + 1))
+  unfolding productFrom reserving
+  product-passing e t l k w = rw one-less
+
+module _ {n f most d t e l g k pc : ℕ} {op kept takens : List ℕ} (i : Here n f most op kept takens d t e l g k pc) where
   pub deep-enough : pc < entries → d < entries
   deep-enough h = omega (arith, i .shallow)
 
@@ -105,12 +118,13 @@ module _ {n most d t e l g k pc : ℕ} {op kept takens : List ℕ} (i : Here n m
   product-fits h = omega (arith, i .room)
 
   -- A place that is reserved.
-  pub skipped : pc < entries → 0 < k → Here n most op (set kept d 0) (set takens d 0) (d + 1) t e l g (k - 1) (pc + 1)
+  pub skipped : pc < entries → 0 < k → Here n f most op (set kept d 0) (set takens d 0) (d + 1) t e l g (k - 1) (pc + 1)
   unfolding sumOf UpTo
   skipped h z =
       let p = push kept takens d 0 0 (omega (arith, i .shallow, i .long)) (omega (arith, i .shallow, i .wide)) in
       record {
         sum = rw p (go k (i .sum) z);
+        product = rw p (pass k (i .product) z);
         small = i .small;
         room = rw p (omega (arith, i .room));
         number = omega (arith, i .number);
@@ -128,14 +142,22 @@ module _ {n most d t e l g k pc : ℕ} {op kept takens : List ℕ} (i : Here n m
           let s : suc k - 1 ≡ k = omega arith in
           rw s (rw (passing most pc op h e g l k (waitingAt kept takens d)) at j)
 
-  pub out : entries ≤ pc → Count t ≡ within n
-  unfolding within sumFrom
+      pass : (k : ℕ) → f ≡ productFrom most op (along e g l (waitingAt kept takens d)) k pc (entries - pc) → 0 < k
+          → f ≡ productFrom most op (along e g l (aside 0 0 ∷ waitingAt kept takens d)) (k - 1) (pc + 1) (entries - (pc + 1))
+      pass zero j z = absurd (omega arith)
+      pass (suc k) j z =
+          let s : suc k - 1 ≡ k = omega arith in
+          rw s (j ∙ product-passing most pc op h e g l k (waitingAt kept takens d))
+
+  pub out : entries ≤ pc → Count t e ≡ within n f
+  unfolding within sumFrom productFrom
   out h =
       let z : entries - pc ≡ 0 = omega arith in
       let l : sumFrom most op (along e g l (waitingAt kept takens d)) k pc (entries - pc) ≡ 0 = rw z in
+      let q : f ≡ e = rw z at (i .product) in
       let g : n ≡ t = omega (arith, i .sum) in
       let m : n < 2 ^ 32 = omega (arith, i .small) in
-      rw (lt-ltb n (2 ^ 32) m) (ap Count (sym g))
+      rw (lt-ltb n (2 ^ 32) m, g, q)
 
   module _ (z : k ≤ 0) (h : pc < entries) (s : ℕ) (x : s ≡ stepOf (getD op pc 0) e) where
     whole : n
@@ -146,23 +168,30 @@ module _ {n most d t e l g k pc : ℕ} {op kept takens : List ℕ} (i : Here n m
         let a = line most pc op h e g l (waitingAt kept takens d) in
         omega arith
 
-    pub too-big : 4294967295 < t + s → TooBig ≡ within n
+    factors : f ≡ cond (eqb (getD op pc 0) 0) e (productFrom most op (onward most (getD op pc 0) (along e g l (waitingAt kept takens d))) (reservedAfter (getD op pc 0)) (pc + 1) (entries - (pc + 1)))
+    factors =
+        let none : k ≡ 0 = omega arith in
+        let j : f ≡ productFrom most op (along e g l (waitingAt kept takens d)) 0 pc (entries - pc) = rw none at (i .product) in
+        j ∙ product-line most pc op h e g l (waitingAt kept takens d)
+
+    pub too-big : 4294967295 < t + s → TooBig ≡ within n f
     unfolding within
     too-big g =
         let m : 2 ^ 32 ≤ n = omega (arith, whole) in
         rw (le-ltb n (2 ^ 32) m)
 
-    pub at-end : getD op pc 0 ≡ 0 → t + s ≤ 4294967295 → Count (t + s) ≡ within n
+    pub at-end : getD op pc 0 ≡ 0 → t + s ≤ 4294967295 → Count (t + s) e ≡ within n f
     unfolding within
     at-end q b =
         let w : n ≡ t + (s + 0) = rw (eq-eqb (getD op pc 0) 0 q) at whole in
+        let v : f ≡ e = rw (eq-eqb (getD op pc 0) 0 q) at factors in
         let g : n ≡ t + s = omega arith in
         let m : n < 2 ^ 32 = omega arith in
-        rw (lt-ltb n (2 ^ 32) m) (ap Count (sym g))
+        rw (lt-ltb n (2 ^ 32) m, g, v)
 
     pub turn : most ≤ 64 → (getD op pc 0 ≡ 0 → ⊥) → t + s ≤ 4294967295 → (r : Turn) (u e' l' g' d' k' : ℕ) → r ≡ turnOf (getD op pc 0) → u ≡ laidOf r g
         → e' ≡ nextOf most (getD op pc 0) e g l → l' ≡ lastOf r (topIn (set kept d e) d) → g' ≡ takenOf r g (topIn (set takens d u) d) → d' ≡ depthBy r d
-        → k' ≡ reservedAfter (getD op pc 0) → Here n most op (set kept d e) (set takens d u) d' (t + s) e' l' g' k' (pc + 1)
+        → k' ≡ reservedAfter (getD op pc 0) → Here n f most op (set kept d e) (set takens d u) d' (t + s) e' l' g' k' (pc + 1)
     unfolding onward
     turn b q small r u e' l' g' d' k' er eu ee el eg ed ek =
         let o = getD op pc 0 in
@@ -172,11 +201,13 @@ module _ {n most d t e l g k pc : ℕ} {op kept takens : List ℕ} (i : Here n m
         let le : l' ≡ (onward most o (along e g l w)) .last = rw (el, top-above kept d e, er, ← top-product kept takens d) in
         let ge : g' ≡ (onward most o (along e g l w)) .taken = rw (eg, top-above takens d u, er, ← top-taken kept takens d) in
         let v : n ≡ t + (s + sumFrom most op (onward most o (along e g l w)) (reservedAfter o) (pc + 1) (entries - (pc + 1))) = rw (ne-eqb o 0 q) at whole in
-        let f = grows most e g l (laidOf (turnOf o) g) w b o (omega arith) in
+        let later : f ≡ productFrom most op (onward most o (along e g l w)) (reservedAfter o) (pc + 1) (entries - (pc + 1)) = rw (ne-eqb o 0 q) at factors in
+        let y = grows most e g l (laidOf (turnOf o) g) w b o (omega arith) in
         record {
           sum = rw (st, le, ge, ee, ek) (omega (arith, v));
+          product = rw (st, le, ge, ee, ek) later;
           small = small;
-          room = rw (st, le, ee) (omega (arith, f, i .room));
+          room = rw (st, le, ee) (omega (arith, y, i .room));
           number = rw ge (omega (arith, taken-le (turnOf o) pc g w (i .number) (i .numbers)));
           numbers = rw st (waiting-le (turnOf o) pc e g w (i .number) (i .numbers));
           shallow = omega (arith, depth-le r d, i .shallow);

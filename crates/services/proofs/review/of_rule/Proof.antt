@@ -3,7 +3,7 @@ use borrow.Author.Needs.{needs}
 use mir.Facts.{toZ-ofZ}
 use Rattle.rules.specs.Services.{declined}
 use Rattle.services.specs.Reviews.{reviewed}
-use Rattle.services.proofs.Rules.{matcher-few, pattern-few, always-given, counted-given}
+use Rattle.services.proofs.Rules.{matcher-few, pattern-few, always-given, always-rows, counted-given, counted-rows}
 use Rattle.services.proofs.review.of_rule.Statement.{statement}
 use Rattle.services.proofs.review.of_rule.Tie as tie
 
@@ -12,6 +12,6 @@ unfolding reviewed declined
 of-rule-spec = tie.close (tie.spec
     (λ c κs. search (matcher-few, pattern-few, needs))
     (λ c κs. search needs)
-    (λ c. search (always-given, needs))
+    (λ c. search (always-given, always-rows, needs))
     (λ c κs. search needs)
-    (λ c. let k = toZ-ofZ (c .before .before .before .before .before .before .before .before .before .before .before .before .fits .cap) in search (counted-given, k, needs)))
+    (λ c. let k = toZ-ofZ (c .before .before .before .before .before .before .before .before .before .before .before .before .fits .cap) in search (counted-given, counted-rows, k, needs)))

@@ -3,8 +3,9 @@ use mathlib.Core.Path.{_∙_, ap}
 use borrow.Author.Needs.{needs}
 use mir.Facts.{toZ-ofZ}
 use Rattle.rules.specs.Services.{declined, ruleOf, reviewRule, review}
+use Rattle.room_rules.specs.Rooms.{rowsReviewed}
 use Rattle.services.specs.Reviews.{reviewed}
-use Rattle.services.proofs.Rules.{accepted-sound, refused-given}
+use Rattle.services.proofs.Rules.{accepted-sound, refused-given, refused-rows}
 use Rattle.services.proofs.review.review.Statement.{statement}
 use Rattle.services.proofs.review.review.Tie as tie
 
@@ -15,6 +16,9 @@ review-spec = tie.close (tie.spec
     (λ c. search needs)
     (λ c. search needs)
     (λ c κs. search (accepted-sound, needs))
-    (λ c. search (refused-given, needs))
+    (λ c. search (refused-given, refused-rows, needs))
     (λ c. let a = c .before .before .before .before .args in
-    c .of-rule .ensures ∙ ap (λ z. reviewRule z (ruleOf (a .matcher .now) (a .pattern .now))) (toZ-ofZ (c .before .before .before .before .fits .cap))))
+    let k = toZ-ofZ (c .before .before .before .before .fits .cap) in (
+      c .of-rule .ensures .0 ∙ ap (λ z. reviewRule z (ruleOf (a .matcher .now) (a .pattern .now))) k,
+      c .of-rule .ensures .1 ∙ ap (λ z. rowsReviewed z (ruleOf (a .matcher .now) (a .pattern .now))) k,
+    )))

@@ -1,0 +1,1 @@
+// The words of room that suffice for a rule, as definitions. No code.
