@@ -1,0 +1,3 @@
+-- What an add uses.
+pub mod Refusals
+pub mod Adds

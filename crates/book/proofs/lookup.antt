@@ -1,0 +1,2 @@
+-- What reading uses.
+pub mod Rules

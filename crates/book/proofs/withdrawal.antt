@@ -1,0 +1,2 @@
+-- What a withdrawal uses.
+pub mod Changes
