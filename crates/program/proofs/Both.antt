@@ -1,4 +1,4 @@
--- The two passes together. Assumes nothing.
+-- The passes together. Assumes nothing.
 use Prim.Native.Nat.{ℕ, suc, _<_, _≤_}
 use native.Mathlib.Omega.{arith}
 use mathlib.Core.Path.{_≡_, ap, _∙_}
@@ -7,7 +7,8 @@ use borrow.Author.Needs.{needs}
 use lib.ListN.{length}
 use lib.IntN.{ℤ}
 use Rattle.words.specs.Words.{entries}
-use Rattle.program_rules.specs.Lines.{linesOf}
+use Rattle.program_rules.specs.Lines.{Columns, columns, linesOf}
+use Rattle.program_rules.specs.Slots.{slotted, numbered}
 use Rattle.program_rules.specs.Link.{opsIn, bindingsIn, tosBy, placed}
 use Rattle.program_rules.specs.Bounds.{lines-few}
 
@@ -21,4 +22,11 @@ both-vars op last n r e h = h ∙ ap (λ k. bindingsIn (opsIn op 0 k)) e
 pub both-tos : (op to to' : List ℕ) (last n : ℕ) → suc last ≡ n → to' ≡ placed 0 (tosBy (opsIn op 0 (suc last))) to → to' ≡ placed 0 (tosBy (opsIn op 0 n)) to
 both-tos op to to' last n e h = h ∙ ap (λ k. placed 0 (tosBy (opsIn op 0 k)) to) e
 
-pub ruleset both-rules = (both-low, both-vars, both-tos, needs)
+-- The arrays after the first pass, with the slots' numbers.
+pub both-columns : (op from arg arg' mat : List ℕ) (con : List ℤ) (t : Columns) (last n : ℕ) → suc last ≡ n → columns op from arg mat con ≡ t
+    → arg' ≡ slotted 0 16 0 (opsIn op 0 (suc last)) arg → columns op from arg' mat con ≡ numbered n t
+unfolding numbered
+both-columns op from arg arg' mat con t last n e g h =
+    ap (λ a. columns op from a mat con) (h ∙ ap (λ k. slotted 0 16 0 (opsIn op 0 k) arg) e) ∙ ap (numbered n) g
+
+pub ruleset both-rules = (both-low, both-vars, both-tos, both-columns, needs)

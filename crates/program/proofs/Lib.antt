@@ -2,3 +2,4 @@
 pub mod Stack
 pub mod Turns
 pub mod Both
+pub mod Numbering

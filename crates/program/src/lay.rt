@@ -27,7 +27,7 @@ pub fn lay(
     p: &[i32],
     op: &mut [u8; ENTRIES],
     from: &mut [u16; ENTRIES],
-    arg: &mut [u8; ENTRIES],
+    arg: &mut [u16; ENTRIES],
     mat: &mut [u8; ENTRIES],
     con: &mut [i32; ENTRIES],
 ) -> usize

@@ -105,11 +105,16 @@ pub fn link(op: &[u8; ENTRIES], last: usize, to: &mut [u16; ENTRIES]) -> usize
     while 0 < pc {
         pc -= 1;
         let o = op[pc];
-        let x = kept[depth];
-        to[pc] = to_by(o, land, x);
-        depth = keep(o, pc, land, depth, &mut kept);
-        land = land_by(o, pc, land, x);
-        n = counted(n, o);
+        if o < 15 {
+            to[pc] = land;
+            land = pc as u16;
+            n = counted(n, o);
+        } else {
+            let x = kept[depth];
+            to[pc] = to_by(o, land, x);
+            depth = keep(o, pc, land, depth, &mut kept);
+            land = land_by(o, pc, land, x);
+        }
     }
     n
 }

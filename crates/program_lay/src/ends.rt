@@ -15,7 +15,7 @@ pub fn close_line(
     pc: usize,
     op: &mut [u8; ENTRIES],
     from: &mut [u16; ENTRIES],
-    arg: &mut [u8; ENTRIES],
+    arg: &mut [u16; ENTRIES],
     mat: &mut [u8; ENTRIES],
     con: &mut [i32; ENTRIES],
 )
@@ -37,7 +37,7 @@ pub fn close(
     behind: &[u8; 257],
     op: &mut [u8; ENTRIES],
     from: &mut [u16; ENTRIES],
-    arg: &mut [u8; ENTRIES],
+    arg: &mut [u16; ENTRIES],
     mat: &mut [u8; ENTRIES],
     con: &mut [i32; ENTRIES],
 ) -> usize
@@ -60,7 +60,7 @@ pub fn other(
     pc: usize,
     op: &mut [u8; ENTRIES],
     from: &mut [u16; ENTRIES],
-    arg: &mut [u8; ENTRIES],
+    arg: &mut [u16; ENTRIES],
     mat: &mut [u8; ENTRIES],
     con: &mut [i32; ENTRIES],
 ) -> usize

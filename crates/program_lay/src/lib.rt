@@ -18,12 +18,12 @@ pub fn put(
     pc: usize,
     o: u8,
     f: u16,
-    a: u8,
+    a: u16,
     i: u8,
     c: i32,
     op: &mut [u8; ENTRIES],
     from: &mut [u16; ENTRIES],
-    arg: &mut [u8; ENTRIES],
+    arg: &mut [u16; ENTRIES],
     mat: &mut [u8; ENTRIES],
     con: &mut [i32; ENTRIES],
 )
@@ -45,7 +45,7 @@ pub fn strip(
     pc: usize,
     op: &mut [u8; ENTRIES],
     from: &mut [u16; ENTRIES],
-    arg: &mut [u8; ENTRIES],
+    arg: &mut [u16; ENTRIES],
     mat: &mut [u8; ENTRIES],
     con: &mut [i32; ENTRIES],
 ) -> usize
@@ -72,7 +72,7 @@ pub fn leaf_line(
     pc: usize,
     op: &mut [u8; ENTRIES],
     from: &mut [u16; ENTRIES],
-    arg: &mut [u8; ENTRIES],
+    arg: &mut [u16; ENTRIES],
     mat: &mut [u8; ENTRIES],
     con: &mut [i32; ENTRIES],
 )
@@ -96,7 +96,7 @@ pub fn leaf(
     pc: usize,
     op: &mut [u8; ENTRIES],
     from: &mut [u16; ENTRIES],
-    arg: &mut [u8; ENTRIES],
+    arg: &mut [u16; ENTRIES],
     mat: &mut [u8; ENTRIES],
     con: &mut [i32; ENTRIES],
 ) -> usize
@@ -114,7 +114,7 @@ pub fn reserve(
     pc: usize,
     op: &mut [u8; ENTRIES],
     from: &mut [u16; ENTRIES],
-    arg: &mut [u8; ENTRIES],
+    arg: &mut [u16; ENTRIES],
     mat: &mut [u8; ENTRIES],
     con: &mut [i32; ENTRIES],
 ) -> usize
@@ -140,7 +140,7 @@ pub fn divide(
     pc: usize,
     op: &mut [u8; ENTRIES],
     from: &mut [u16; ENTRIES],
-    arg: &mut [u8; ENTRIES],
+    arg: &mut [u16; ENTRIES],
     mat: &mut [u8; ENTRIES],
     con: &mut [i32; ENTRIES],
 ) -> usize

@@ -75,14 +75,14 @@ pub fn word_at(p: &[i32], at: usize) -> i32
 }
 
 // The variable that the first of n operands names.
-pub fn arg_of(p: &[i32], at: usize, n: usize) -> u8
+pub fn arg_of(p: &[i32], at: usize, n: usize) -> u16
     ensures { λ r. ⌜ r ≡ argOf n (drop at (now (p .entry))) ⌝ }
 {
     if n == 0 {
         return 0;
     }
     let t = tag_at(p, at);
-    (t % 16) as u8
+    (t % 16) as u16
 }
 
 // The last of n operands: the constant, or the number that is added.

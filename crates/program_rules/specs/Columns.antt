@@ -15,12 +15,17 @@ use Rattle.forms.specs.Faults.{rule-accepted}
 use Rattle.program_rules.specs.Program.{program}
 use Rattle.program_rules.specs.Length.{instrs}
 use Rattle.program_rules.specs.Lines.{Line, line, endLine, linesOf, variablesIn, Columns, columns, written, laid, getD-same}
-use Rattle.program_rules.specs.Meaning.{Means}
+use Rattle.program_rules.specs.Meaning.{Means, means-end, means-strip, means-drop, means-bind, means-constant, means-integer, means-value, means-nil, means-list, means-multiset, means-join, means-tuple}
+use Rattle.program_rules.specs.Meaning.{means-keep, means-choice, means-deny, means-cut, means-other, means-close}
 use Rattle.program_rules.specs.Link.{opsOf, tosOf, tosBy, opsIn, bindingsIn, placed}
 use Rattle.program_rules.specs.Linked.{link-leads}
-use Rattle.program_rules.specs.Places.{tos-length, tos-low, placed-zeros}
+use Rattle.program_rules.specs.Points.{Instr}
+use Rattle.program_rules.specs.Places.{ops-length, tos-length, tos-low, placed-zeros}
 use Rattle.program_rules.specs.Accepted.{lines-length, line-means, few-variables, program-fits}
 use Rattle.program_rules.specs.Bounds.{Small, line-small, Reserved, line-reserved}
+use Rattle.program_rules.specs.Slots.{numbered, Own, slotAt, slotsIn, over}
+use Rattle.program_rules.specs.SlotLaws.{slotted-at, over-none, slot-own, slot-part, slot-after, number-few, number-own, slots-plain}
+use Rattle.program_rules.specs.SlotCount.{slots-few}
 
 -- The line at a place of the arrays.
 unfoldable pub lineIn : Columns → ℕ → Line
@@ -87,6 +92,11 @@ laid-line pc (x ∷ ls) t (suc j) s h l =
     let e : pc + suc j ≡ suc pc + j = omega arith in
     rw e (laid-line (suc pc) ls (written pc x t) j (sized-written pc x t s) (omega arith) (omega arith))
 
+sized-laid : (pc : ℕ) (ls : List Line) (t : Columns) → Sized t → Sized (laid pc ls t)
+unfolding laid
+sized-laid pc [] t s = s
+sized-laid pc (l ∷ ls) t s = sized-laid (suc pc) ls (written pc l t) (sized-written pc l t s)
+
 -- ---- Arrays of zeros, as they are lent to the compiler: then every entry after the lines is an end too.
 
 pub record Blank (t : Columns) : Type 0 where
@@ -122,37 +132,10 @@ laid-blank ls t b h pc = go (ltb pc (length ls)) refl
         let g = ltb-false pc (length ls) l in
         laid-after 0 ls t pc (omega arith) ∙ b .ends pc ∙ sym (List·getD-eq-default ls endLine g)
 
--- ---- The arrays hold the rule's program, and `vars` is the number of its variables.
+-- ---- The slots numbered: the line at a place, with its slot's number in `arg` if it has one.
 
-pub record Holds (ms : List ℤ) (r : Rule) (vars : ℕ) (t : Columns) (to : List ℕ) : Type 0 where
-  pub means : (pc : ℕ) → pc ≤ instrs (r .pattern) (r .matcher) → Means ms vars (lineIn t pc) (getD to pc 0) (program (r .matcher) (r .pattern) pc)
-  pub after : (pc : ℕ) → instrs (r .pattern) (r .matcher) < pc → lineIn t pc ≡ endLine
-  pub small : (pc : ℕ) → Small pc (lineIn t pc)
-  pub low : (pc : ℕ) → getD to pc 0 ≤ 640
-  pub reserved : (pc k : ℕ) → 0 < k → 11 + k ≤ (lineIn t pc) .op → (lineIn t pc) .op ≤ 13 → (lineIn t (pc + k)) .op ≡ 1
-  pub last : instrs (r .pattern) (r .matcher) ≤ 639
-  pub few : vars ≤ 16
-
--- What the compiler leaves in the arrays, if the rule is accepted.
-pub compiled : (ms ps : List ℤ) (r : Rule) → ruleOf ms ps ≡ accepted r → (t : Columns) → Blank t
-    → Holds ms r (variablesIn (linesOf ms ps)) (laid 0 (linesOf ms ps) t) (placed 0 (tosOf (linesOf ms ps)) (replicate entries 0))
-unfolding Reserved
-compiled ms ps r a t b =
-    let w = rule-accepted ms ps r .0 a in
-    let n = lines-length ms ps r w in
-    let l = program-fits ms ps r w in
-    let is = laid-blank (linesOf ms ps) t b (omega arith) in
-    let m = tos-length (linesOf ms ps) in
-    let at = placed-zeros entries (tosOf (linesOf ms ps)) (omega arith) in
-    record {
-      means = λ pc h. rw (is pc, at pc) (line-means ms ps r w pc h (getD (tosOf (linesOf ms ps)) pc 0) (link-leads ms ps r w pc h));
-      after = λ pc h. is pc ∙ List·getD-eq-default (linesOf ms ps) endLine (omega arith);
-      small = λ pc. rw (is pc) (line-small ms ps pc);
-      low = λ pc. let h = tos-low (linesOf ms ps) pc in rw (at pc) (omega arith);
-      reserved = λ pc k z h d. rw (is (pc + k)) (line-reserved ms ps pc k z (rw (is pc) at h) (rw (is pc) at d));
-      last = l;
-      few = few-variables ms ps r w;
-    }
+unfoldable withSlot : (slot : ℕ) → Line → Line
+withSlot s l = line (l .op) (l .from) (over s (l .arg)) (l .mat) (l .con)
 
 -- The instructions read back from their array.
 ops-in : (op : List ℕ) (pc : ℕ) (ls : List Line) → ((j : ℕ) → j < length ls → getD op (pc + j) 0 ≡ (getD ls j endLine) .op) → opsIn op pc (length ls) ≡ opsOf ls
@@ -172,17 +155,165 @@ ops-laid : (ls : List Line) (t : Columns) → Sized t → length ls ≤ entries 
 unfolding lineIn
 ops-laid ls t s h = ops-in ((laid 0 ls t) .op) 0 ls (λ j l. ap (λ x. x .op) (laid-line 0 ls t j s (omega arith) l))
 
+ops-at : (ls : List Line) (j : ℕ) → getD (opsOf ls) j 0 ≡ (getD ls j endLine) .op
+unfolding opsOf
+ops-at [] j = refl
+ops-at (l ∷ ls) zero = refl
+ops-at (l ∷ ls) (suc j) = ops-at ls j
+
+module _ (ls : List Line) (t : Columns) (b : Blank t) (h : length ls ≤ entries) where
+  arg-is : (pc : ℕ) → getD (numbered (length ls) (laid 0 ls t) .arg) pc 0 ≡ over (slotAt 16 0 (opsOf ls) pc) (getD (laid 0 ls t .arg) pc 0)
+  unfolding numbered
+  arg-is pc =
+      let e = ops-length ls in
+      let f = (sized-laid 0 ls t (b .sized)) .arg in
+      let z : 0 + pc ≡ pc = omega arith in
+      rw (ops-laid ls t (b .sized) h) (rw z at (slotted-at 0 16 0 (opsOf ls) (laid 0 ls t .arg) (omega arith) (omega arith) pc))
+
+  numbered-blank : (pc : ℕ) → lineIn (numbered (length ls) (laid 0 ls t)) pc ≡ withSlot (slotAt 16 0 (opsOf ls) pc) (getD ls pc endLine)
+  unfolding lineIn withSlot numbered
+  numbered-blank pc =
+      let T = laid 0 ls t in
+      ap (λ a. line (getD (T .op) pc 0) (getD (T .from) pc 0) a (getD (T .mat) pc 0) (getD (T .con) pc (pos 0))) (arg-is pc)
+      ∙ ap (withSlot (slotAt 16 0 (opsOf ls) pc)) (laid-blank ls t b h pc)
+
+-- A line with a slot names no variable, so that it means what it meant.
+means-slot : {ms : List ℤ} {vars to : ℕ} {i : Instr} (s : ℕ) (l : Line) → (2 ≤ l .op → l .op ≤ 7 → s ≡ 0) → Means ms vars l to i → Means ms vars (withSlot s l) to i
+unfolding withSlot
+means-slot s l h (means-end e) = means-end e
+means-slot s l h (means-strip e) = means-strip e
+means-slot s l h (means-drop e) = means-drop e
+means-slot s l h (means-bind e) = rw (over-none s (l .arg) (h (omega arith) (omega arith))) (means-bind e)
+means-slot s l h (means-constant e) = means-constant e
+means-slot s l h (means-integer e) = rw (over-none s (l .arg) (h (omega arith) (omega arith))) (means-integer e)
+means-slot s l h (means-value m e f a) = rw (over-none s (l .arg) (h (omega arith) (omega arith))) (means-value m e f a)
+means-slot s l h (means-nil m e) = means-nil m e
+means-slot s l h (means-list m e) = means-list m e
+means-slot s l h (means-multiset m e) = means-multiset m e
+means-slot s l h (means-join m e) = means-join m e
+means-slot s l h (means-tuple n e d) = means-tuple n e d
+means-slot s l h (means-keep e) = means-keep e
+means-slot s l h (means-choice e) = means-choice e
+means-slot s l h (means-deny e) = means-deny e
+means-slot s l h (means-cut e) = means-cut e
+means-slot s l h (means-other e) = means-other e
+means-slot s l h (means-close e) = means-close e
+
+-- ---- The arrays hold the rule's program, and `vars` is the number of its variables.
+
+pub record Holds (ms : List ℤ) (r : Rule) (vars : ℕ) (t : Columns) (to : List ℕ) : Type 0 where
+  pub means : (pc : ℕ) → pc ≤ instrs (r .pattern) (r .matcher) → Means ms vars (lineIn t pc) (getD to pc 0) (program (r .matcher) (r .pattern) pc)
+  pub after : (pc : ℕ) → instrs (r .pattern) (r .matcher) < pc → lineIn t pc ≡ endLine
+  -- Its slot is that of an earlier line or 0.
+  pub from : (pc : ℕ) → (lineIn t pc) .from ≤ pc
+  -- There are 272 numbers, and the first 16 are the variables'.
+  pub number : (pc : ℕ) → (lineIn t pc) .arg < 272
+  pub variable : (pc : ℕ) → 2 ≤ (lineIn t pc) .op → (lineIn t pc) .op ≤ 7 → (lineIn t pc) .arg < 16
+  -- A line that divides has a slot of its own, and a tuple's one for each part that waits.
+  pub own : (pc : ℕ) → 8 ≤ (lineIn t pc) .op → (lineIn t pc) .op ≤ 16 → Own (t .arg) pc
+  pub part : (pc k : ℕ) → 11 + k ≤ (lineIn t pc) .op → (lineIn t pc) .op ≤ 13 → Own (t .arg) (pc + k)
+  pub low : (pc : ℕ) → getD to pc 0 ≤ 640
+  pub reserved : (pc k : ℕ) → 0 < k → 11 + k ≤ (lineIn t pc) .op → (lineIn t pc) .op ≤ 13 → (lineIn t (pc + k)) .op ≡ 1
+  pub last : instrs (r .pattern) (r .matcher) ≤ 639
+  pub few : vars ≤ 16
+
+-- What the compiler leaves in the arrays, if the rule is accepted.
+module _ (ms ps : List ℤ) (r : Rule) (a : ruleOf ms ps ≡ accepted r) (t : Columns) (b : Blank t) where
+  abbrev L : List Line
+  L = linesOf ms ps
+
+  fits : length (linesOf ms ps) ≤ entries
+  fits = let w = rule-accepted ms ps r .0 a in let n = lines-length ms ps r w in let l = program-fits ms ps r w in omega arith
+
+  slots-are : (pc : ℕ) → lineIn (numbered (length L) (laid 0 L t)) pc ≡ withSlot (slotAt 16 0 (opsOf L) pc) (getD L pc endLine)
+  slots-are = numbered-blank L t b fits
+
+  -- The instruction is the line's.
+  op-is : (pc : ℕ) → getD (opsOf L) pc 0 ≡ (lineIn (numbered (length L) (laid 0 L t)) pc) .op
+  unfolding withSlot
+  op-is pc = ops-at L pc ∙ sym (ap (λ (l : Line). l .op) (slots-are pc))
+
+  args-are : (pc : ℕ) → getD (numbered (length L) (laid 0 L t) .arg) pc 0 ≡ over (slotAt 16 0 (opsOf L) pc) ((getD L pc endLine) .arg)
+  unfolding lineIn withSlot
+  args-are pc = ap (λ (l : Line). l .arg) (slots-are pc)
+
+  small : (pc : ℕ) → (getD L pc endLine) .arg < 16
+  small pc = (line-small ms ps pc) .arg
+
+  short : slotsIn 0 (opsOf L) ≤ 255
+  short = slots-few ms ps r a
+
+  owns : (pc : ℕ) → 0 < slotAt 16 0 (opsOf L) pc → Own (numbered (length L) (laid 0 L t) .arg) pc
+  owns = number-own (opsOf L) (numbered (length L) (laid 0 L t) .arg) (λ j. (getD L j endLine) .arg) args-are small short
+
+  number-is : (pc : ℕ) → (lineIn (numbered (length L) (laid 0 L t)) pc) .arg < 272
+  unfolding lineIn
+  number-is = number-few (opsOf L) (numbered (length L) (laid 0 L t) .arg) (λ j. (getD L j endLine) .arg) args-are small short
+
+  variable-is : (pc : ℕ) → 2 ≤ (lineIn (numbered (length L) (laid 0 L t)) pc) .op → (lineIn (numbered (length L) (laid 0 L t)) pc) .op ≤ 7
+      → (lineIn (numbered (length L) (laid 0 L t)) pc) .arg < 16
+  unfolding lineIn
+  variable-is pc h d =
+      let o = op-is pc in
+      let q = ops-at L pc in
+      let e = over-none (slotAt 16 0 (opsOf L) pc) ((getD L pc endLine) .arg) (slots-plain ms ps 16 pc (omega arith) (omega arith)) in
+      let s = small pc in
+      let g = args-are pc in
+      omega arith
+
+  reserved-is : (pc k : ℕ) → 0 < k → 11 + k ≤ (lineIn (numbered (length L) (laid 0 L t)) pc) .op → (lineIn (numbered (length L) (laid 0 L t)) pc) .op ≤ 13
+      → (lineIn (numbered (length L) (laid 0 L t)) (pc + k)) .op ≡ 1
+  unfolding Reserved
+  reserved-is pc k z h d =
+      let o = op-is pc in
+      let q = ops-at L pc in
+      sym (op-is (pc + k)) ∙ ops-at L (pc + k) ∙ line-reserved ms ps pc k z (omega arith) (omega arith)
+
+  part-is : (pc k : ℕ) → 11 + k ≤ (lineIn (numbered (length L) (laid 0 L t)) pc) .op → (lineIn (numbered (length L) (laid 0 L t)) pc) .op ≤ 13
+      → Own (numbered (length L) (laid 0 L t) .arg) (pc + k)
+  part-is pc k h d =
+      let o = op-is pc in
+      owns (pc + k) (slot-part 16 0 (opsOf L) pc k (omega arith) (omega arith) (omega arith) (λ i z g. op-is (pc + i) ∙ reserved-is pc i z (omega arith) d))
+
+  pub compiled : Holds ms r (variablesIn (linesOf ms ps)) (numbered (length (linesOf ms ps)) (laid 0 (linesOf ms ps) t)) (placed 0 (tosOf (linesOf ms ps)) (replicate entries 0))
+  unfolding withSlot
+  compiled =
+      let w = rule-accepted ms ps r .0 a in
+      let n = lines-length ms ps r w in
+      let l = program-fits ms ps r w in
+      let m = tos-length L in
+      let at = placed-zeros entries (tosOf L) (omega arith) in
+      record {
+        means = λ pc h. rw (slots-are pc, at pc) (means-slot (slotAt 16 0 (opsOf L) pc) (getD L pc endLine) (slots-plain ms ps 16 pc) (line-means ms ps r w pc h (getD (tosOf L) pc 0) (link-leads ms ps r w pc h)));
+        after = λ pc h.
+            let q = ops-length L in
+            slots-are pc ∙ rw (List·getD-eq-default L endLine {n = pc} (omega arith), slot-after 16 0 (opsOf L) pc (omega arith), over-none 0 0 refl);
+        from = λ pc. rw (slots-are pc) ((line-small ms ps pc) .from);
+        number = number-is;
+        variable = variable-is;
+        own = λ pc h d. let o = op-is pc in owns pc (slot-own 16 0 (opsOf L) pc (omega arith) (omega arith) (omega arith));
+        part = part-is;
+        low = λ pc. let h = tos-low L pc in rw (at pc) (omega arith);
+        reserved = reserved-is;
+        last = l;
+        few = few-variables ms ps r w;
+      }
+
+op-same : (n : ℕ) (t : Columns) → numbered n t .op ≡ t .op
+unfolding numbered
+op-same n t = refl
+
 -- The same, as a caller has it that lent arrays of zeros.
 pub compiled-zeros : (ms ps : List ℤ) (r : Rule) → ruleOf ms ps ≡ accepted r → (vars : ℕ) (t : Columns) (to : List ℕ)
     → vars ≡ bindingsIn (opsIn (t .op) 0 (length (linesOf ms ps)))
-    → t ≡ laid 0 (linesOf ms ps) (columns (replicate entries 0) (replicate entries 0) (replicate entries 0) (replicate entries 0) (replicate entries (pos 0)))
+    → t ≡ numbered (length (linesOf ms ps)) (laid 0 (linesOf ms ps) (columns (replicate entries 0) (replicate entries 0) (replicate entries 0) (replicate entries 0) (replicate entries (pos 0))))
     → to ≡ placed 0 (tosBy (opsIn (t .op) 0 (length (linesOf ms ps)))) (replicate entries 0) → Holds ms r vars t to
 unfolding tosOf
 compiled-zeros ms ps r a vars t to e g h =
     let w = rule-accepted ms ps r .0 a in
     let n = lines-length ms ps r w in
     let l = program-fits ms ps r w in
-    let o : opsIn (t .op) 0 (length (linesOf ms ps)) ≡ opsOf (linesOf ms ps) = rw g (ops-laid (linesOf ms ps) _ (blank .sized) (omega arith)) in
+    let o : opsIn (t .op) 0 (length (linesOf ms ps)) ≡ opsOf (linesOf ms ps) = rw (g, op-same (length (linesOf ms ps)) (laid 0 (linesOf ms ps) _)) (ops-laid (linesOf ms ps) _ (blank .sized) (omega arith)) in
     let v : vars ≡ variablesIn (linesOf ms ps) = e ∙ ap bindingsIn o ∙ bindings-are (linesOf ms ps) in
     let u : to ≡ placed 0 (tosOf (linesOf ms ps)) (replicate entries 0) = h ∙ ap (λ x. placed 0 (tosBy x) (replicate entries 0)) o in
     rw (v, g, u) (compiled ms ps r a _ blank)

@@ -18,4 +18,7 @@ pub mod Compiled
 pub mod Accepted
 pub mod Linked
 pub mod Places
+pub mod Slots
+pub mod SlotLaws
+pub mod SlotCount
 pub mod Columns

@@ -13,7 +13,7 @@ use Rattle.program_rules.specs.Link.{keeps, takes, top, under, toBy, lan
 
 -- ---- As many as lines.
 
-ops-length : (ls : List Line) → length (opsOf ls) ≡ length ls
+pub ops-length : (ls : List Line) → length (opsOf ls) ≡ length ls
 unfolding opsOf
 ops-length [] = refl
 ops-length (l ∷ ls) = ap suc (ops-length ls)

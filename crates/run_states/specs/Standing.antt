@@ -37,7 +37,7 @@ use Rattle.value_places.specs.Places.{Target}
 use Rattle.value_rows.specs.declared.Binding.{Binding}
 use Rattle.search_atom.specs.Leaves.{when}
 use Rattle.search_step.specs.declared.State.{State}
-use Rattle.search_step.specs.Steps.{Tables}
+use Rattle.tables.specs.Slot.{Tables}
 use Rattle.search.specs.Run.{Env, Run, run, lineAt, runOf, opening, answerOf}
 use Rattle.search.specs.Valid.{Fine, Valid}
 use Rattle.search.specs.Meaning.{slotsOf, bindsOf, confOf, standing, engineOf}

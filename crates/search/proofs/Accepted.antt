@@ -50,12 +50,15 @@ module _ (ms ts : List ℤ) (r : Rule) (n : ℕ) (op from to arg mat : List ℕ)
   unfolding lineIn
   accepted-fine = record {
     last = ap (λ (l : Line). l .op) (holds .after (entries - 1) (let h = holds .last in omega arith));
-    slots = λ i h. let f = holds .small i .from in omega arith;
+    slots = λ i h. let f = holds .from i in omega arith;
     places = λ i h. let l = holds .low i in omega arith;
-    numbers = λ i h. holds .small i .arg;
+    numbers = λ i h a b. holds .variable i (omega arith) (omega arith);
     few = holds .few;
     parts = λ i h l z. let k = parts-fit i (getD op i 0 - 11) (omega arith) (omega arith) in omega arith;
     reserved = holds .reserved;
+    slot = λ i. let n = holds .number i in omega arith;
+    alone = λ i h a b. record { only = (holds .own i (omega arith) (omega arith)) .only };
+    each = λ i h a b k c. record { only = (holds .part i k (omega arith) (omega arith)) .only };
   }
 
   pub accepted-match : (ps : List ℤ) (v : Value) → Sane ms ps ts r v → (budget : ℕ) (room : List ℤ) (out : Matched)

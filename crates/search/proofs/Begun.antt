@@ -13,7 +13,8 @@ use Rattle.program_rules.specs.Columns.{lineIn}
 use Rattle.value_places.specs.Places.{Target, Tag, marksAt}
 use Rattle.value_places.specs.Held.{Held, wholeAt}
 use Rattle.value_rows.specs.Row.{nothing}
-use Rattle.search_step.specs.Steps.{tables}
+use Rattle.tables.specs.Slot.{tables, viewOf, noSlots}
+use Rattle.tables.specs.SlotLaws.{no-slots}
 use Rattle.search_machine.proofs.Instance.{target-is}
 use Rattle.search.specs.Run.{Env, Run, run, lineAt, runOf, opening, answerOf, matched, told}
 use Rattle.search.specs.Valid.{Fine, Valid}
@@ -71,16 +72,14 @@ module _ (e : Env) (some : 0 < length (e .words)) where
 
 -- ---- As the code has it.
 
-module _ (e : Env) (some : 0 < length (e .words)) (m : ℕ) (whole : m ≡ wholeAt (e .words) 0) (room : List ℤ) where
+module _ (e : Env) (some : 0 < length (e .words)) (m : ℕ) (whole : m ≡ wholeAt (e .words) 0) (slots : List ℕ) (none : slots ≡ noSlots) (room : List ℤ) where
   -- The run as the code begins it.
   abbrev pub first : Run
-  first = run (record { pc = 0; at = 0; marks = m; top = 0; live = 1; rows = 0; steps = 0; words = 0 })
-      (tables (replicate entries 0) (replicate entries 0) (replicate entries 0) (replicate entries 0) (replicate entries 0)) (replicate 16 nothing) room
+  first = run (record { pc = 0; at = 0; marks = m; top = 0; live = 1; rows = 0; steps = 0; words = 0 }) (viewOf (e .arg) slots) (replicate 16 nothing) room
 
   first-is : first ≡ begun e room
   unfolding begun opening zeros unbound
-  first-is = ap (λ k. run (record { pc = 0; at = 0; marks = k; top = 0; live = 1; rows = 0; steps = 0; words = 0 })
-      (tables (replicate entries 0) (replicate entries 0) (replicate entries 0) (replicate entries 0) (replicate entries 0)) (replicate 16 nothing) room) whole
+  first-is = rw (none, no-slots (e .arg), whole)
 
   pub first-valid : Valid e first
   first-valid = subst (Valid e) (sym first-is) (begun-valid e some room)

@@ -17,7 +17,9 @@ use Rattle.value_places.specs.Held.{wholeAt, put}
 use Rattle.value_rows.specs.Row.{bound}
 use Rattle.search_step.specs.declared.State.{State}
 use Rattle.search_atom.specs.Leaves.{when, passesOf, noneOf, opensOf, isWide, longerOf}
-use Rattle.search_step.specs.Steps.{Tables, Turned, turned, counted, moved, lived, topped, dropped, pushed, pushedIn, splitOf, apartAt, apartOf, keptAt, keptIn, framedAt, framedIn, cutTo, sidesOf, divideOf, stepBy, stepOf}
+use Rattle.tables.specs.Slot.{Tables}
+use Rattle.search_step.specs.Steps.{Turned, turned, counted, moved, lived, topped, dropped, pushed, pushedIn, splitOf, apartAt, apartOf, keptAt, keptIn, framedAt, framedIn, cutTo, sidesOf}
+use Rattle.search.specs.Plain.{divideOf, stepBy, stepOf}
 use Rattle.search_choice.specs.Choices.{topLeft, joinOf, joinBy, consOf, consBy, resumedAt, resumedBy, resumeOf, choiceOf, pickOf}
 use Rattle.search.specs.Run.{Env, Run, run, Ended, ended, filled, wrote, endBy, endOf, afterTurn, afterEnd, takeEnd, takeBind, takeStep, takeOf, asked, settled, runOf}
 use Rattle.value_rows.proofs.Room.{length-put}

@@ -16,7 +16,7 @@ use Rattle.words.specs.Words.{entries}
 use Rattle.value_places.specs.Places.{Tag, marksAt}
 use Rattle.value_places.specs.Held.{Held, wholeAt}
 use Rattle.search_atom.specs.Leaves.{when, nowLeft}
-use Rattle.search_step.specs.Steps.{Tables}
+use Rattle.tables.specs.Slot.{Tables}
 use Rattle.search_choice.specs.Choices.{Frame}
 use Rattle.search.specs.Valid.{Long}
 
@@ -51,10 +51,6 @@ pub low-le : (m : ℕ) → 0 < m → m < 2 ^ 64 → 2 ^ trailingZeros 64 m ≤ m
 low-le m h l = digit-le (trailingZeros 64 m) m (low-digit 64 m h l)
 
 -- ---- Frames.
-
-pub top-bound : (top : ℕ) → ((top ≡ 0 → ⊥) → top - 1 < entries) → top ≤ entries
-top-bound zero h = omega arith
-top-bound (suc j) h = let k = h (λ z. omega arith) in omega arith
 
 -- The frame of an or or a not asks nothing of its slot.
 pub frame-beyond : (o : ℕ) (s : List ℤ) (j at m c : ℕ) → j < entries → 14 < o → o < 17 → Frame o s j at m c

@@ -22,7 +22,9 @@ use Rattle.value_rows.specs.Row.{bound, Bound, nothing}
 use Rattle.value_rows.specs.declared.Binding.{Binding}
 use Rattle.search_step.specs.declared.State.{State}
 use Rattle.search_atom.specs.Leaves.{when, passesOf, noneOf, opensOf, stored, isWide, partMarks}
-use Rattle.search_step.specs.Steps.{Tables, Turned, tables, counted, moved, lived, dropped, pushed, pushedIn, splitOf, apartAt, apartAts, apartBacks, apartOf, keptAt, keptIn, framedAt, framedIn, cutTo, sidesOf, divideOf, stepBy, stepOf}
+use Rattle.tables.specs.Slot.{Tables, tables}
+use Rattle.search_step.specs.Steps.{Turned, counted, moved, lived, dropped, pushed, pushedIn, splitOf, apartAt, apartAts, apartBacks, apartOf, keptAt, keptIn, framedAt, framedIn, cutTo, sidesOf}
+use Rattle.search.specs.Plain.{divideOf, stepBy, stepOf}
 use Rattle.search_choice.specs.Choices.{Frame, Picks}
 use Rattle.search.specs.Run.{Env, Run, run, Ended, filled, wrote, endBy, endOf, asked, afterTurn, afterEnd, takeEnd, takeBind, takeStep, takeOf}
 use Rattle.search.specs.Valid.{Fine, Valid}
@@ -316,13 +318,13 @@ module _ (e : Env) (fine : Fine e) (g : Target (e .words)) where
         at-turn : Turned → Type 0
         at-turn u = Valid e (run (u .state) (u .tables) b room)
 
-    bind-keeps : Valid e (takeBind e (run x t b room))
+    bind-keeps : getD (e .op) (x .pc) 0 ≡ 3 → Valid e (takeBind e (run x t b room))
     unfolding takeBind
-    bind-keeps = drop-keeps (set b i now) (record {
+    bind-keeps three = drop-keeps (set b i now) (record {
       most = omega arith;
       long = length-set b i now ∙ v .binds .long;
       are = λ j h. by-place _ i j
-          (λ z. rw (z, getD-set-same b i now nothing (let k = fine .numbers (x .pc) (v .place) in omega (arith, v .binds .long))) (v .held))
+          (λ z. rw (z, getD-set-same b i now nothing (let k = fine .numbers (x .pc) (v .place) (omega arith) (omega arith) in omega (arith, v .binds .long))) (v .held))
           (λ z. rw (getD-set-other b i j now nothing z) (v .binds .are j h));
     })
       where
@@ -360,5 +362,5 @@ module _ (e : Env) (fine : Fine e) (g : Target (e .words)) where
   unfolding takeOf takeEnd takeStep endOf
   take-keeps r v l =
       when-if (Valid e) (eqb (getD (e .op) (r .state .pc) 0) 0) _ _ (λ z. end-keeps (r .state) (r .tables) (r .binds) (r .room) v l (row (e .form) (bound (e .words) (r .binds) (e .vars))))
-      (λ z. when-if (Valid e) (eqb (getD (e .op) (r .state .pc) 0) 3) _ _ (λ k. bind-keeps (r .state) (r .tables) (r .binds) (r .room) v l)
+      (λ z. when-if (Valid e) (eqb (getD (e .op) (r .state .pc) 0) 3) _ _ (λ k. bind-keeps (r .state) (r .tables) (r .binds) (r .room) v l (eqb-true _ _ k))
       (λ k. step-keeps (r .state) (r .tables) (r .binds) (r .room) v l (asked e r) (eqb-false _ _ z)))

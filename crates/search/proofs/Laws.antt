@@ -18,17 +18,21 @@ use Rattle.value_rows.specs.Row.{bound, Bound, nothing}
 use Rattle.value_equality.specs.Equality.{equalAt, isSum}
 use Rattle.value_rows.specs.declared.Binding.{Binding}
 use Rattle.value_places.proofs.Elements.{second}
+use Rattle.value_places.proofs.Held.{held-64}
 use Rattle.value_rows.proofs.Row.{row-within}
 use Rattle.search_step.specs.declared.State.{State}
 use Rattle.search_atom.specs.Leaves.{when, passesOf}
-use Rattle.search_step.specs.Steps.{Tables, Turned, tables, turned, counted, dropped, stepBy, stepOf, Steps}
-use Rattle.search_choice.specs.Choices.{pickOf, settleOf, Slots, PicksIf}
+use Rattle.tables.specs.Slot.{Tables, viewOf}
+use Rattle.search_step.specs.Steps as steps
+use Rattle.search_step.specs.Steps.{Turned, turned, counted, dropped, splitOf, headOf, Steps}
+use Rattle.search.specs.Plain.{divideOf, stepBy, stepOf}
+use Rattle.search_choice.specs.Choices.{pickOf, settleOf, Named, PicksIf}
 use Rattle.search.specs.Run.{Env, Run, run, filled, wroteTo, wrote, endBy, endOf, askOf, boundAt, asked, afterTurn, afterEnd, takeEnd, takeBind, takeStep, takeOf, settled, runOf}
 use Rattle.search.specs.Valid.{Fine, Valid, Rows}
 use Rattle.search.proofs.Keeps.{take-keeps}
 use Rattle.search.proofs.Settles.{settle-keeps}
 use Rattle.search.proofs.Counts.{settled-is, takes-is, run-over, run-more}
-use Rattle.search.proofs.Frames.{top-bound}
+use Rattle.search.proofs.Heads.{head-next, head-picks, head-backs}
 
 -- ---- The row: its size is asked only where the room may be short of it.
 
@@ -43,9 +47,6 @@ module _ (s : List ℤ) (b : List Binding) (n free size : ℕ) where
 
   pub sized-ample : Target s → Bound s b n → size ≡ 0 → n * length s ≤ free → Sized s b n free size
   sized-ample g q z l = let m = row-within s b n q g in record { short = λ k. absurd (omega arith); fits = λ k. omega arith }
-
-pub tables-path : {a a′ w w′ c c′ l l′ k k′ : List ℕ} → a ≡ a′ → w ≡ w′ → c ≡ c′ → l ≡ l′ → k ≡ k′ → tables a w c l k ≡ tables a′ w′ c′ l′ k′
-tables-path p₀ p₁ p₂ p₃ p₄ i = tables (p₀ i) (p₁ i) (p₂ i) (p₃ i) (p₄ i)
 
 pub turned-path : {x y : State} {t u : Tables} → x ≡ y → t ≡ u → turned x t ≡ turned y u
 turned-path p q i = turned (p i) (q i)
@@ -142,6 +143,26 @@ step-bind : (op from to : List ℕ) (con s : List ℤ) (q : Bool) (x : State) (t
 unfolding stepOf
 step-bind op from to con s q x t z = ap (λ (o : ℕ). stepBy o from to con s q (counted x) t) z ∙ step-3 from to con s q (counted x) t
 
+-- The code's step: of a list's cons, and of any other line.
+head-code : (op from to : List ℕ) (con s : List ℤ) (q : Bool) (x : State) (t : Tables) → getD op (x .pc) 0 ≡ 8 → steps.stepOf op from to con s q x t ≡ headOf s (counted x) t
+unfolding steps.stepOf steps.stepBy steps.divideOf when
+head-code op from to con s q x t z = ap (λ (o : ℕ). steps.stepBy o from to con s q (counted x) t) z
+
+head-plain : (op from to : List ℕ) (con s : List ℤ) (q : Bool) (x : State) (t : Tables) → getD op (x .pc) 0 ≡ 8 → stepOf op from to con s q x t ≡ splitOf 8 (counted x) t
+unfolding stepOf stepBy divideOf when
+head-plain op from to con s q x t z = ap (λ (o : ℕ). stepBy o from to con s q (counted x) t) z
+
+other-code : (op from to : List ℕ) (con s : List ℤ) (q : Bool) (x : State) (t : Tables) → (getD op (x .pc) 0 ≡ 8 → ⊥)
+    → steps.stepOf op from to con s q x t ≡ stepOf op from to con s q x t
+unfolding steps.stepOf steps.stepBy steps.divideOf stepOf stepBy divideOf when
+other-code op from to con s q x t n = rw (ne-eqb (getD op (x .pc) 0) 8 n)
+
+-- A state taken up, by a row or a step.
+pub record Taken (e : Env) (r : Run) (y : State) (u : Tables) (b : List Binding) (room : List ℤ) : Type 0 where
+  pub next : settled e (run y u b room) ≡ settled e (takeOf e r)
+  pub picks : PicksIf (y .live) (e .op) (e .words) (y .top) (u .ats) (u .wholes) (u .lefts)
+  pub long : length (u .backs) ≡ entries
+
 module _ (e : Env) (x : State) (t : Tables) (b : List Binding) (room : List ℤ) (q : Bool) (b′ : List Binding) (a : Asked e (run x t b room) q b′) where
   same-binds : (getD (e .op) (x .pc) 0 ≡ 3 → ⊥) → b′ ≡ b
   unfolding when
@@ -183,10 +204,8 @@ module _ (e : Env) (x : State) (t : Tables) (b : List Binding) (room : List ℤ)
   unfolding stepped takeOf takeStep afterTurn when
   took-n n m = rw (ne-eqb _ _ n, ne-eqb _ _ m, same-binds m, a .ask)
 
-  pub took-step : (y : State) (u : Tables) (room′ : List ℤ) → (getD (e .op) (x .pc) 0 ≡ 0 → ⊥) → turned y u ≡ stepOf (e .op) (e .from) (e .to) (e .con) (e .words) q x t
-      → room′ ≡ room → run y u b′ room′ ≡ takeOf e (run x t b room)
-  unfolding stepped
-  took-step y u room′ n p k = rw k (ap (λ (w : Turned). run (w .state) (w .tables) b′ room) p ∙ go (eqb (getD (e .op) (x .pc) 0) 3) refl)
+  took-plain : (getD (e .op) (x .pc) 0 ≡ 0 → ⊥) → run (stepped .state) (stepped .tables) b′ room ≡ takeOf e (run x t b room)
+  took-plain n = go (eqb (getD (e .op) (x .pc) 0) 3) refl
     where
       go : (d : Bool) → eqb (getD (e .op) (x .pc) 0) 3 ≡ d → run (stepped .state) (stepped .tables) b′ room ≡ takeOf e (run x t b room)
       go true j = took-3 (eqb-true _ _ j)
@@ -194,20 +213,21 @@ module _ (e : Env) (x : State) (t : Tables) (b : List Binding) (room : List ℤ)
 
   -- What a row and a step ask.
   module _ (fine : Fine e) (g : Target (e .words)) (v : Valid e (run x t b room)) (l : x .steps + 1 < 2 ^ 64) where
-    pub turn-steps : Steps (e .words) (e .op) (e .from) x
-    turn-steps =
-        let h = v .held .tag .inside in
-        let s = g .short in
-        record {
-          place = v .place;
-          next = fine .slots (x .pc) (v .place);
-          tag = v .held .tag;
-          word = second (e .words) (x .at) g (v .held .tag);
-          small = omega arith;
-          frame = top-bound (x .top) (λ n. v .frames .last .frame n .place);
-          count = l;
-          parts = fine .parts (x .pc) (v .place);
-        }
+    pub turn-steps : (slots : List ℕ) → t ≡ viewOf (e .arg) slots → Steps (e .words) (e .op) (e .from) (e .arg) slots x
+    turn-steps slots w = record {
+      place = v .place;
+      next = fine .slots (x .pc) (v .place);
+      held = v .held;
+      word = second (e .words) (x .at) g (v .held .tag);
+      count = l;
+      owns = record {
+        slot = fine .slot;
+        long = rw w at (v .long .backs);
+        alone = fine .alone (x .pc) (v .place);
+        fits = fine .parts (x .pc) (v .place);
+        parts = fine .each (x .pc) (v .place);
+      };
+    }
 
     rows-ask : Rows (e .words) b (e .vars) x room
     rows-ask =
@@ -222,9 +242,32 @@ module _ (e : Env) (x : State) (t : Tables) (b : List Binding) (room : List ℤ)
     pub turn-row : getD (e .op) (x .pc) 0 ≡ 0 → Rows (e .words) b′ (e .vars) x room
     turn-row z = rw (same-binds (λ y. omega arith)) rows-ask
 
-    pub turn-picks : x .live ≡ 1 → (y : State) (u : Tables) (k : List Binding) (room′ : List ℤ) → run y u k room′ ≡ takeOf e (run x t b room)
-        → PicksIf (y .live) (e .op) (e .words) (y .top) (u .ats) (u .wholes) (u .lefts)
-    turn-picks o y u k room′ p = record { picks = λ z. subst (Valid e) (sym p) (take-keeps e fine g (run x t b room) v o) .frames .last }
+    -- The state is taken up: the next choice can be taken, and then the run is at its next state.
+    pub taken-is : x .live ≡ 1 → (y : State) (u : Tables) (room′ : List ℤ) → run y u b′ room′ ≡ takeOf e (run x t b room) → Taken e (run x t b room) y u b′ room′
+    taken-is o y u room′ p =
+        let k = subst (Valid e) (sym p) (take-keeps e fine g (run x t b room) v o) in
+        record { next = ap (settled e) p; picks = record { picks = λ z. k .frames .last }; long = k .long .backs }
+
+    taken-head : (y : State) (u : Tables) → getD (e .op) (x .pc) 0 ≡ 8 → turned y u ≡ steps.stepOf (e .op) (e .from) (e .to) (e .con) (e .words) q x t → Taken e (run x t b room) y u b′ room
+    unfolding stepped afterTurn counted
+    taken-head y u z p =
+        let h = p ∙ head-code (e .op) (e .from) (e .to) (e .con) (e .words) q x t z in
+        let c = ap (λ (w : Turned). run (w .state) (w .tables) b′ room) (head-plain (e .op) (e .from) (e .to) (e .con) (e .words) q x t z) in
+        record {
+          next = head-next e (counted x) t b′ room (v .long) (v .place) y u h z (held-64 (e .words) (x .at) (x .marks) g (v .held)) ∙ ap (settled e) (sym c ∙ took-plain (λ w. omega arith));
+          picks = head-picks e (counted x) t b′ room (v .long) (v .place) y u h (v .frames .last);
+          long = head-backs e (counted x) t b′ room (v .long) (v .place) y u h;
+        }
+
+    pub taken-step : x .live ≡ 1 → (y : State) (u : Tables) (room′ : List ℤ) → (getD (e .op) (x .pc) 0 ≡ 0 → ⊥)
+        → turned y u ≡ steps.stepOf (e .op) (e .from) (e .to) (e .con) (e .words) q x t → room′ ≡ room → Taken e (run x t b room) y u b′ room′
+    unfolding stepped
+    taken-step o y u room′ n p k = go (eqb (getD (e .op) (x .pc) 0) 8) refl
+      where
+        go : (d : Bool) → eqb (getD (e .op) (x .pc) 0) 8 ≡ d → Taken e (run x t b room) y u b′ room′
+        go true j = rw k (taken-head y u (eqb-true _ _ j) p)
+        go false j = taken-is o y u room′
+            (rw k (ap (λ (w : Turned). run (w .state) (w .tables) b′ room) (p ∙ other-code (e .op) (e .from) (e .to) (e .con) (e .words) q x t (eqb-false _ _ j)) ∙ took-plain n))
 
 settle-by : (e : Env) (r : Run) (c : Bool)
     → afterTurn (when c (pickOf (e .op) (e .from) (e .to) (e .words) (r .state) (r .tables)) (turned (r .state) (r .tables))) (r .binds) (r .room)
@@ -241,8 +284,8 @@ settled-by e r y u p = ap (λ (z : Turned). run (z .state) (z .tables) (r .binds
         ≡ when c (afterTurn (pickOf (e .op) (e .from) (e .to) (e .words) (r .state) (r .tables)) (r .binds) (r .room)) r
     go c = settle-by e r c
 
-pub fine-slots : (e : Env) → Fine e → Slots (e .from)
-fine-slots e f = record { there = f .slots }
+pub fine-named : (e : Env) → Fine e → (slots : List ℕ) → length (viewOf (e .arg) slots .backs) ≡ entries → Named (e .op) (e .from) (e .arg) slots
+fine-named e f slots l = record { there = f .slots; slot = f .slot; alone = f .alone; long = l }
 
 -- ---- A state stands, and the budget is not used up.
 
@@ -264,10 +307,13 @@ module _ (e : Env) (x : State) (t : Tables) (b : List Binding) (room : List ℤ)
   pub ready-mul : Fits w64 (x .pc * 4)
   ready-mul = let l = h .valid .place in record { fits = omega arith }
 
+  pub ready-mul-2 : Fits w64 (x .pc * 2)
+  ready-mul-2 = let l = h .valid .place in record { fits = omega arith }
+
   -- The variable that the line names.
-  module _ (v : ℕ) (n : v ≡ getD (e .arg) (x .pc) 0) where
+  module _ (v : ℕ) (n : v ≡ getD (e .arg) (x .pc) 0) (low : 2 < getD (e .op) (x .pc) 0) (high : getD (e .op) (x .pc) 0 < 7) where
     pub ready-number : v < 16
-    ready-number = rw n (h .fine .numbers (x .pc) (h .valid .place))
+    ready-number = rw n (h .fine .numbers (x .pc) (h .valid .place) (omega arith) (omega arith))
 
     pub ready-number-mul : Fits w64 (v * 16)
     ready-number-mul = let l = ready-number in record { fits = omega arith }

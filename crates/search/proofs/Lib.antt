@@ -8,6 +8,7 @@ pub mod Turns
 pub mod Counts
 pub mod Runs
 pub mod Whole
+pub mod Heads
 pub mod Laws
 pub mod Begun
 pub mod Accepted

@@ -26,7 +26,7 @@ use Rattle.value_rows.specs.Row.{originOf, bound, nothing}
 use Rattle.value_rows.specs.declared.Binding.{Binding}
 use Rattle.search_step.specs.declared.State.{State}
 use Rattle.search_atom.specs.Leaves.{when}
-use Rattle.search_step.specs.Steps.{Tables}
+use Rattle.tables.specs.Slot.{Tables}
 use Rattle.search_choice.specs.Choices.{pickOf}
 use Rattle.search_machine.proofs.Instance.{places}
 use Rattle.search.specs.Run as numbers
@@ -257,7 +257,7 @@ module _ (e : Env) (g : Target (e .words)) where
         (λ z. when-if same-turn (eqb (getD (e .op) (x .pc) 0) 3) (takeBind e r) (takeStep e r)
         (λ k. goes (takeBind e r) (bind-took e r) refl (eqb-false _ _ z)
         (ap (λ i. exec (places (e .form) (e .words) g) i (confOf (e .form) (e .words) g x t b)) (bind-code here (eqb-true _ _ k))
-        ∙ bind-turn e g x t b room (v .binds .long) (fine .numbers (x .pc) (v .place))))
+        ∙ bind-turn e g x t b room (v .binds .long) (let three : getD (e .op) (x .pc) 0 ≡ 3 = eqb-true _ _ k in fine .numbers (x .pc) (v .place) (omega arith) (omega arith))))
         (λ k. goes (takeStep e r) (step-took (e .op) (e .from) (e .to) (e .con) (e .words) (asked e r) x t) refl (eqb-false _ _ z)
         (step-turn e g x t b room (code (x .pc)) here (eqb-false _ _ z) (eqb-false _ _ k) (v .long) (v .place) (fine .parts (x .pc) (v .place)))))
         (take-keeps e fine g r v l)

@@ -17,10 +17,11 @@ use Rattle.value_places.specs.Held.{Held, wholeAt}
 use Rattle.value_places.proofs.Elements.{element-tag}
 use Rattle.value_places.proofs.Held.{marks-count, held-64}
 use Rattle.value_rows.specs.declared.Binding.{Binding}
-use Rattle.search_choice.proofs.Laws.{low-there}
+use Rattle.search_step.proofs.Laws.{low-there}
 use Rattle.search_step.specs.declared.State.{State}
 use Rattle.search_atom.specs.Leaves.{nowLeft, longerOf, slotBy}
-use Rattle.search_step.specs.Steps.{Tables, Turned, tables, moved, lived, topped}
+use Rattle.tables.specs.Slot.{Tables, tables}
+use Rattle.search_step.specs.Steps.{Turned, moved, lived, topped}
 use Rattle.search_choice.specs.Choices.{topLeft, joinBy, joinOf, consBy, consOf, resumedBy, resumedAt, resumeOf, choiceOf, pickOf, Frame, Picks}
 use Rattle.search.specs.Run.{Env, Run, run, afterTurn, settled}
 use Rattle.search.specs.Valid.{Fine, Valid}

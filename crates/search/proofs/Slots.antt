@@ -17,7 +17,8 @@ use Rattle.value_places.specs.Places.{Target, elementAt}
 use Rattle.search_step.specs.declared.State.{State}
 use Rattle.search_step.specs.Steps as numbers
 use Rattle.search_atom.specs.Leaves.{when, stored, partMarks, nowLeft}
-use Rattle.search_step.specs.Steps.{Tables, tables, pushedIn, keptIn, framedIn}
+use Rattle.tables.specs.Slot.{Tables, tables}
+use Rattle.search_step.specs.Steps.{pushedIn, keptIn, framedIn}
 use Rattle.search.specs.Valid.{Long}
 use Rattle.search_machine.specs.Operations.{binding, someOf}
 use Rattle.search_machine.specs.Operations as operations

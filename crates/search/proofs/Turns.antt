@@ -32,7 +32,9 @@ use Rattle.search_step.specs.declared.State.{State}
 use Rattle.search_step.specs.Steps as numbers
 use Rattle.search_atom.specs.Leaves as leaves
 use Rattle.search_atom.specs.Leaves.{when, passesOf, noneOf, opensOf, stored, partMarks, nowLeft, longerOf, slotBy}
-use Rattle.search_step.specs.Steps.{Tables, Turned, tables, turned, counted, moved, lived, dropped, pushedIn, splitOf, apartAt, apartAts, apartBacks, apartOf, keptAt, keptIn, framedAt, framedIn, cutTo, sidesOf, divideOf, stepBy, stepOf, topped}
+use Rattle.tables.specs.Slot.{Tables, tables}
+use Rattle.search_step.specs.Steps.{Turned, turned, counted, moved, lived, dropped, pushedIn, splitOf, apartAt, apartAts, apartBacks, apartOf, keptAt, keptIn, framedAt, framedIn, cutTo, sidesOf, topped}
+use Rattle.search.specs.Plain.{divideOf, stepBy, stepOf}
 use Rattle.search_choice.specs.Choices.{topLeft, joinOf, joinBy, consOf, consBy, resumedBy, resumedAt, resumeOf, choiceOf, pickOf, Frame, Picks}
 use Rattle.search.specs.Run.{Env, Run, run, askOf, lineAt, boundAt, asked, takeBind, takeStep, afterTurn}
 use Rattle.search.specs.Valid.{Long}

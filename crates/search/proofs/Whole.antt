@@ -35,7 +35,7 @@ use Rattle.search_machine.specs.Whole.{fresh, fresh-same, machine-runs, place-b
 use Rattle.value_places.specs.Places.{Target}
 use Rattle.value_rows.specs.declared.Binding.{Binding}
 use Rattle.search_atom.specs.Leaves.{when}
-use Rattle.search_step.specs.Steps.{Tables}
+use Rattle.tables.specs.Slot.{Tables}
 use Rattle.search_machine.specs.Operations.{binding}
 use Rattle.search_machine.proofs.Instance.{places}
 use Rattle.search.specs.Run.{Env, Run, run, lineAt, takeOf, settled, runOf, opening, answerOf, matched, told}

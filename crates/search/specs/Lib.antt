@@ -1,4 +1,5 @@
 -- The definitions that this layer cites.
+pub mod Plain
 pub mod Run
 pub mod Valid
 pub mod Meaning

@@ -13,7 +13,7 @@ use Rattle.value_rows.specs.Row.{nothing}
 use Rattle.value_rows.specs.declared.Binding.{Binding}
 use Rattle.search_step.specs.declared.State.{State}
 use Rattle.search_atom.specs.Leaves.{when}
-use Rattle.search_step.specs.Steps.{Tables}
+use Rattle.tables.specs.Slot.{Tables}
 use Rattle.search_machine.specs.Operations.{binding}
 use Rattle.search_machine.proofs.Instance.{places}
 use Rattle.search.specs.Run.{Run}

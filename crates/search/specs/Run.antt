@@ -15,7 +15,9 @@ use Rattle.value_rows.specs.declared.Binding.{Binding}
 use Rattle.program_rules.specs.Lines.{Line, line}
 use Rattle.search_step.specs.declared.State.{State}
 use Rattle.search_atom.specs.Leaves.{when}
-use Rattle.search_step.specs.Steps.{Tables, Turned, counted, dropped, stepOf}
+use Rattle.tables.specs.Slot.{Tables}
+use Rattle.search_step.specs.Steps.{Turned, counted, dropped}
+use Rattle.search.specs.Plain.{stepOf}
 use Rattle.search_choice.specs.Choices.{pickOf}
 
 -- What does not change: the program, the matcher's words, the target's words, how many variables there are, the form of a row.

@@ -18,7 +18,7 @@ use Rattle.program_rules.specs.Columns.{Holds}
 use Rattle.value_places.specs.Held.{wholeAt}
 use Rattle.value_rows.specs.Row.{nothing}
 use Rattle.value_rows.specs.declared.Binding.{Binding}
-use Rattle.search_step.specs.Steps.{tables}
+use Rattle.tables.specs.Slot.{tables}
 use Rattle.search.specs.Run.{Env, Run, run, runOf, opening, told}
 
 -- Tables and bindings that hold nothing yet; the target as a whole is held, its tag at the first index.

@@ -11,20 +11,23 @@ use Rattle.value_places.specs.Held.{Held}
 use Rattle.value_rows.specs.Row.{Bound}
 use Rattle.value_rows.specs.declared.Binding.{Binding}
 use Rattle.search_step.specs.declared.State.{State}
-use Rattle.search_step.specs.Steps.{Tables}
+use Rattle.tables.specs.Slot.{slotCount, Tables, Alone}
 use Rattle.search_choice.specs.Choices.{Picks}
 use Rattle.search.specs.Run.{Env, Run}
 
--- The program: slots, places and variables are in range, and its last line is an end. A tuple's parts wait at its own place and at those after it that are
--- reserved, where no choice is made; and the program goes on after them.
+-- The program: the lines that it names, its slots and its variables are in range, and its last line is an end. A tuple's parts wait at its own line and at
+-- those after it that are reserved, where no choice is made; and the program goes on after them. A line where a value waits has a slot of its own.
 pub record Fine (e : Env) : Type 0 where
   pub last : getD (e .op) (entries - 1) 0 ≡ 0
   pub slots : (i : ℕ) → i < entries → getD (e .from) i 0 < entries
   pub places : (i : ℕ) → i < entries → getD (e .to) i 0 < entries
-  pub numbers : (i : ℕ) → i < entries → getD (e .arg) i 0 < 16
+  pub numbers : (i : ℕ) → i < entries → 1 < getD (e .op) i 0 → getD (e .op) i 0 < 8 → getD (e .arg) i 0 < 16
   pub few : e .vars ≤ 16
   pub parts : (i : ℕ) → i < entries → 10 < getD (e .op) i 0 → getD (e .op) i 0 < 14 → i + (getD (e .op) i 0 - 10) < entries
   pub reserved : (i k : ℕ) → 0 < k → 11 + k ≤ getD (e .op) i 0 → getD (e .op) i 0 ≤ 13 → getD (e .op) (i + k) 0 ≡ 1
+  pub slot : (i : ℕ) → getD (e .arg) i 0 < slotCount
+  pub alone : (i : ℕ) → i < entries → 7 < getD (e .op) i 0 → getD (e .op) i 0 < 17 → Alone (e .arg) i
+  pub each : (i : ℕ) → i < entries → 10 < getD (e .op) i 0 → getD (e .op) i 0 < 14 → (k : ℕ) → k < getD (e .op) i 0 - 10 → Alone (e .arg) (i + k)
 
 -- The tables have a slot for each instruction.
 pub record Long (t : Tables) : Type 0 where

@@ -3,6 +3,9 @@ pub mod taking;
 
 use search_choice::settle;
 use search_step::State;
+use tables::slot::Numbers;
+use tables::slot::Slots;
+use tables::slot::no_slots;
 use taking::filled;
 use taking::wrote;
 use value_equality::equal;
@@ -14,22 +17,17 @@ use value_rows::Binding;
 use value_rows::put_value;
 use value_rows::row_size;
 use words::ENTRIES;
+use words::casts::byte_index;
+use words::casts::half_index;
 ghost use mathlib.Core.Path.{_≡_};
 ghost use Prim.Native.Nat.{_-_, _<_};
 ghost use lib.ListN.{length};
 ghost use Rattle.program_rules.specs.Lines.{columns};
 ghost use Rattle.value_places.specs.Places.{Target};
-ghost use Rattle.search_step.specs.Steps.{tables};
+ghost use Rattle.tables.specs.Slot.{viewOf};
 ghost use Rattle.search.specs.Run.{env, run, runOf, answerOf, matched};
 ghost use Rattle.search.specs.Valid.{Given, Fine, Valid};
 ghost use Rattle.search.specs.Searched.{Searched};
-
-// A number of a line, as an index.
-fn index(x: u8) -> usize
-    ensures { λ r. ⌜ r ≡ x ⌝ }
-{
-    x as usize
-}
 
 pub struct Found {
     pub state: State,
@@ -50,18 +48,14 @@ pub fn advance(
     op: &[u8; ENTRIES],
     from: &[u16; ENTRIES],
     to: &[u16; ENTRIES],
-    arg: &[u8; ENTRIES],
+    arg: &Numbers,
     mat: &[u8; ENTRIES],
     con: &[i32; ENTRIES],
-    ats: &mut [u16; ENTRIES],
-    wholes: &mut [u64; ENTRIES],
-    lefts: &mut [u64; ENTRIES],
-    lows: &mut [u16; ENTRIES],
-    backs: &mut [u64; ENTRIES],
+    slots: &mut Slots,
     room: &mut [i32],
 ) -> Found
-    requires { ⌜ Given (now s) (now ends) (now base) (now places) ⌝ ∗ ⌜ Fine (env (now op) (now from) (now to) (now arg) (now mat) (now con) (now mt) (now s) n) ⌝ ∗ ⌜ Valid (env (now op) (now from) (now to) (now arg) (now mat) (now con) (now mt) (now s) n) (run first (tables (now ats) (now wholes) (now lefts) (now lows) (now backs)) given (now room)) ⌝ }
-    ensures { λ r. ⌜ run (r .state) (tables (now (ats .exit)) (now (wholes .exit)) (now (lefts .exit)) (now (lows .exit)) (now (backs .exit))) (r .binds) (now (room .exit)) ≡ runOf (env (now (op .entry)) (now (from .entry)) (now (to .entry)) (now (arg .entry)) (now (mat .entry)) (now (con .entry)) (now (mt .entry)) (now (s .entry)) n) (budget - first .steps) (run first (tables (now (ats .entry)) (now (wholes .entry)) (now (lefts .entry)) (now (lows .entry)) (now (backs .entry))) given (now (room .entry))) ⌝ }
+    requires { ⌜ Given (now s) (now ends) (now base) (now places) ⌝ ∗ ⌜ Fine (env (now op) (now from) (now to) (now arg) (now mat) (now con) (now mt) (now s) n) ⌝ ∗ ⌜ Valid (env (now op) (now from) (now to) (now arg) (now mat) (now con) (now mt) (now s) n) (run first (viewOf (now arg) (now slots)) given (now room)) ⌝ }
+    ensures { λ r. ⌜ run (r .state) (viewOf (now (arg .entry)) (now (slots .exit))) (r .binds) (now (room .exit)) ≡ runOf (env (now (op .entry)) (now (from .entry)) (now (to .entry)) (now (arg .entry)) (now (mat .entry)) (now (con .entry)) (now (mt .entry)) (now (s .entry)) n) (budget - first .steps) (run first (viewOf (now (arg .entry)) (now (slots .entry))) given (now (room .entry))) ⌝ }
 {
     let mut x = first;
     let mut b = given;
@@ -77,22 +71,22 @@ pub fn advance(
         let mut q = false;
         if 2 < o {
             if o == 5 {
-                let v = index(arg[pc]);
+                let v = half_index(arg[pc]);
                 let y = b[v];
                 let g = y.at;
                 let c = con[pc];
                 q = is_sum(s, g, c, at);
             } else if o < 5 {
                 if o == 3 {
-                    let v = index(arg[pc]);
+                    let v = half_index(arg[pc]);
                     b[v] = Binding { at: at, marks: m };
                 }
             } else if o < 7 {
-                let v = index(arg[pc]);
+                let v = half_index(arg[pc]);
                 let y = b[v];
                 let g = y.at;
                 let k = y.marks;
-                let i = index(mat[pc]);
+                let i = byte_index(mat[pc]);
                 q = equal(mt, i, s, base, places, g, k, at, m);
             }
         }
@@ -117,36 +111,9 @@ pub fn advance(
                 x = wrote(x, e);
             }
         } else {
-            x = x.step(
-                q,
-                s,
-                base,
-                places,
-                op,
-                from,
-                to,
-                con,
-                ats,
-                wholes,
-                lefts,
-                lows,
-                backs,
-            );
+            x = x.step(q, s, base, places, op, from, to, con, arg, slots);
         }
-        x = settle(
-            x,
-            s,
-            base,
-            places,
-            op,
-            from,
-            to,
-            ats,
-            wholes,
-            lefts,
-            lows,
-            backs,
-        );
+        x = settle(x, s, base, places, op, from, to, arg, slots);
     }
     Found { state: x, binds: b }
 }
@@ -180,7 +147,7 @@ pub fn search(
     op: &[u8; ENTRIES],
     from: &[u16; ENTRIES],
     to: &[u16; ENTRIES],
-    arg: &[u8; ENTRIES],
+    arg: &Numbers,
     mat: &[u8; ENTRIES],
     con: &[i32; ENTRIES],
     room: &mut [i32],
@@ -193,11 +160,7 @@ pub fn search(
     let mut places = [0u16; 512];
     ends_of(s, &mut ends);
     places_of(s, &ends, &mut base, &mut places);
-    let mut ats = [0u16; ENTRIES];
-    let mut wholes = [0u64; ENTRIES];
-    let mut lefts = [0u64; ENTRIES];
-    let mut lows = [0u16; ENTRIES];
-    let mut backs = [0u64; ENTRIES];
+    let mut slots = no_slots();
     let given = [Binding { at: 0, marks: 0 }; 16];
     let first = State {
         pc: 0,
@@ -225,11 +188,7 @@ pub fn search(
         arg,
         mat,
         con,
-        &mut ats,
-        &mut wholes,
-        &mut lefts,
-        &mut lows,
-        &mut backs,
+        &mut slots,
         room,
     );
     let x = found.state;

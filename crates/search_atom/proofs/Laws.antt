@@ -6,7 +6,7 @@ use Prim.Native.Nat.{ℕ, suc, _+_, _-_, _^_, _<_, _≤_}
 use native.Mathlib.Omega.{arith}
 use borrow.Author.Needs.{needs}
 use borrow.Author.Tests.{eq-eqb, ne-eqb, lt-ltb, le-ltb, eqb-false}
-use lib.ListN.{getD, set}
+use lib.ListN.{length, getD, set, length-set}
 use lib.Dec.{eqb, ltb}
 use lib.IntN.{ℤ}
 use lib.Count.{trailingZeros}
@@ -16,7 +16,9 @@ use Rattle.words.proofs.marks.Places.{low-lt}
 use Rattle.value_places.specs.Places.{Target, Tag, countAt, elementAt}
 use Rattle.value_places.specs.Held.{wholeAt}
 use Rattle.value_places.proofs.Elements.{element-tag}
-use Rattle.search_atom.specs.Leaves.{when, noneOf, stored, isWide, partMarks, topBy, slotBy}
+use Rattle.tables.specs.declared.slot.Held.{Held}
+use Rattle.tables.specs.Slot.{slotCount, Tables, tables, viewOf, Slotted, Alone, putHeld, putLeft}
+use Rattle.search_atom.specs.Leaves.{when, noneOf, stored, isWide, partMarks, partHeld, partsIn, Parts, topBy, nowLeft, leftIn, slotBy}
 
 -- ---- One or the other.
 
@@ -76,7 +78,15 @@ pub top-stays : (more j top : ℕ) (lows : List ℕ) → (more ≡ 0 → ⊥) �
 unfolding topBy
 top-stays more j top lows n = when-ne _ _ _ more 0 n refl
 
-pub ruleset leave-rules = (top-is, top-stays, cases)
+pub left-none : (more j : ℕ) (t : Tables) → more ≡ 0 → t ≡ leftIn more j t
+unfolding leftIn nowLeft when
+left-none more j t z = rw (eq-eqb more 0 z)
+
+pub left-some : (more j : ℕ) (t u : Tables) → (more ≡ 0 → ⊥) → u ≡ putLeft j more t → u ≡ leftIn more j t
+unfolding leftIn nowLeft when putLeft
+left-some more j t u n e = e ∙ rw (ne-eqb more 0 n)
+
+pub ruleset leave-rules = (top-is, top-stays, left-none, left-some, cases)
 
 -- An or or a not.
 
@@ -98,48 +108,57 @@ wide-by s at n k e = rw e
 
 pub ruleset wide-rules = (wide-by, needs)
 
--- One to three entries, each put by itself.
-module _ (f : ℕ → ℕ) (from n : ℕ) (l a : List ℕ) (z : 0 < n) (p : a ≡ set l from (f 1)) where
-  pub stored-one : n < 2 → a ≡ stored f from 1 n l
-  unfolding stored
-  stored-one h = let e : n ≡ 1 = omega arith in rw (e, p)
+-- One to three parts, each put by itself.
+module _ (s : List ℤ) (at from n : ℕ) (t a : Tables) (z : 0 < n) (p : a ≡ putHeld from (partHeld s at 1) t) where
+  pub parts-one : n < 2 → a ≡ partsIn s at from n t
+  unfolding partsIn stored putHeld partHeld
+  parts-one h = let e : n ≡ 1 = omega arith in rw (e, p)
 
-  module _ (b : List ℕ) (h : 2 ≤ n) (q : b ≡ set a (from + 1) (f 2)) where
-    pub stored-two : n < 3 → b ≡ stored f from 1 n l
-    unfolding stored
-    stored-two k = let e : n ≡ 2 = omega arith in rw (e, q, p)
+  module _ (b : Tables) (h : 2 ≤ n) (q : b ≡ putHeld (from + 1) (partHeld s at 2) a) where
+    pub parts-two : n < 3 → b ≡ partsIn s at from n t
+    unfolding partsIn stored putHeld partHeld
+    parts-two k = let e : n ≡ 2 = omega arith in rw (e, q, p)
 
-    pub stored-three : (c : List ℕ) → 3 ≤ n → n < 4 → c ≡ set b (from + 2) (f 3) → c ≡ stored f from 1 n l
-    unfolding stored
-    stored-three c k m r = let e : n ≡ 3 = omega arith in let d : from + 2 ≡ from + 1 + 1 = omega arith in rw (e, r, q, p, d)
+    pub parts-three : (c : Tables) → 3 ≤ n → n < 4 → c ≡ putHeld (from + 2) (partHeld s at 3) b → c ≡ partsIn s at from n t
+    unfolding partsIn stored putHeld partHeld
+    parts-three c k m r = let e : n ≡ 3 = omega arith in let d : from + 2 ≡ from + 1 + 1 = omega arith in rw (e, r, q, p, d)
 
-module _ (s : List ℤ) (at i e : ℕ) (g : Target s) (w : Tag s at) (p : e ≡ elementAt s at i) (k : i < countAt s at) where
-  pub part-tag : Tag s e
-  part-tag = rw p (element-tag s at i g w k)
+module _ (s : List ℤ) (at i e : ℕ) (p : e ≡ elementAt s at i) where
+  pub part-tag : Target s → Tag s at → i < countAt s at → Tag s e
+  part-tag g w k = rw p (element-tag s at i g w k)
 
-  pub part-small : e < 65536
-  part-small = let q = part-tag .inside in let r = g .short in omega arith
+  pub part-put : (pc m : ℕ) (t u : Tables) → m ≡ wholeAt s e → u ≡ putHeld pc (record { at = e; marks = m }) t → u ≡ putHeld pc (partHeld s at i) t
+  unfolding partHeld partMarks
+  part-put pc m t u q r = r ∙ rw (q, p)
 
-module _ (s : List ℤ) (at i e x : ℕ) (l : List ℕ) (j : ℕ) (p : e ≡ elementAt s at i) where
-  pub part-at : x ≡ e → set l j x ≡ set l j (elementAt s at i)
-  part-at q = rw (q, p)
-
-  pub part-marks : x ≡ wholeAt s e → set l j x ≡ set l j (partMarks s at i)
-  unfolding partMarks
-  part-marks q = rw (q, p)
-
-pub ruleset part-rules = (part-tag, part-small, part-at, part-marks, needs)
+pub ruleset part-rules = (part-tag, part-put, needs)
 
 -- The slots and the parts are there.
-module _ (from n : ℕ) (h : from + n ≤ entries) where
-  pub first-slot : 0 < n → from < entries
-  first-slot z = omega arith
+pub long-held : (arg t u : List ℕ) (pc : ℕ) (h : Held) → length (viewOf arg t .backs) ≡ entries → viewOf arg u ≡ putHeld pc h (viewOf arg t) → length (viewOf arg u .backs) ≡ entries
+unfolding putHeld
+long-held arg t u pc h l e = ap (λ (v : Tables). length (v .backs)) e ∙ length-set (viewOf arg t .backs) pc (h .marks) ∙ l
 
-  pub second-slot : 2 ≤ n → from + 1 < entries
-  second-slot z = omega arith
+module _ (arg t : List ℕ) (from n : ℕ) (h : Parts arg t from n) where
+  pub first-slot : 0 < n → Slotted arg t from
+  first-slot z = let f = h .fits in record { place = omega arith; slot = h .slot from; long = h .long }
 
-  pub third-slot : 3 ≤ n → from + 2 < entries
-  third-slot z = omega arith
+  pub first-alone : 0 < n → Alone arg from
+  first-alone z = let e : from + 0 ≡ from = omega arith in rw e at (h .alone 0 z)
+
+  pub second-alone : 2 ≤ n → Alone arg (from + 1)
+  second-alone z = h .alone 1 (omega arith)
+
+  pub third-alone : 3 ≤ n → Alone arg (from + 2)
+  third-alone z = h .alone 2 (omega arith)
+
+  module _ (u : List ℕ) (x : Held) (e : viewOf arg u ≡ putHeld from x (viewOf arg t)) where
+    pub second-slot : 2 ≤ n → Slotted arg u (from + 1)
+    second-slot z = let f = h .fits in record { place = omega arith; slot = h .slot (from + 1); long = long-held arg t u from x (h .long) e }
+
+    pub third-slot : 3 ≤ n → (w : List ℕ) (y : Held) → viewOf arg w ≡ putHeld (from + 1) y (viewOf arg u) → Slotted arg w (from + 2)
+    third-slot z w y q =
+        let f = h .fits in
+        record { place = omega arith; slot = h .slot (from + 2); long = long-held arg u w (from + 1) y (long-held arg t u from x (h .long) e) q }
 
 module _ (s : List ℤ) (at n : ℕ) (h : n < countAt s at) where
   pub second-part : 0 < n → 1 < countAt s at
@@ -151,4 +170,4 @@ module _ (s : List ℤ) (at n : ℕ) (h : n < countAt s at) where
   pub fourth-part : 3 ≤ n → 3 < countAt s at
   fourth-part z = omega arith
 
-pub ruleset keep-rules = (stored-one, stored-two, stored-three, first-slot, second-slot, third-slot, second-part, third-part, fourth-part, needs)
+pub ruleset keep-rules = (parts-one, parts-two, parts-three, first-slot, first-alone, second-alone, third-alone, second-slot, third-slot, second-part, third-part, fourth-part, needs)

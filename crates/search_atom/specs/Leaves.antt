@@ -1,14 +1,18 @@
 -- Document 01, section 4, on numbers: an atom's test, the choices of a cons or a join, the parts of a tuple.
-use Prim.Native.Nat.{ℕ, zero, suc, _+_, _^_}
+use Prim.Native.Nat.{ℕ, zero, suc, _+_, _^_, _<_, _≤_}
+use mathlib.Core.Path.{_≡_}
 use mathlib.Core.Bool.{Bool, true, false}
 use mathlib.Core.List.{List}
-use lib.ListN.{getD, set}
+use lib.ListN.{length, getD, set}
 use lib.Dec.{eqb}
 use lib.Count.{trailingZeros}
 use lib.IntN.{ℤ, pos}
 use Rattle.rules.specs.Numbers.{same}
 use Rattle.value_places.specs.Places.{countAt, elementAt}
 use Rattle.value_places.specs.Held.{wholeAt}
+use Rattle.words.specs.Words.{entries}
+use Rattle.tables.specs.declared.slot.Held.{Held}
+use Rattle.tables.specs.Slot.{slotCount, Tables, tables, viewOf, Alone}
 
 -- One or the other.
 unfoldable pub when : {A : Type 0} → Bool → A → A → A
@@ -43,6 +47,22 @@ unfoldable pub partMarks : List ℤ → (at i : ℕ) → ℕ
 unfolding elementAt wholeAt
 partMarks s at i = wholeAt s (elementAt s at i)
 
+unfoldable pub partHeld : List ℤ → (at i : ℕ) → Held
+unfolding partMarks
+partHeld s at i = record { at = elementAt s at i; marks = partMarks s at i }
+
+-- The n parts after the first wait at the lines from one on.
+unfoldable pub partsIn : List ℤ → (at from n : ℕ) → Tables → Tables
+unfolding stored partMarks
+partsIn s at j n t = tables (stored (elementAt s at) j 1 n (t .ats)) (t .wholes) (t .lefts) (t .lows) (stored (partMarks s at) j 1 n (t .backs))
+
+-- Those lines have slots of their own.
+pub record Parts (arg slots : List ℕ) (from n : ℕ) : Type 0 where
+  pub fits : from + n ≤ entries
+  pub slot : (j : ℕ) → getD arg j 0 < slotCount
+  pub alone : (k : ℕ) → k < n → Alone arg (from + k)
+  pub long : length (viewOf arg slots .backs) ≡ entries
+
 -- What is left to choose from at j: with nothing left the frame is no longer open.
 unfoldable pub topBy : ℕ → ℕ → List ℕ → ℕ → ℕ
 unfolding when
@@ -51,6 +71,10 @@ topBy more j lows top = when (eqb more 0) (getD lows j 0) top
 unfoldable pub nowLeft : ℕ → ℕ → List ℕ → List ℕ
 unfolding when
 nowLeft more j lefts = when (eqb more 0) lefts (set lefts j more)
+
+unfoldable pub leftIn : (more j : ℕ) → Tables → Tables
+unfolding nowLeft
+leftIn more j t = tables (t .ats) (t .wholes) (nowLeft more j (t .lefts)) (t .lows) (t .backs)
 
 -- The next longer front; 0 where the back is empty.
 unfoldable pub longerOf : ℕ → ℕ → ℕ

@@ -1,6 +1,10 @@
 // Leaves of a step: what the first atom's test says, and the choices of a cons or a join.
 pub mod tuples;
 
+use tables::slot::Numbers;
+use tables::slot::Slots;
+use tables::slot::low_at;
+use tables::slot::put_left;
 use value_places::places::wide;
 use words::ENTRIES;
 use words::marks::Parts;
@@ -14,7 +18,8 @@ ghost use mathlib.Core.Bool.{false};
 ghost use lib.IntN.{pos};
 ghost use Rattle.rules.specs.Numbers.{same};
 ghost use Rattle.words.specs.Words.{entries};
-ghost use Rattle.search_atom.specs.Leaves.{noneOf, passesOf, opensOf, longerOf, topBy, nowLeft, slotBy};
+ghost use Rattle.search_atom.specs.Leaves.{noneOf, passesOf, opensOf, longerOf, topBy, leftIn, slotBy};
+ghost use Rattle.tables.specs.Slot.{viewOf, Slotted, Alone};
 
 // Whether a word of the target is an instruction's constant.
 fn is_constant(s: &[i32], at: usize, con: &[i32; ENTRIES], pc: usize) -> bool
@@ -81,21 +86,15 @@ pub fn longer_front(c: u64, b: u64) -> u64
     p.front
 }
 
-// What is left to choose from at j: with nothing left the frame is no longer open. The last open frame then.
-pub fn leave(
-    top: usize,
-    more: u64,
-    j: usize,
-    lefts: &mut [u64; ENTRIES],
-    lows: &[u16; ENTRIES],
-) -> usize
-    requires { ⌜ j < entries ⌝ }
-    ensures { λ r. ⌜ r ≡ topBy more j (now (lows .entry)) top ⌝ ∗ ⌜ now (lefts .exit) ≡ nowLeft more j (now (lefts .entry)) ⌝ }
+// What is left to choose from at a line: with nothing left the frame is no longer open. The last open frame then.
+pub fn leave(top: usize, more: u64, pc: usize, arg: &Numbers, slots: &mut Slots) -> usize
+    requires { ⌜ Slotted (now arg) (now slots) pc ⌝ ∗ ⌜ Alone (now arg) pc ⌝ }
+    ensures { λ r. ⌜ r ≡ topBy more pc (viewOf (now (arg .entry)) (now (slots .entry)) .lows) top ⌝ ∗ ⌜ viewOf (now (arg .entry)) (now (slots .exit)) ≡ leftIn more pc (viewOf (now (arg .entry)) (now (slots .entry))) ⌝ }
 {
     if more == 0 {
-        return wide(lows[j]);
+        return low_at(slots, arg, pc);
     }
-    lefts[j] = more;
+    put_left(slots, arg, pc, more);
     top
 }
 

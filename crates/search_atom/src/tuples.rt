@@ -1,16 +1,17 @@
 // A tuple's parts: the first is next, the others wait in slots.
+use tables::slot::Held;
+use tables::slot::Numbers;
+use tables::slot::Slots;
+use tables::slot::put_held;
 use value_places::places::count_at;
 use value_places::places::element;
-use value_places::places::narrow;
 use value_places::places::whole;
-use words::ENTRIES;
 ghost use mathlib.Core.Path.{_≡_};
 ghost use Prim.Native.Nat.{_+_, _-_, _<_, _≤_};
-ghost use lib.ListN.{set};
-ghost use Rattle.words.specs.Words.{entries};
+ghost use Rattle.tables.specs.Slot.{viewOf, Slotted, Alone, putHeld};
 ghost use Rattle.value_places.specs.Places.{countAt, elementAt, Target, Tag};
 ghost use Rattle.value_places.specs.Tables.{Places};
-ghost use Rattle.search_atom.specs.Leaves.{stored, isWide, partMarks};
+ghost use Rattle.search_atom.specs.Leaves.{isWide, partHeld, partsIn, Parts};
 
 // How many parts wait at an instruction: of two to four parts, all but the first.
 pub fn later(o: u8) -> usize
@@ -30,26 +31,26 @@ pub fn is_wide(s: &[i32], at: usize, n: usize) -> bool
     (k as usize) == n + 1
 }
 
-// Part i waits in the slot j.
+// Part i waits at a line.
 fn put_part(
     s: &[i32],
     base: &[u16; 512],
     places: &[u16; 512],
     at: usize,
     i: u32,
-    j: usize,
-    ats: &mut [u16; ENTRIES],
-    backs: &mut [u64; ENTRIES],
+    pc: usize,
+    arg: &Numbers,
+    slots: &mut Slots,
 )
-    requires { ⌜ Target (now s) ⌝ ∗ ⌜ Places (now s) (now base) (now places) ⌝ ∗ ⌜ Tag (now s) at ⌝ ∗ ⌜ j < entries ⌝ ∗ ⌜ i < countAt (now s) at ⌝ }
-    ensures { λ r. ⌜ now (ats .exit) ≡ set (now (ats .entry)) j (elementAt (now (s .entry)) at i) ⌝ ∗ ⌜ now (backs .exit) ≡ set (now (backs .entry)) j (partMarks (now (s .entry)) at i) ⌝ }
+    requires { ⌜ Target (now s) ⌝ ∗ ⌜ Places (now s) (now base) (now places) ⌝ ∗ ⌜ Tag (now s) at × (i < countAt (now s) at) ⌝ ∗ ⌜ Slotted (now arg) (now slots) pc ⌝ ∗ ⌜ Alone (now arg) pc ⌝ }
+    ensures { λ r. ⌜ viewOf (now (arg .entry)) (now (slots .exit)) ≡ putHeld pc (partHeld (now (s .entry)) at i) (viewOf (now (arg .entry)) (now (slots .entry))) ⌝ }
 {
     let e = element(s, base, places, at, i);
-    ats[j] = narrow(e);
-    backs[j] = whole(s, e);
+    let m = whole(s, e);
+    put_held(slots, arg, pc, Held { at: e, marks: m });
 }
 
-// The n parts after the first, one to three, wait in the slots from one place on.
+// The n parts after the first, one to three, wait at the lines from one on.
 pub fn keep(
     s: &[i32],
     base: &[u16; 512],
@@ -57,19 +58,19 @@ pub fn keep(
     at: usize,
     from: usize,
     n: usize,
-    ats: &mut [u16; ENTRIES],
-    backs: &mut [u64; ENTRIES],
+    arg: &Numbers,
+    slots: &mut Slots,
 )
-    requires { ⌜ Target (now s) ⌝ ∗ ⌜ Places (now s) (now base) (now places) ⌝ ∗ ⌜ Tag (now s) at ⌝ ∗ ⌜ (from + n ≤ entries) × (n < countAt (now s) at) × (0 < n) × (n < 4) ⌝ }
-    ensures { λ r. ⌜ now (ats .exit) ≡ stored (elementAt (now (s .entry)) at) from 1 n (now (ats .entry)) ⌝ ∗ ⌜ now (backs .exit) ≡ stored (partMarks (now (s .entry)) at) from 1 n (now (backs .entry)) ⌝ }
+    requires { ⌜ Target (now s) ⌝ ∗ ⌜ Places (now s) (now base) (now places) ⌝ ∗ ⌜ Tag (now s) at ⌝ ∗ ⌜ (n < countAt (now s) at) × (0 < n) × (n < 4) ⌝ ∗ ⌜ Parts (now arg) (now slots) from n ⌝ }
+    ensures { λ r. ⌜ viewOf (now (arg .entry)) (now (slots .exit)) ≡ partsIn (now (s .entry)) at from n (viewOf (now (arg .entry)) (now (slots .entry))) ⌝ }
 {
-    put_part(s, base, places, at, 1, from, ats, backs);
+    put_part(s, base, places, at, 1, from, arg, slots);
     if n < 2 {
         return;
     }
-    put_part(s, base, places, at, 2, from + 1, ats, backs);
+    put_part(s, base, places, at, 2, from + 1, arg, slots);
     if n < 3 {
         return;
     }
-    put_part(s, base, places, at, 3, from + 2, ats, backs);
+    put_part(s, base, places, at, 3, from + 2, arg, slots);
 }

@@ -2,17 +2,18 @@
 use Prim.Native.Nat.{ℕ, _+_, _-_, _^_, _≤_, _<_}
 use mathlib.Core.Path.{_≡_}
 use mathlib.Core.List.{List}
-use lib.ListN.{getD, set}
+use lib.ListN.{length, getD, set}
 use lib.Dec.{eqb, ltb}
 use lib.Count.{trailingZeros}
 use lib.IntN.{ℤ}
 use Rattle.words.specs.Words.{entries}
 use Rattle.words.specs.Marks.{clear}
+use Rattle.tables.specs.Slot.{slotCount, Tables, tables, viewOf, Alone}
 use Rattle.value_places.specs.Places.{Tag, marksAt, elementAt}
 use Rattle.value_places.specs.Held.{Held, wholeAt}
 use Rattle.search_atom.specs.Leaves.{when, nowLeft, longerOf, slotBy}
 use Rattle.search_step.specs.declared.State.{State}
-use Rattle.search_step.specs.Steps.{Tables, Turned, tables, turned, moved, lived, topped}
+use Rattle.search_step.specs.Steps.{Turned, turned, moved, lived, topped}
 
 unfoldable pub topLeft : ℕ → ℕ → List ℕ → State → State
 unfolding when topped
@@ -80,14 +81,12 @@ pub record Conses (s : List ℤ) (ats lefts : List ℕ) (j : ℕ) : Type 0 where
   pub some : 0 < getD lefts j 0
   pub there : getD lefts j 0 < 2 ^ marksAt s (getD ats j 0)
 
--- The slot that the line at j names is there.
-pub record Resumes (from : List ℕ) (j : ℕ) : Type 0 where
-  pub place : j < entries
-  pub next : getD from j 0 < entries
-
--- Every slot that a line names is there.
-pub record Slots (from : List ℕ) : Type 0 where
+-- Every line that a line names is there, and every slot; a line that divides has a slot of its own.
+pub record Named (op from arg slots : List ℕ) : Type 0 where
   pub there : (i : ℕ) → i < entries → getD from i 0 < entries
+  pub slot : (j : ℕ) → getD arg j 0 < slotCount
+  pub alone : (i : ℕ) → i < entries → 7 < getD op i 0 → getD op i 0 < 17 → Alone arg i
+  pub long : length (viewOf arg slots .backs) ≡ entries
 
 -- A frame at j from which the next choice can be taken: its instruction o is a cons or a join, it holds (at, m), and the choices left are c; or it is an
 -- or or a not, whose value waits.

@@ -2,60 +2,106 @@
 use mathlib.Core.Path.{_≡_, refl, sym, _∙_, ap}
 use mathlib.Core.Bool.{Bool, true, false}
 use mathlib.Core.List.{List}
-use Prim.Native.Nat.{ℕ, _+_, _-_, _<_, _≤_}
+use Prim.Native.Nat.{ℕ, _+_, _-_, _^_, _<_, _≤_}
 use native.Mathlib.Omega.{arith}
 use borrow.Author.Needs.{needs}
 use borrow.Author.Tests.{eqb-true}
-use lib.ListN.{getD, set}
+use lib.ListN.{length, getD, set}
 use lib.IntN.{ℤ}
+use lib.Count.{trailingZeros}
+use lib.Pow.{pow-mono}
 use Rattle.words.specs.Words.{entries}
-use Rattle.value_places.specs.Places.{Target, Tag, countAt, elementAt}
-use Rattle.value_places.specs.Held.{wholeAt}
+use Rattle.words.specs.Marks.{clear}
+use Rattle.words.proofs.marks.Places.{low-digit, digit-below}
+use Rattle.tables.specs.declared.slot.Held as slots
+use Rattle.tables.specs.declared.slot.Frame.{Frame}
+use Rattle.tables.specs.Slot.{slotCount, Tables, tables, viewOf, Slotted, Alone, heldIn, putHeld, putFrame, putSide, putBack}
+use Rattle.value_places.specs.Places.{Target, Tag, countAt, marksAt, elementAt}
+use Rattle.value_places.specs.Held.{Held, wholeAt}
 use Rattle.value_places.proofs.Elements.{element-tag}
-use Rattle.search_atom.specs.Leaves.{when, noneOf, opensOf, stored, isWide, partMarks}
+use Rattle.value_places.proofs.Held.{marks-count}
+use Rattle.search_atom.specs.Leaves.{when, noneOf, opensOf, isWide, partMarks, partsIn, Parts}
 use Rattle.search_atom.proofs.Laws.{when-eq, when-ne, when-lt, when-le, when-true, when-false, flag-false}
 use Rattle.search_step.specs.declared.State.{State}
-use Rattle.search_step.specs.Steps.{Tables, tables, turned, counted, moved, lived, topped, dropped, pushed, pushedIn, splitOf}
-use Rattle.search_step.specs.Steps.{apartAt, apartAts, apartBacks, apartOf, keptAt, keptIn, framedAt, framedIn, cutTo, sidesOf, divideOf, Steps, Divides, Aparts, Sides}
+use Rattle.search_step.specs.Steps.{turned, counted, moved, lived, topped, dropped, pushed, pushedIn, splitOf, headOf, headBy, headIn}
+use Rattle.search_step.specs.Steps.{apartAt, apartAts, apartBacks, apartOf, keptAt, keptIn, framedAt, framedIn, cutTo, sidesOf, divideOf, Owns, Steps, Divides, Aparts, Sides}
 
 pub turned-at : (r r′ : State) (t : Tables) → r ≡ r′ → turned r t ≡ turned r′ t
 turned-at r r′ t e = ap (λ x. turned x t) e
 
 pub ruleset cases = (when-eq, when-ne, when-lt, when-le, when-true, when-false, flag-false, turned-at, needs)
 
+-- ---- Slots.
+
+module _ (o : ℕ) (arg slots : List ℕ) (pc : ℕ) (w : Owns o arg slots pc) where
+  pub own-slot : (i : ℕ) → i < entries → Slotted arg slots i
+  own-slot i h = record { place = h; slot = w .slot i; long = w .long }
+
+  pub own-parts : (n : ℕ) → n ≡ o - 10 → 10 < o → o < 14 → Parts arg slots pc n
+  own-parts n e h k = let f = w .fits h k in record { fits = omega arith; slot = w .slot; alone = λ i l. w .parts h k i (omega arith); long = w .long }
+
 -- ---- The state.
 
-pub slot-in : (f : ℕ) (from : List ℕ) (i : ℕ) → f ≡ getD from i 0 → getD from i 0 < entries → f < entries
-slot-in f from i e h = rw e h
+pub slot-in : (f : ℕ) (from : List ℕ) (i : ℕ) (arg t : List ℕ) → f ≡ getD from i 0 → Slotted arg t (getD from i 0) → Slotted arg t f
+slot-in f from i arg t e h = rw e h
 
-pub drop-is : (x : State) (from to ats backs : List ℕ) (f n p : ℕ) → f ≡ getD from (x .pc) 0 → n ≡ getD to (x .pc) 0 → p ≡ getD ats f 0
-    → moved x n p (getD backs f 0) ≡ dropped from to ats backs x
-unfolding dropped
-drop-is x from to ats backs f n p e g h = rw (h, g, e)
+pub drop-is : (x : State) (from to : List ℕ) (t : Tables) (f n : ℕ) (h : slots.Held) → f ≡ getD from (x .pc) 0 → n ≡ getD to (x .pc) 0 → h ≡ heldIn t f
+    → moved x n (h .at) (h .marks) ≡ dropped from to (t .ats) (t .backs) x
+unfolding dropped heldIn
+drop-is x from to t f n h e g i = rw (i, g, e)
 
 pub ruleset drop-rules = (slot-in, drop-is, needs)
 
-pub set-at : (l : List ℕ) (i x y : ℕ) → x ≡ y → set l i x ≡ set l i y
-set-at l i x y e = rw e
+pub push-is : (c : ℕ) (x : State) (t u : Tables) → u ≡ putFrame (x .pc) (record { at = x .at; whole = x .marks; left = c }) (x .top) t → u ≡ pushedIn c x t
+unfolding putFrame pushedIn
+push-is c x t u e = e
 
-pub top-small : (n : ℕ) → n ≤ entries → n < 65536
-top-small n h = omega arith
+pub ruleset push-rules = (push-is, needs)
 
-pub ruleset push-rules = (set-at, top-small, needs)
-
-push-is : (r : State) (c : ℕ) (x : State) (p w e l b p′ w′ e′ l′ : List ℕ) → r ≡ pushed x → p′ ≡ set p (x .pc) (x .at) → w′ ≡ set w (x .pc) (x .marks)
-    → e′ ≡ set e (x .pc) c → l′ ≡ set l (x .pc) (x .top) → turned r (tables p′ w′ e′ l′ b) ≡ turned (pushed x) (pushedIn c x (tables p w e l b))
-unfolding pushedIn
-push-is r c x p w e l b p′ w′ e′ l′ q₀ q₁ q₂ q₃ q₄ = cc
-
-pub split-is : (b : Bool) (r : State) (o c : ℕ) (x : State) (p w e l k p′ w′ e′ l′ : List ℕ) → b ≡ noneOf o (x .marks) → b ≡ false → c ≡ opensOf o (x .marks)
-    → r ≡ pushed x → p′ ≡ set p (x .pc) (x .at) → w′ ≡ set w (x .pc) (x .marks) → e′ ≡ set e (x .pc) c → l′ ≡ set l (x .pc) (x .top)
-    → turned r (tables p′ w′ e′ l′ k) ≡ splitOf o x (tables p w e l k)
+pub split-is : (b : Bool) (r : State) (o c : ℕ) (x : State) (t u : Tables) → b ≡ noneOf o (x .marks) → b ≡ false → c ≡ opensOf o (x .marks)
+    → r ≡ pushed x → u ≡ pushedIn c x t → turned r u ≡ splitOf o x t
 unfolding splitOf
-split-is b r o c x p w e l k p′ w′ e′ l′ h f q q₀ q₁ q₂ q₃ q₄ =
-    when-false _ _ _ b (noneOf o (x .marks)) h f (rw (← q) (push-is r c x p w e l k p′ w′ e′ l′ q₀ q₁ q₂ q₃ q₄))
+split-is b r o c x t u h f q a e = when-false _ _ _ b (noneOf o (x .marks)) h f (rw (← q) (rw (a, e)))
 
 pub ruleset split-rules = (split-is, cases)
+
+-- ---- A list's cons.
+
+-- The lowest of the choices left is an element that there is.
+pub low-there : (n c : ℕ) → n ≤ 64 → 0 < c → c < 2 ^ n → trailingZeros 64 c < n
+low-there n c l h k = digit-below (trailingZeros 64 c) n c (low-digit 64 c h (let p = pow-mono l in omega arith)) k
+
+module _ (s : List ℤ) (at m k : ℕ) (g : Target s) (h : Held s at m) (n : m ≡ 0 → ⊥) (e : k ≡ trailingZeros 64 m) where
+  pub head-there : k < countAt s at
+  head-there =
+      let p = marks-count s at in
+      let q = low-there (marksAt s at) m (omega (arith, g .small at (h .tag))) (omega arith) (h .marks) in
+      omega arith
+
+  pub head-64 : k < 64
+  head-64 = let a = head-there in let l = g .small at (h .tag) in omega arith
+
+  pub head-tag : (i : ℕ) → i ≡ elementAt s at k → Tag s i
+  head-tag i q = rw q (element-tag s at k g (h .tag) head-there)
+
+pub head-some : (m : ℕ) → (m ≡ 0 → ⊥) → 0 < m
+head-some m n = omega arith
+
+pub long-frame : (arg t u : List ℕ) (pc : ℕ) (f : Frame) (low : ℕ) → Slotted arg t pc → viewOf arg u ≡ putFrame pc f low (viewOf arg t) → Slotted arg u pc
+unfolding putFrame
+long-frame arg t u pc f low h e = record { place = h .place; slot = h .slot; long = ap (λ (v : Tables). length (v .backs)) e ∙ h .long }
+
+pub head-none : (s : List ℤ) (x : State) (t : Tables) → x .marks ≡ 0 → turned (lived x 2) t ≡ headOf s x t
+unfolding headOf
+head-none s x t z = when-eq _ _ _ (x .marks) 0 z refl
+
+pub head-is : (s : List ℤ) (x : State) (t u v : Tables) (k c b e m : ℕ) → (x .marks ≡ 0 → ⊥) → k ≡ trailingZeros 64 (x .marks) → c ≡ 2 ^ k
+    → u ≡ putFrame (x .pc) (record { at = x .at; whole = x .marks; left = c }) (x .top) t → b ≡ clear (trailingZeros 64 (x .marks)) (x .marks)
+    → v ≡ putBack (x .pc) b u → e ≡ elementAt s (x .at) k → m ≡ wholeAt s e → turned (moved x (x .pc + 1) e m) v ≡ headOf s x t
+unfolding headOf headBy headIn putFrame putBack
+head-is s x t u v k c b e m n a d f g i j w = when-ne _ _ _ (x .marks) 0 n (rw (w, j, i, g, f, d, a))
+
+pub ruleset head-rules = (head-there, head-64, head-tag, head-some, long-frame, head-none, head-is, needs)
 
 -- ---- A tuple's parts.
 
@@ -86,35 +132,38 @@ module _ (s : List ℤ) (n k : ℕ) (x : State) (b : Bool) (h : b ≡ isWide s (
   same-wide : b ≡ isWide s (x .at) k
   same-wide = h ∙ ap (isWide s (x .at)) q
 
-  pub apart-at : (e m : ℕ) → b ≡ true → e ≡ elementAt s (x .at) 0 → m ≡ wholeAt s e → moved x (x .pc + n) e m ≡ apartAt s k x
-  unfolding apartAt partMarks
-  apart-at e m t i j = when-true _ _ _ b (isWide s (x .at) k) same-wide t (rw (j, i, q))
+  apart-some : isWide s (x .at) k ≡ true → (e m : ℕ) (t u : Tables) → e ≡ elementAt s (x .at) 0 → m ≡ wholeAt s e → u ≡ partsIn s (x .at) (x .pc) n t
+      → turned (moved x (x .pc + n) e m) u ≡ apartOf s k x t
+  unfolding apartOf apartAt apartAts apartBacks partMarks partsIn when
+  apart-some y e m t u i j p = rw (y, p, j, i, q)
 
-  pub apart-ats : (l old : List ℕ) → b ≡ true → l ≡ stored (elementAt s (x .at)) (x .pc) 1 n old → l ≡ apartAts s k x old
-  unfolding apartAts
-  apart-ats l old t e = when-true _ _ _ b (isWide s (x .at) k) same-wide t (rw q at e)
+  pub apart-is : (e m : ℕ) (t u : Tables) → b ≡ true → e ≡ elementAt s (x .at) 0 → m ≡ wholeAt s e → u ≡ partsIn s (x .at) (x .pc) n t
+      → turned (moved x (x .pc + n) e m) u ≡ apartOf s k x t
+  apart-is e m t u z = apart-some (sym same-wide ∙ z) e m t u
 
-  pub apart-backs : (l old : List ℕ) → b ≡ true → l ≡ stored (partMarks s (x .at)) (x .pc) 1 n old → l ≡ apartBacks s k x old
-  unfolding apartBacks
-  apart-backs l old t e = when-true _ _ _ b (isWide s (x .at) k) same-wide t (rw q at e)
+  pub apart-none : (t : Tables) → b ≡ false → turned (lived x 2) t ≡ apartOf s k x t
+  unfolding apartOf apartAt apartAts apartBacks when
+  apart-none t z = let y : isWide s (x .at) k ≡ false = sym same-wide ∙ z in rw y
 
-  pub apart-none : b ≡ false → lived x 2 ≡ apartAt s k x
-  unfolding apartAt
-  apart-none t = when-false _ _ _ b (isWide s (x .at) k) same-wide t refl
+pub apart-parts : (s : List ℤ) (o n : ℕ) (arg t : List ℕ) (x : State) → Aparts s o arg t x → n ≡ o - 10 → Parts arg t (x .pc) n
+apart-parts s o n arg t x a e = own-parts o arg t (x .pc) (a .owns) n e (a .tuple) (a .few)
 
-  pub apart-ats-none : (old : List ℕ) → b ≡ false → old ≡ apartAts s k x old
-  unfolding apartAts
-  apart-ats-none old t = when-false _ _ _ b (isWide s (x .at) k) same-wide t refl
+pub apart-place : (s : List ℤ) (o n : ℕ) (arg t : List ℕ) (x : State) → Aparts s o arg t x → n ≡ o - 10 → x .pc + n < 2 ^ 64
+apart-place s o n arg t x a e = let f = a .owns .fits (a .tuple) (a .few) in omega arith
 
-  pub apart-backs-none : (old : List ℕ) → b ≡ false → old ≡ apartBacks s k x old
-  unfolding apartBacks
-  apart-backs-none old t = when-false _ _ _ b (isWide s (x .at) k) same-wide t refl
-
-pub ruleset apart-rules = (few-wait, some-wait, three-wait, wide-some, wide-keeps, wide-first, apart-at, apart-ats, apart-backs, apart-none, apart-ats-none, apart-backs-none, needs)
+pub ruleset apart-rules = (few-wait, some-wait, three-wait, wide-some, wide-keeps, wide-first, apart-is, apart-none, apart-parts, apart-place, needs)
 
 -- ---- And, or, not.
 
-pub ruleset both-rules = (set-at, needs)
+pub both-is : (x : State) (t u : Tables) → u ≡ putHeld (x .pc) (record { at = x .at; marks = x .marks }) t → u ≡ keptIn x t
+unfolding putHeld keptIn
+both-is x t u e = e
+
+pub frame-is : (x : State) (t u : Tables) → u ≡ putSide (x .pc) (record { at = x .at; marks = x .marks }) (x .top) t → u ≡ framedIn x t
+unfolding putSide framedIn
+frame-is x t u e = e
+
+pub ruleset both-rules = (both-is, frame-is, needs)
 
 pub cut-is : (x : State) (from lows : List ℕ) (j n : ℕ) → j ≡ getD from (x .pc) 0 → n ≡ getD lows j 0 → lived (topped x n) 2 ≡ cutTo from lows x
 unfolding cutTo lived topped
@@ -122,53 +171,78 @@ cut-is x from lows j n e h = rw (h, e)
 
 pub ruleset cut-rules = (slot-in, cut-is, needs)
 
-module _ (o : ℕ) (from : List ℕ) (x : State) (p w e l k : List ℕ) where
-  pub sides-both : (r : State) (p′ k′ : List ℕ) → o ≡ 14 → r ≡ keptAt x → p′ ≡ set p (x .pc) (x .at) → k′ ≡ set k (x .pc) (x .marks)
-      → turned r (tables p′ w e l k′) ≡ sidesOf o from x (tables p w e l k)
-  unfolding sidesOf keptIn
-  sides-both r p′ k′ z a b c = when-eq _ _ _ o 14 z (rw (a, b, c))
-
-  pub sides-frame : (r : State) (p′ l′ k′ : List ℕ) → (o ≡ 14 → ⊥) → o < 17 → r ≡ framedAt x → p′ ≡ set p (x .pc) (x .at) → l′ ≡ set l (x .pc) (x .top)
-      → k′ ≡ set k (x .pc) (x .marks) → turned r (tables p′ w e l′ k′) ≡ sidesOf o from x (tables p w e l k)
-  unfolding sidesOf framedIn
-  sides-frame r p′ l′ k′ n h a b c d = when-ne _ _ _ o 14 n (when-lt _ _ _ o 17 h (rw (a, b, c, d)))
-
-  pub sides-cut : (r : State) → (o ≡ 14 → ⊥) → 17 ≤ o → o ≡ 17 → r ≡ cutTo from l x → turned r (tables p w e l k) ≡ sidesOf o from x (tables p w e l k)
+module _ (o : ℕ) (from : List ℕ) (x r : State) (t u : Tables) where
+  pub sides-both : o ≡ 14 → r ≡ keptAt x → u ≡ keptIn x t → turned r u ≡ sidesOf o from x t
   unfolding sidesOf
-  sides-cut r n h z a = when-ne _ _ _ o 14 n (when-le _ _ _ o 17 h (when-eq _ _ _ o 17 z (rw a)))
+  sides-both z a b = when-eq _ _ _ o 14 z (rw (a, b))
 
-  pub sides-none : (o ≡ 14 → ⊥) → 17 ≤ o → (o ≡ 17 → ⊥) → turned (lived x 2) (tables p w e l k) ≡ sidesOf o from x (tables p w e l k)
+  pub sides-frame : (o ≡ 14 → ⊥) → o < 17 → r ≡ framedAt x → u ≡ framedIn x t → turned r u ≡ sidesOf o from x t
+  unfolding sidesOf
+  sides-frame n h a b = when-ne _ _ _ o 14 n (when-lt _ _ _ o 17 h (rw (a, b)))
+
+  pub sides-cut : (o ≡ 14 → ⊥) → 17 ≤ o → o ≡ 17 → r ≡ cutTo from (t .lows) x → turned r t ≡ sidesOf o from x t
+  unfolding sidesOf
+  sides-cut n h z a = when-ne _ _ _ o 14 n (when-le _ _ _ o 17 h (when-eq _ _ _ o 17 z (rw a)))
+
+  pub sides-none : (o ≡ 14 → ⊥) → 17 ≤ o → (o ≡ 17 → ⊥) → turned (lived x 2) t ≡ sidesOf o from x t
   unfolding sidesOf
   sides-none n h z = when-ne _ _ _ o 14 n (when-le _ _ _ o 17 h (when-ne _ _ _ o 17 z refl))
 
-pub ruleset sides-rules = (sides-both, sides-frame, sides-cut, sides-none, needs)
+module _ (o : ℕ) (from arg slots : List ℕ) (x : State) (a : Sides o from arg slots x) where
+  pub sides-slot : Slotted arg slots (x .pc)
+  sides-slot = own-slot o arg slots (x .pc) (a .owns) (x .pc) (a .place)
+
+  pub sides-next : Slotted arg slots (getD from (x .pc) 0)
+  sides-next = own-slot o arg slots (x .pc) (a .owns) (getD from (x .pc) 0) (a .next)
+
+  pub sides-14 : o ≡ 14 → Alone arg (x .pc)
+  sides-14 e = a .owns .alone (omega arith) (omega arith)
+
+  pub sides-17 : o < 17 → Alone arg (x .pc)
+  sides-17 h = let k = a .above in a .owns .alone (omega arith) h
+
+pub ruleset sides-rules = (sides-both, sides-frame, sides-cut, sides-none, sides-slot, sides-next, sides-14, sides-17, needs)
 
 -- ---- A cons, a join, a tuple; and, or, not.
 
-pub divide-apart : (s : List ℤ) (o : ℕ) (from : List ℕ) (x r : State) (p w e l k p′ k′ : List ℕ) → 10 < o → o < 14 → r ≡ apartAt s (o - 10) x
-    → p′ ≡ apartAts s (o - 10) x p → k′ ≡ apartBacks s (o - 10) x k → turned r (tables p′ w e l k′) ≡ divideOf s o from x (tables p w e l k)
-unfolding divideOf apartOf
-divide-apart s o from x r p w e l k p′ k′ h g a b c = when-lt _ _ _ 10 o h (when-lt _ _ _ o 14 g (rw (a, b, c)))
+module _ (s : List ℤ) (o : ℕ) (from : List ℕ) (x r : State) (t u : Tables) where
+  pub divide-apart : 10 < o → o < 14 → turned r u ≡ apartOf s (o - 10) x t → turned r u ≡ divideOf s o from x t
+  unfolding divideOf
+  divide-apart h g e = when-lt _ _ _ 10 o h (when-lt _ _ _ o 14 g e)
 
-pub divide-sides : (s : List ℤ) (o : ℕ) (from : List ℕ) (x r : State) (t u : Tables) → 10 < o → 14 ≤ o → turned r u ≡ sidesOf o from x t
-    → turned r u ≡ divideOf s o from x t
-unfolding divideOf
-divide-sides s o from x r t u h g e = when-lt _ _ _ 10 o h (when-le _ _ _ o 14 g e)
+  pub divide-sides : 10 < o → 14 ≤ o → turned r u ≡ sidesOf o from x t → turned r u ≡ divideOf s o from x t
+  unfolding divideOf
+  divide-sides h g e = when-lt _ _ _ 10 o h (when-le _ _ _ o 14 g e)
 
-pub divide-split : (s : List ℤ) (o : ℕ) (from : List ℕ) (x r : State) (t u : Tables) → o ≤ 10 → turned r u ≡ splitOf o x t → turned r u ≡ divideOf s o from x t
-unfolding divideOf
-divide-split s o from x r t u h e = when-le _ _ _ 10 o h e
+  pub divide-head : o ≤ 10 → o ≡ 8 → turned r u ≡ headOf s x t → turned r u ≡ divideOf s o from x t
+  unfolding divideOf
+  divide-head h z e = when-le _ _ _ 10 o h (when-eq _ _ _ o 8 z e)
 
-pub apart-asks : (s : List ℤ) (o : ℕ) (from : List ℕ) (x : State) → Divides s o from x → 10 < o → o < 14 → Aparts s o x
-apart-asks s o from x d h g = record { tuple = h; few = g; tag = d .tag; place = d .parts h g }
+  pub divide-split : o ≤ 10 → (o ≡ 8 → ⊥) → turned r u ≡ splitOf o x t → turned r u ≡ divideOf s o from x t
+  unfolding divideOf
+  divide-split h n e = when-le _ _ _ 10 o h (when-ne _ _ _ o 8 n e)
 
-pub sides-asks : (s : List ℤ) (o : ℕ) (from : List ℕ) (x : State) → Divides s o from x → Sides from x
-sides-asks s o from x d = record { place = d .place; next = d .next; small = d .small; frame = d .frame }
+module _ (s : List ℤ) (o : ℕ) (from arg slots : List ℕ) (x : State) (d : Divides s o from arg slots x) where
+  pub apart-asks : 10 < o → o < 14 → Aparts s o arg slots x
+  apart-asks h g = record { tuple = h; few = g; tag = d .held .tag; owns = d .owns }
 
-pub ruleset divide-rules = (divide-apart, divide-sides, divide-split, apart-asks, sides-asks, cases)
+  pub sides-asks : 14 ≤ o → Sides o from arg slots x
+  sides-asks h = record { above = omega arith; place = d .place; next = d .next; owns = d .owns }
 
-pub step-divides : (s : List ℤ) (op from : List ℕ) (x : State) → Steps s op from x → Divides s (getD op (x .pc) 0) from (counted x)
-unfolding counted
-step-divides s op from x h = record { place = h .place; next = h .next; tag = h .tag; small = h .small; frame = h .frame; parts = h .parts }
+  pub divide-slot : Slotted arg slots (x .pc)
+  divide-slot = own-slot o arg slots (x .pc) (d .owns) (x .pc) (d .place)
 
-pub ruleset step-rules = (step-divides, cases)
+  pub divide-alone : o ≤ 10 → Alone arg (x .pc)
+  divide-alone h = d .owns .alone (d .above) (omega arith)
+
+pub ruleset divide-rules = (divide-apart, divide-sides, divide-head, divide-split, apart-asks, sides-asks, divide-slot, divide-alone, cases)
+
+module _ (s : List ℤ) (op from arg slots : List ℕ) (x : State) (h : Steps s op from arg slots x) where
+  pub step-divides : 7 < getD op (x .pc) 0 → Divides s (getD op (x .pc) 0) from arg slots (counted x)
+  unfolding counted
+  step-divides l = record { above = l; place = h .place; next = h .next; held = h .held; owns = h .owns }
+
+  pub step-next : Slotted arg slots (getD from (x .pc) 0)
+  step-next = own-slot (getD op (x .pc) 0) arg slots (x .pc) (h .owns) (getD from (x .pc) 0) (h .next)
+
+pub ruleset step-rules = (step-divides, step-next, cases)

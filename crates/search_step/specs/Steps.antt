@@ -1,30 +1,23 @@
 -- Document 01, section 4, on numbers and lists as the code goes about it: a step.
-use Prim.Native.Nat.{ℕ, _+_, _-_, _^_, _≤_, _<_}
+use Prim.Native.Nat.{ℕ, _+_, _-_, _^_, _<_}
+use mathlib.Core.Path.{_≡_}
 use mathlib.Core.Bool.{Bool}
 use mathlib.Core.List.{List}
 use lib.ListN.{length, getD, set}
 use lib.Dec.{eqb, ltb}
+use lib.Count.{trailingZeros}
 use lib.IntN.{ℤ, pos}
 use Rattle.words.specs.Words.{entries}
+use Rattle.words.specs.Marks.{clear}
+use Rattle.tables.specs.Slot.{slotCount, Tables, tables, viewOf, Alone}
 use Rattle.value_places.specs.Places.{Tag, elementAt}
+use Rattle.value_places.specs.Held.{Held, wholeAt}
 use Rattle.search_atom.specs.Leaves.{when, passesOf, opensOf, noneOf, stored, isWide, partMarks}
 use Rattle.search_step.specs.declared.State.{State}
-
--- The slots, an entry for each instruction: the place of the value divided there and its marks, the choices left, the open frame before it
--- (0: none, j + 1: at j), and the marks that wait for the second part.
-pub record Tables : Type 0 where
-  pub ats : List ℕ
-  pub wholes : List ℕ
-  pub lefts : List ℕ
-  pub lows : List ℕ
-  pub backs : List ℕ
 
 pub record Turned : Type 0 where
   pub state : State
   pub tables : Tables
-
-abbrev pub tables : List ℕ → List ℕ → List ℕ → List ℕ → List ℕ → Tables
-tables a w c l b = record { ats = a; wholes = w; lefts = c; lows = l; backs = b }
 
 abbrev pub turned : State → Tables → Turned
 turned x t = record { state = x; tables = t }
@@ -62,6 +55,20 @@ pushedIn c x t =
 unfoldable pub splitOf : ℕ → State → Tables → Turned
 unfolding when pushed pushedIn lived opensOf noneOf
 splitOf o x t = when (noneOf o (x .marks)) (turned (lived x 2) t) (turned (pushed x) (pushedIn (opensOf o (x .marks)) x t))
+
+-- A list's cons: its one choice is taken at once.
+unfoldable pub headIn : State → Tables → Tables
+headIn x t =
+    tables (set (t .ats) (x .pc) (x .at)) (set (t .wholes) (x .pc) (x .marks)) (set (t .lefts) (x .pc) (2 ^ trailingZeros 64 (x .marks)))
+    (set (t .lows) (x .pc) (x .top)) (set (t .backs) (x .pc) (clear (trailingZeros 64 (x .marks)) (x .marks)))
+
+unfoldable pub headBy : List ℤ → (place : ℕ) → State → Tables → Turned
+unfolding moved headIn
+headBy s e x t = turned (moved x (x .pc + 1) e (wholeAt s e)) (headIn x t)
+
+unfoldable pub headOf : List ℤ → State → Tables → Turned
+unfolding when lived headBy
+headOf s x t = when (eqb (x .marks) 0) (turned (lived x 2) t) (headBy s (elementAt s (x .at) (trailingZeros 64 (x .marks))) x t)
 
 -- The first part is next, after the places that are reserved; the others wait in the slots from pc on.
 unfoldable pub apartAt : List ℤ → ℕ → State → State
@@ -109,8 +116,9 @@ sidesOf o from x t =
 
 -- 11 to 13: a tuple of two to four parts, of which one to three wait.
 unfoldable pub divideOf : List ℤ → (o : ℕ) → (from : List ℕ) → State → Tables → Turned
-unfolding when apartOf sidesOf splitOf
-divideOf s o from x t = when (ltb 10 o) (when (ltb o 14) (apartOf s (o - 10) x t) (sidesOf o from x t)) (splitOf o x t)
+unfolding when apartOf sidesOf headOf splitOf
+divideOf s o from x t =
+    when (ltb 10 o) (when (ltb o 14) (apartOf s (o - 10) x t) (sidesOf o from x t)) (when (eqb o 8) (headOf s x t) (splitOf o x t))
 
 unfoldable pub stepBy : (o : ℕ) → (from to : List ℕ) → List ℤ → List ℤ → Bool → State → Tables → Turned
 unfolding when moved divideOf passesOf dropped lived
@@ -125,35 +133,39 @@ stepOf op from to con s q x t = stepBy (getD op (x .pc) 0) from to con s q (coun
 
 -- ---- What a step asks.
 
--- The instruction's slot, and the next value's, are there, and those of a tuple's parts; the step can be counted; the value's tag has a word after it,
--- and its place fits a slot.
-pub record Steps (s : List ℤ) (op from : List ℕ) (x : State) : Type 0 where
+-- The slots of the line at pc, whose instruction is o: a line that divides has one of its own, a tuple's parts that wait have one each.
+pub record Owns (o : ℕ) (arg slots : List ℕ) (pc : ℕ) : Type 0 where
+  pub slot : (j : ℕ) → getD arg j 0 < slotCount
+  pub long : length (viewOf arg slots .backs) ≡ entries
+  pub alone : 7 < o → o < 17 → Alone arg pc
+  pub fits : 10 < o → o < 14 → pc + (o - 10) < entries
+  pub parts : 10 < o → o < 14 → (k : ℕ) → k < o - 10 → Alone arg (pc + k)
+
+-- The line is there, and that of the next value; the step can be counted; the value's tag has a word after it.
+pub record Steps (s : List ℤ) (op from arg slots : List ℕ) (x : State) : Type 0 where
   pub place : x .pc < entries
   pub next : getD from (x .pc) 0 < entries
-  pub tag : Tag s (x .at)
+  pub held : Held s (x .at) (x .marks)
   pub word : x .at + 1 < length s
-  pub small : x .at < 65536
-  pub frame : x .top ≤ entries
   pub count : x .steps + 1 < 2 ^ 64
-  pub parts : 10 < getD op (x .pc) 0 → getD op (x .pc) 0 < 14 → x .pc + (getD op (x .pc) 0 - 10) < entries
+  pub owns : Owns (getD op (x .pc) 0) arg slots (x .pc)
 
 -- The same of an instruction o that divides, of a tuple's, and of and, or, not.
-pub record Divides (s : List ℤ) (o : ℕ) (from : List ℕ) (x : State) : Type 0 where
+pub record Divides (s : List ℤ) (o : ℕ) (from arg slots : List ℕ) (x : State) : Type 0 where
+  pub above : 7 < o
   pub place : x .pc < entries
   pub next : getD from (x .pc) 0 < entries
-  pub tag : Tag s (x .at)
-  pub small : x .at < 65536
-  pub frame : x .top ≤ entries
-  pub parts : 10 < o → o < 14 → x .pc + (o - 10) < entries
+  pub held : Held s (x .at) (x .marks)
+  pub owns : Owns o arg slots (x .pc)
 
-pub record Aparts (s : List ℤ) (o : ℕ) (x : State) : Type 0 where
+pub record Aparts (s : List ℤ) (o : ℕ) (arg slots : List ℕ) (x : State) : Type 0 where
   pub tuple : 10 < o
   pub few : o < 14
   pub tag : Tag s (x .at)
-  pub place : x .pc + (o - 10) < entries
+  pub owns : Owns o arg slots (x .pc)
 
-pub record Sides (from : List ℕ) (x : State) : Type 0 where
+pub record Sides (o : ℕ) (from arg slots : List ℕ) (x : State) : Type 0 where
+  pub above : 13 < o
   pub place : x .pc < entries
   pub next : getD from (x .pc) 0 < entries
-  pub small : x .at < 65536
-  pub frame : x .top ≤ entries
+  pub owns : Owns o arg slots (x .pc)

@@ -1,45 +1,49 @@
 // And, or, not: a value that waits for both, a frame for the second side or for what follows the not, and the end of the search inside a not.
 use super::State;
-use value_places::places::narrow;
+use tables::slot::Held;
+use tables::slot::Numbers;
+use tables::slot::Slots;
+use tables::slot::low_at;
+use tables::slot::put_held;
+use tables::slot::put_side;
 use value_places::places::wide;
 use words::ENTRIES;
 ghost use mathlib.Core.Path.{_≡_};
-ghost use Prim.Native.Nat.{_<_, _≤_};
-ghost use lib.ListN.{getD, set};
+ghost use Prim.Native.Nat.{_<_};
+ghost use lib.ListN.{getD};
 ghost use Rattle.words.specs.Words.{entries};
-ghost use Rattle.search_step.specs.Steps.{tables, turned, keptAt, framedAt, cutTo, sidesOf, Sides};
+ghost use Rattle.tables.specs.Slot.{viewOf, Slotted, Alone};
+ghost use Rattle.search_step.specs.Steps.{turned, keptAt, keptIn, framedAt, framedIn, cutTo, sidesOf, Sides};
 
 impl State {
     // And: the value waits for the second part; the first is next, on the same value.
-    fn both(mut self, ats: &mut [u16; ENTRIES], backs: &mut [u64; ENTRIES]) -> State
-        requires { ⌜ self .pc < entries ⌝ ∗ ⌜ self .at < 65536 ⌝ }
-        ensures { λ r. ⌜ r ≡ keptAt self ⌝ ∗ ⌜ now (ats .exit) ≡ set (now (ats .entry)) (self .pc) (self .at) ⌝ ∗ ⌜ now (backs .exit) ≡ set (now (backs .entry)) (self .pc) (self .marks) ⌝ }
+    fn both(mut self, arg: &Numbers, slots: &mut Slots) -> State
+        requires { ⌜ Slotted (now arg) (now slots) (self .pc) ⌝ ∗ ⌜ Alone (now arg) (self .pc) ⌝ }
+        ensures { λ r. ⌜ r ≡ keptAt self ⌝ ∗ ⌜ (viewOf (now (arg .entry)) (now (slots .exit))) ≡ keptIn self (viewOf (now (arg .entry)) (now (slots .entry))) ⌝ }
     {
         let pc = self.pc;
-        let at = self.at;
-        ats[pc] = narrow(at);
-        backs[pc] = self.marks;
+        let h = Held {
+            at: self.at,
+            marks: self.marks,
+        };
+        put_held(slots, arg, pc, h);
         self.pc = pc + 1;
         self.live = 1;
         self
     }
 
     // Or, not: a frame is opened at pc, with the value; what is inside is next, on the same value.
-    fn frame(
-        mut self,
-        ats: &mut [u16; ENTRIES],
-        lows: &mut [u16; ENTRIES],
-        backs: &mut [u64; ENTRIES],
-    ) -> State
-        requires { ⌜ self .pc < entries ⌝ ∗ ⌜ self .at < 65536 ⌝ ∗ ⌜ self .top ≤ entries ⌝ }
-        ensures { λ r. ⌜ r ≡ framedAt self ⌝ ∗ ⌜ now (ats .exit) ≡ set (now (ats .entry)) (self .pc) (self .at) ⌝ ∗ ⌜ now (lows .exit) ≡ set (now (lows .entry)) (self .pc) (self .top) ⌝ ∗ ⌜ now (backs .exit) ≡ set (now (backs .entry)) (self .pc) (self .marks) ⌝ }
+    fn frame(mut self, arg: &Numbers, slots: &mut Slots) -> State
+        requires { ⌜ Slotted (now arg) (now slots) (self .pc) ⌝ ∗ ⌜ Alone (now arg) (self .pc) ⌝ }
+        ensures { λ r. ⌜ r ≡ framedAt self ⌝ ∗ ⌜ (viewOf (now (arg .entry)) (now (slots .exit))) ≡ framedIn self (viewOf (now (arg .entry)) (now (slots .entry))) ⌝ }
     {
         let pc = self.pc;
-        let at = self.at;
         let top = self.top;
-        ats[pc] = narrow(at);
-        lows[pc] = narrow(top);
-        backs[pc] = self.marks;
+        let h = Held {
+            at: self.at,
+            marks: self.marks,
+        };
+        put_side(slots, arg, pc, h, top);
         self.pc = pc + 1;
         self.top = pc + 1;
         self.live = 1;
@@ -47,39 +51,30 @@ impl State {
     }
 
     // The search inside the not at j has a row: its frame and those above it are no longer open, and no state stands.
-    fn cut(mut self, from: &[u16; ENTRIES], lows: &[u16; ENTRIES]) -> State
-        requires { ⌜ self .pc < entries ⌝ ∗ ⌜ getD (now from) (self .pc) 0 < entries ⌝ }
-        ensures { λ r. ⌜ r ≡ cutTo (now (from .entry)) (now (lows .entry)) self ⌝ }
+    fn cut(mut self, from: &[u16; ENTRIES], arg: &Numbers, slots: &Slots) -> State
+        requires { ⌜ self .pc < entries ⌝ ∗ ⌜ Slotted (now arg) (now slots) (getD (now from) (self .pc) 0) ⌝ }
+        ensures { λ r. ⌜ r ≡ cutTo (now (from .entry)) ((viewOf (now (arg .entry)) (now (slots .entry))) .lows) self ⌝ }
     {
         let pc = self.pc;
         let j = wide(from[pc]);
-        self.top = wide(lows[j]);
+        self.top = low_at(slots, arg, j);
         self.live = 2;
         self
     }
 
     // And, or, not, and the end of the search inside a not.
-    pub fn sides(
-        mut self,
-        o: u8,
-        from: &[u16; ENTRIES],
-        ats: &mut [u16; ENTRIES],
-        wholes: &[u64; ENTRIES],
-        lefts: &[u64; ENTRIES],
-        lows: &mut [u16; ENTRIES],
-        backs: &mut [u64; ENTRIES],
-    ) -> State
-        requires { ⌜ Sides (now from) self ⌝ }
-        ensures { λ r. ⌜ turned r (tables (now (ats .exit)) (now (wholes .entry)) (now (lefts .entry)) (now (lows .exit)) (now (backs .exit))) ≡ sidesOf o (now (from .entry)) self (tables (now (ats .entry)) (now (wholes .entry)) (now (lefts .entry)) (now (lows .entry)) (now (backs .entry))) ⌝ }
+    pub fn sides(mut self, o: u8, from: &[u16; ENTRIES], arg: &Numbers, slots: &mut Slots) -> State
+        requires { ⌜ Sides o (now from) (now arg) (now slots) self ⌝ }
+        ensures { λ r. ⌜ turned r (viewOf (now (arg .entry)) (now (slots .exit))) ≡ sidesOf o (now (from .entry)) self (viewOf (now (arg .entry)) (now (slots .entry))) ⌝ }
     {
         if o == 14 {
-            return self.both(ats, backs);
+            return self.both(arg, slots);
         }
         if o < 17 {
-            return self.frame(ats, lows, backs);
+            return self.frame(arg, slots);
         }
         if o == 17 {
-            return self.cut(from, lows);
+            return self.cut(from, arg, slots);
         }
         self.live = 2;
         self

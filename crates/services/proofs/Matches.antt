@@ -15,6 +15,7 @@ use Rattle.words.specs.Words.{entries}
 use Rattle.program_rules.specs.Accepted.{matcher-short, pattern-short}
 use Rattle.program_rules.specs.Lines.{columns, linesOf, laid}
 use Rattle.program_rules.specs.Link.{opsIn, bindingsIn, tosBy, placed}
+use Rattle.program_rules.specs.Slots.{numbered}
 use Rattle.program_rules.specs.Columns.{Holds, compiled-zeros}
 use Rattle.value_places.specs.Places.{Target}
 use Rattle.search.specs.Run.{env}
@@ -105,7 +106,7 @@ ready-some ms ps ts g = accepted-some ms ps ts (g .rule) (g .value) (ready-sane 
 
 -- The compiled rule, in arrays that held zeros.
 module _ (ms ps ts : List ℤ) (n : ℕ) (op from to arg mat : List ℕ) (con : List ℤ) (g : Ready ms ps ts) (vars : n ≡ bindingsIn (opsIn op 0 (length (linesOf ms ps))))
-    (is : columns op from arg mat con ≡ laid 0 (linesOf ms ps) (columns (replicate entries 0) (replicate entries 0) (replicate entries 0) (replicate entries 0) (replicate entries (pos 0))))
+    (is : columns op from arg mat con ≡ numbered (length (linesOf ms ps)) (laid 0 (linesOf ms ps) (columns (replicate entries 0) (replicate entries 0) (replicate entries 0) (replicate entries 0) (replicate entries (pos 0)))))
     (tos : to ≡ placed 0 (tosBy (opsIn op 0 (length (linesOf ms ps)))) (replicate entries 0)) where
   holds : Holds ms (g .rule) n (columns op from arg mat con) to
   holds = compiled-zeros ms ps (g .rule) (g .rule-is) n (columns op from arg mat con) to vars is tos

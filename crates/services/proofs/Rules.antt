@@ -20,6 +20,7 @@ use Rattle.words.specs.Words.{entries}
 use Rattle.program_rules.specs.Accepted.{matcher-short, pattern-short}
 use Rattle.program_rules.specs.Lines.{columns, linesOf, laid}
 use Rattle.program_rules.specs.Link.{tosBy, opsIn, bindingsIn, placed}
+use Rattle.program_rules.specs.Slots.{numbered}
 use Rattle.program_rules.specs.Columns.{Holds, compiled-zeros}
 use Rattle.review_count.specs.Scan.{noneFrom}
 use Rattle.review_count.specs.Plain.{plain-is}
@@ -168,7 +169,7 @@ by-pattern : (cap : ℤ) (r : Rule) → Bool → paper.Reviewed
 by-pattern cap r b = elim b [ true ↦ declined 11 0 | false ↦ capped cap r ]
 
 module _ (ms ps : List ℤ) (op from arg mat : List ℕ) (con : List ℤ) (s : Sound (ruleOf ms ps))
-    (e : columns op from arg mat con ≡ laid 0 (linesOf ms ps) (columns (replicate entries 0) (replicate entries 0) (replicate entries 0) (replicate entries 0) (replicate entries (pos 0)))) where
+    (e : columns op from arg mat con ≡ numbered (length (linesOf ms ps)) (laid 0 (linesOf ms ps) (columns (replicate entries 0) (replicate entries 0) (replicate entries 0) (replicate entries 0) (replicate entries (pos 0))))) where
   -- The numbers of the compiler that review does not use.
   vars : ℕ
   vars = bindingsIn (opsIn op 0 (length (linesOf ms ps)))

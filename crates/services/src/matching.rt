@@ -32,7 +32,7 @@ fn carry_out(
 {
     let mut op = [0u8; ENTRIES];
     let mut from = [0u16; ENTRIES];
-    let mut arg = [0u8; ENTRIES];
+    let mut arg = [0u16; ENTRIES];
     let mut mat = [0u8; ENTRIES];
     let mut con = [0i32; ENTRIES];
     let mut to = [0u16; ENTRIES];

@@ -65,7 +65,7 @@ fn of_rule(matcher: &[i32], pattern: &[i32], cap: i32) -> Reviewed
 {
     let mut op = [0u8; ENTRIES];
     let mut from = [0u16; ENTRIES];
-    let mut arg = [0u8; ENTRIES];
+    let mut arg = [0u16; ENTRIES];
     let mut mat = [0u8; ENTRIES];
     let mut con = [0i32; ENTRIES];
     let mut to = [0u16; ENTRIES];

@@ -1,2 +1,3 @@
 -- What the proofs of the leaves share.
 pub mod Lines
+pub mod Slots

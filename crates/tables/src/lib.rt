@@ -1,2 +1,3 @@
 // The tables that a run works over: each is one flat array of numbers, and only the functions here know what lies where in it.
 pub mod line;
+pub mod slot;

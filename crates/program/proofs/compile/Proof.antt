@@ -9,4 +9,5 @@ compile-spec =
     (tie.spec
     (λ c κs. search both-rules)
     (λ c κs. search both-rules)
-    (λ c. search both-rules))
+    (λ c κs. search both-rules)
+    (λ c. ((search both-rules), (search both-rules, search both-rules))))

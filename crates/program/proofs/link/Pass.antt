@@ -209,12 +209,23 @@ binding-le o = go (eqb o 3)
     go true = omega arith
     go false = omega arith
 
+keeps-plain : (o : ℕ) → o < 15 → keeps o ≡ false
+unfolding keeps
+keeps-plain o h = rw (ne-eqb o 17 (λ e. omega arith), ne-eqb o 18 (λ e. omega arith), ne-eqb o 19 (λ e. omega arith))
+
+takes-plain : (o : ℕ) → o < 15 → takes o ≡ false
+unfolding takes
+takes-plain o h = rw (ne-eqb o 15 (λ e. omega arith), ne-eqb o 16 (λ e. omega arith), ne-eqb o 18 (λ e. omega arith))
+
 module _ (op : List ℕ) (last : ℕ) (to₀ to k : List ℕ) (depth n pc land : ℕ) (L : Linking op last to₀ to k depth n pc land) (low : last < entries) (h : 0 < pc) where
   linking-reach : pc ≤ suc last
   linking-reach = let a = L .deep in omega arith
 
   pub linking-index : pc - 1 < entries
   linking-index = let a = linking-reach in omega arith
+
+  pub linking-short-pc : pc - 1 < 2 ^ 16
+  linking-short-pc = let a = linking-reach in omega arith
 
   pub linking-depth : depth < 651
   linking-depth = let a = L .deep in omega arith
@@ -263,9 +274,20 @@ module _ (op : List ℕ) (last : ℕ) (to₀ to k : List ℕ) (depth n pc land :
           bottom = a .bottom ∙ L .bottom;
         }
 
-    pub linking-again : (t : ℕ) → t ≡ toAt o land x → Linking op last to₀ (set to (pc - 1) t) k' d n' (pc - 1) land'
+    linking-again : (t : ℕ) → t ≡ toAt o land x → Linking op last to₀ (set to (pc - 1) t) k' d n' (pc - 1) land'
     unfolding toBy toAt
     linking-again t r = linking-next t (r ∙ rw top-is)
+
+  -- A line below 15 keeps no place and takes none.
+  pub linking-plain : (o n' : ℕ) → o ≡ getD op (pc - 1) 0 → o < 15 → n' ≡ n + binding o → Linking op last to₀ (set to (pc - 1) land) k depth n' (pc - 1) (pc - 1)
+  unfolding piled landAt toAt lower
+  linking-plain o n' e l z =
+      linking-again o (getD k depth 0) depth (pc - 1) n' k e refl (rw (keeps-plain o l, takes-plain o l)) (rw (ne-eqb o 18 (λ q. omega arith), ne-eqb o 19 (λ q. omega arith))) z
+      land (rw (takes-plain o l))
+
+  pub linking-sides : (o x t d land' : ℕ) (k' : List ℕ) → o ≡ getD op (pc - 1) 0 → 15 ≤ o → x ≡ getD k depth 0 → t ≡ toAt o land x
+      → pile k' d ≡ piled o (pc - 1) land (pile k depth) → land' ≡ landAt o (pc - 1) land x → Linking op last to₀ (set to (pc - 1) t) k' d n (pc - 1) land'
+  linking-sides o x t d land' k' e l f r w v = linking-again o x d land' n k' e f w v (count-other n o (λ q. omega arith)) t r
 
 module _ (op : List ℕ) (last : ℕ) (to₀ to k : List ℕ) (depth n pc land : ℕ) (L : Linking op last to₀ to k depth n pc land) (h : pc ≤ 0) where
   pub linking-vars : n ≡ bindingsIn (opsIn op 0 (suc last))
@@ -284,4 +306,4 @@ linking-fits last h = record { fits = omega arith }
 pub linking-short : (last : ℕ) → last < entries → last + 1 < 2 ^ 16
 linking-short last h = omega arith
 
-pub ruleset linking-rules = (linking-start, linking-index, linking-depth, linking-room, linking-count, linking-again, linking-vars, linking-placed, linking-fits, linking-short, linking-less, needs)
+pub ruleset linking-rules = (linking-start, linking-index, linking-depth, linking-room, linking-count, linking-short-pc, linking-plain, linking-sides, linking-vars, linking-placed, linking-fits, linking-short, linking-less, needs)

@@ -17,4 +17,5 @@ put-spec =
     (λ c. search needs)
     (λ c. search needs)
     (λ c. search needs)
+    (λ c. search needs)
     (λ c. rw (toZ-ofZ (c .fits .c))))

@@ -9,39 +9,40 @@ use lib.ListN.{length}
 use Rattle.rules.specs.Rows.{asWords, row}
 use Rattle.value_places.specs.Held.{put}
 use Rattle.value_rows.specs.Row.{bound, boundFrom}
-use Rattle.search_step.specs.Steps.{tables}
+use Rattle.tables.specs.Slot.{viewOf}
 use Rattle.search.specs.Run.{Env, env, Run, run, settled, takeOf, runOf}
 use Rattle.search.specs.Valid.{Rows}
 use Rattle.value_rows.proofs.Row.{targets-fit, row-held, row-16, row-mul, row-room, row-turn, row-turn-size, row-out, row-out-size, row-start-size, row-start-room}
 use Rattle.value_rows.proofs.Room.{length-put}
-use Rattle.search.proofs.Laws.{Sized, sized-asked, sized-ample, tables-path, turned-path, Here, here-start, here-end, here-spent, here-next, next-less, Asked, asked-3, asked-4, asked-5, asked-6, asked-below, asked-above, took-full, took-wrote, took-step, turn-row, turn-steps, turn-picks, settled-by, Ready, ready, ready-place, ready-mul, ready-number, ready-number-mul, ready-bound, ready-sum, fine-slots}
+use Rattle.search.proofs.Laws.{Sized, sized-asked, sized-ample, turned-path, Here, here-start, here-end, here-spent, here-next, next-less, Asked, asked-3, asked-4, asked-5, asked-6, asked-below, asked-above, took-full, took-wrote, Taken, taken-is, taken-step, turn-row, turn-steps, settled-by, Ready, ready, ready-place, ready-mul, ready-mul-2, ready-number, ready-number-mul, ready-bound, ready-sum, fine-named}
 use Rattle.search.proofs.advance.Statement.{statement}
 use Rattle.search.proofs.advance.Tie as tie
 use Rattle.value_equality.proofs.equal.Reads as equal-reads
 use Rattle.value_equality.proofs.is_sum.Reads as is-sum-reads
 use Rattle.value_rows.proofs.put_value.Reads as put-value-reads
 use Rattle.value_rows.proofs.row_size.Reads as row-size-reads
-use Rattle.search.proofs.index.Reads as index-reads
+use Rattle.words.proofs.casts.byte_index.Reads as byte-index-reads
+use Rattle.words.proofs.casts.half_index.Reads as half-index-reads
 use Rattle.search.proofs.taking.filled.Reads as filled-reads
 use Rattle.search.proofs.taking.wrote.Reads as wrote-reads
 use Rattle.search_step.proofs.State.step.Reads as step-reads
 use Rattle.search_choice.proofs.settle.Reads as settle-reads
 
 abbrev Inv-loop2 : tie.InvT-loop2
-Inv-loop2 budget n mt s ends base places op from to arg mat con ats wholes lefts lows backs room₀ x b steps pc at m o q e₀ free size v₀ room e v =
+Inv-loop2 budget n mt s ends base places op from to arg mat con slots room₀ x b steps pc at m o q e₀ free size v₀ room e v =
     (v ≤ n) × (length room ≡ length room₀) × (e₀ + length (row asWords (bound s b n)) ≤ length room) × (e₀ + length (row asWords (bound s b n)) ≡ e + length (row asWords (boundFrom s b v n)))
     × (put room₀ e₀ (row asWords (bound s b n)) ≡ put room e (row asWords (boundFrom s b v n)))
 
 abbrev μ-loop2 : tie.MeasureT-loop2
-μ-loop2 budget n mt s ends base places op from to arg mat con ats wholes lefts lows backs room₀ x b steps pc at m o q e₀ free size v₀ room e v = n - v
+μ-loop2 budget n mt s ends base places op from to arg mat con slots room₀ x b steps pc at m o q e₀ free size v₀ room e v = n - v
 
 abbrev Inv-loop : tie.InvT-loop
-Inv-loop budget n mt s ends base places op from to arg mat con ats₀ wholes₀ lefts₀ lows₀ backs₀ room₀ x₀ b₀ ats wholes lefts lows backs room x b =
-    Here (env op from to arg mat con mt s n) (runOf (env op from to arg mat con mt s n) (budget - x₀ .steps) (run x₀ (tables ats₀ wholes₀ lefts₀ lows₀ backs₀) b₀ room₀)) budget room₀
-    (run x (tables ats wholes lefts lows backs) b room)
+Inv-loop budget n mt s ends base places op from to arg mat con slots₀ room₀ x₀ b₀ slots room x b =
+    Here (env op from to arg mat con mt s n) (runOf (env op from to arg mat con mt s n) (budget - x₀ .steps) (run x₀ (viewOf arg slots₀) b₀ room₀)) budget room₀
+    (run x (viewOf arg slots) b room)
 
 abbrev μ-loop : tie.MeasureT-loop
-μ-loop budget n mt s ends base places op from to arg mat con ats₀ wholes₀ lefts₀ lows₀ backs₀ room₀ x₀ b₀ ats wholes lefts lows backs room x b = budget - x .steps
+μ-loop budget n mt s ends base places op from to arg mat con slots₀ room₀ x₀ b₀ slots room x b = budget - x .steps
 
 -- The program and the run at the loop's head.
 abbrev program : tie.At-loop Inv-loop2 μ-loop2 Inv-loop μ-loop → Env
@@ -50,7 +51,7 @@ program c =
     (c .before .args .s .now) (c .before .args .n)
 
 abbrev current : tie.At-loop Inv-loop2 μ-loop2 Inv-loop μ-loop → Run
-current c = run (c .loop .x) (tables (c .loop .ats) (c .loop .wholes) (c .loop .lefts) (c .loop .lows) (c .loop .backs)) (c .loop .b) (c .loop .room)
+current c = run (c .loop .x) (viewOf (c .before .args .arg .now) (c .loop .slots)) (c .loop .b) (c .loop .room)
 
 -- A state stands, and the budget is not used up.
 stands : (c : tie.Else2 Inv-loop2 μ-loop2 Inv-loop μ-loop) → Ready (program (c .before .before .before)) (current (c .before .before .before))
@@ -81,18 +82,21 @@ sized c = ⊎-elim
 
 -- Where a row and a step meet: the state is taken up.
 met : (c : tie.Joined8 Inv-loop2 μ-loop2 Inv-loop μ-loop)
-    → run (c .if8 .x) (tables (c .if8 .ats) (c .if8 .wholes) (c .if8 .lefts) (c .if8 .lows) (c .if8 .backs)) (c .before .if3 .b) (c .if8 .room)
-    ≡ takeOf (program (c .before .before .before .before .before .before)) (current (c .before .before .before .before .before .before))
-met c = ⊎-elim
+    → Taken (program (c .before .before .before .before .before .before)) (current (c .before .before .before .before .before .before)) (c .if8 .x)
+    (viewOf (c .before .before .before .before .before .before .before .args .arg .now) (c .if8 .slots)) (c .before .if3 .b) (c .if8 .room)
+met c = let h = stands (c .before .before .before) in ⊎-elim
     (λ w. let z = sized (record { before = record { before = c .before; if8 = w .0 }; if9 = w .1 }) in
-    took-full _ _ _ _ _ _ _ (joined (c .before)) _ _ _ (w .0 .taken) (z .short (w .2 .taken)) (w .10 ∙ w .3 .ensures) (tables-path (w .4) (w .5) (w .6) (w .7) (w .8)) (w .9))
+    taken-is _ _ _ _ _ _ _ (joined (c .before)) (h .fine) (h .target) (h .valid) (h .count) (h .live) _ _ _
+    (took-full _ _ _ _ _ _ _ (joined (c .before)) _ _ _ (w .0 .taken) (z .short (w .2 .taken)) (w .6 ∙ w .3 .ensures) (ap (viewOf _) (w .4)) (w .5)))
     (⊎-elim
     (λ w. let z = sized (record { before = record { before = c .before; if8 = w .0 }; if9 = w .1 }) in
     let k = rows (record { before = c .before; if8 = w .0 }) .bound in
     let i = w .3 .inv in
-    took-wrote _ _ _ _ _ _ _ (joined (c .before)) _ _ _ _ (w .0 .taken) (z .fits (w .2 .left)) (w .12 ∙ w .5 .ensures)
-    (row-out-size _ _ _ _ _ _ k (i .3) (w .4 .left)) (tables-path (w .6) (w .7) (w .8) (w .9) (w .10)) (w .11 ∙ row-out _ _ _ _ _ _ _ k (i .4) (w .4 .left)))
-    (λ w. took-step _ _ _ _ _ _ _ (joined (c .before)) _ _ _ (w .0 .left) (turned-path (w .13) (tables-path (w .7) (w .8) (w .9) (w .10) (w .11)) ∙ w .6 .ensures) (w .12)))
+    taken-is _ _ _ _ _ _ _ (joined (c .before)) (h .fine) (h .target) (h .valid) (h .count) (h .live) _ _ _
+    (took-wrote _ _ _ _ _ _ _ (joined (c .before)) _ _ _ _ (w .0 .taken) (z .fits (w .2 .left)) (w .8 ∙ w .5 .ensures)
+    (row-out-size _ _ _ _ _ _ k (i .3) (w .4 .left)) (ap (viewOf _) (w .6)) (w .7 ∙ row-out _ _ _ _ _ _ _ k (i .4) (w .4 .left))))
+    (λ w. taken-step _ _ _ _ _ _ _ (joined (c .before)) (h .fine) (h .target) (h .valid) (h .count) (h .live) _ _ _ (w .0 .left)
+    (turned-path (w .5) (ap (viewOf _) (w .3)) ∙ w .2 .ensures) (w .4)))
     (c .if8 .came)
 
 loop-holds : tie.Need-loop-holds Inv-loop2 μ-loop2 Inv-loop μ-loop
@@ -107,17 +111,20 @@ returns c = here-spent _ _ _ _ _ (c .before .before .before .loop .inv) (c .if2 
 element-copy-out-o : tie.Need-element-copy-out-o Inv-loop2 μ-loop2 Inv-loop μ-loop
 element-copy-out-o c = ready-place _ _ _ _ _ (stands c)
 
-element-copy-out-index : tie.Need-element-copy-out-index Inv-loop2 μ-loop2 Inv-loop μ-loop
-element-copy-out-index c = ready-place _ _ _ _ _ (stands (c .before .before .before))
+mul-half-index : tie.Need-mul-half-index Inv-loop2 μ-loop2 Inv-loop μ-loop
+mul-half-index c = ready-mul-2 _ _ _ _ _ (stands (c .before .before .before))
 
-index-requires : tie.Need-index-requires Inv-loop2 μ-loop2 Inv-loop μ-loop
-index-requires c κs = search needs
+element-copy-out-half-index : tie.Need-element-copy-out-half-index Inv-loop2 μ-loop2 Inv-loop μ-loop
+element-copy-out-half-index c = ready-place _ _ _ _ _ (stands (c .before .before .before))
+
+half-index-requires : tie.Need-half-index-requires Inv-loop2 μ-loop2 Inv-loop μ-loop
+half-index-requires c κs = search needs
 
 mul-y : tie.Need-mul-y Inv-loop2 μ-loop2 Inv-loop μ-loop
-mul-y c = ready-number-mul _ _ _ _ _ (stands (c .before .before .before .before .before)) _ (c .index .ensures)
+mul-y c = ready-number-mul _ _ _ _ _ (stands (c .before .before .before .before .before)) _ (c .half-index .ensures) (omega (arith, c .before .before .if4 .taken)) (omega (arith, c .before .before .if4 .taken))
 
 array-copy-out-y : tie.Need-array-copy-out-y Inv-loop2 μ-loop2 Inv-loop μ-loop
-array-copy-out-y c = ready-number _ _ _ _ _ (stands (c .before .before .before .before .before)) _ (c .index .ensures)
+array-copy-out-y c = ready-number _ _ _ _ _ (stands (c .before .before .before .before .before)) _ (c .half-index .ensures) (omega (arith, c .before .before .if4 .taken)) (omega (arith, c .before .before .if4 .taken))
 
 mul-c : tie.Need-mul-c Inv-loop2 μ-loop2 Inv-loop μ-loop
 mul-c c = ready-mul _ _ _ _ _ (stands (c .before .before .before .before .before .before))
@@ -126,42 +133,48 @@ element-copy-out-c : tie.Need-element-copy-out-c Inv-loop2 μ-loop2 Inv-loop μ-
 element-copy-out-c c = ready-place _ _ _ _ _ (stands (c .before .before .before .before .before .before))
 
 is-sum-requires : tie.Need-is-sum-requires Inv-loop2 μ-loop2 Inv-loop μ-loop
-is-sum-requires c κs = ready-sum _ _ _ _ _ (stands (c .before .before .before .before .before .before .before)) _ (c .before .before .index .ensures)
+is-sum-requires c κs = ready-sum _ _ _ _ _ (stands (c .before .before .before .before .before .before .before)) _ (c .before .before .half-index .ensures) (omega (arith, c .before .before .before .before .if4 .taken)) (omega (arith, c .before .before .before .before .if4 .taken))
 
-element-copy-out-index-2 : tie.Need-element-copy-out-index-2 Inv-loop2 μ-loop2 Inv-loop μ-loop
-element-copy-out-index-2 c = ready-place _ _ _ _ _ (stands (c .before .before .before .before .before))
+mul-half-index-2 : tie.Need-mul-half-index-2 Inv-loop2 μ-loop2 Inv-loop μ-loop
+mul-half-index-2 c = ready-mul-2 _ _ _ _ _ (stands (c .before .before .before .before .before))
 
-index-requires-2 : tie.Need-index-requires-2 Inv-loop2 μ-loop2 Inv-loop μ-loop
-index-requires-2 c κs = search needs
+element-copy-out-half-index-2 : tie.Need-element-copy-out-half-index-2 Inv-loop2 μ-loop2 Inv-loop μ-loop
+element-copy-out-half-index-2 c = ready-place _ _ _ _ _ (stands (c .before .before .before .before .before))
+
+half-index-requires-2 : tie.Need-half-index-requires-2 Inv-loop2 μ-loop2 Inv-loop μ-loop
+half-index-requires-2 c κs = search needs
 
 mul-b : tie.Need-mul-b Inv-loop2 μ-loop2 Inv-loop μ-loop
-mul-b c = ready-number-mul _ _ _ _ _ (stands (c .before .before .before .before .before .before .before)) _ (c .index2 .ensures)
+mul-b c = ready-number-mul _ _ _ _ _ (stands (c .before .before .before .before .before .before .before)) _ (c .half-index2 .ensures) (omega (arith, c .before .before .if6 .taken)) (omega (arith, c .before .before .if6 .taken))
 
 array-set-from-b : tie.Need-array-set-from-b Inv-loop2 μ-loop2 Inv-loop μ-loop
-array-set-from-b c = ready-number _ _ _ _ _ (stands (c .before .before .before .before .before .before .before)) _ (c .index2 .ensures)
+array-set-from-b c = ready-number _ _ _ _ _ (stands (c .before .before .before .before .before .before .before)) _ (c .half-index2 .ensures) (omega (arith, c .before .before .if6 .taken)) (omega (arith, c .before .before .if6 .taken))
 
-element-copy-out-index-3 : tie.Need-element-copy-out-index-3 Inv-loop2 μ-loop2 Inv-loop μ-loop
-element-copy-out-index-3 c = ready-place _ _ _ _ _ (stands (c .before .before .before .before .before))
+mul-half-index-3 : tie.Need-mul-half-index-3 Inv-loop2 μ-loop2 Inv-loop μ-loop
+mul-half-index-3 c = ready-mul-2 _ _ _ _ _ (stands (c .before .before .before .before .before))
 
-index-requires-3 : tie.Need-index-requires-3 Inv-loop2 μ-loop2 Inv-loop μ-loop
-index-requires-3 c κs = search needs
+element-copy-out-half-index-3 : tie.Need-element-copy-out-half-index-3 Inv-loop2 μ-loop2 Inv-loop μ-loop
+element-copy-out-half-index-3 c = ready-place _ _ _ _ _ (stands (c .before .before .before .before .before))
+
+half-index-requires-3 : tie.Need-half-index-requires-3 Inv-loop2 μ-loop2 Inv-loop μ-loop
+half-index-requires-3 c κs = search needs
 
 mul-y-2 : tie.Need-mul-y-2 Inv-loop2 μ-loop2 Inv-loop μ-loop
-mul-y-2 c = ready-number-mul _ _ _ _ _ (stands (c .before .before .before .before .before .before .before)) _ (c .index3 .ensures)
+mul-y-2 c = ready-number-mul _ _ _ _ _ (stands (c .before .before .before .before .before .before .before)) _ (c .half-index3 .ensures) (c .before .before .before .before .before .if3 .taken) (c .before .before .if7 .taken)
 
 array-copy-out-y-2 : tie.Need-array-copy-out-y-2 Inv-loop2 μ-loop2 Inv-loop μ-loop
-array-copy-out-y-2 c = ready-number _ _ _ _ _ (stands (c .before .before .before .before .before .before .before)) _ (c .index3 .ensures)
+array-copy-out-y-2 c = ready-number _ _ _ _ _ (stands (c .before .before .before .before .before .before .before)) _ (c .half-index3 .ensures) (c .before .before .before .before .before .if3 .taken) (c .before .before .if7 .taken)
 
-element-copy-out-index-4 : tie.Need-element-copy-out-index-4 Inv-loop2 μ-loop2 Inv-loop μ-loop
-element-copy-out-index-4 c = ready-place _ _ _ _ _ (stands (c .before .before .before .before .before .before .before .before))
+element-copy-out-byte-index : tie.Need-element-copy-out-byte-index Inv-loop2 μ-loop2 Inv-loop μ-loop
+element-copy-out-byte-index c = ready-place _ _ _ _ _ (stands (c .before .before .before .before .before .before .before .before))
 
-index-requires-4 : tie.Need-index-requires-4 Inv-loop2 μ-loop2 Inv-loop μ-loop
-index-requires-4 c κs = search needs
+byte-index-requires : tie.Need-byte-index-requires Inv-loop2 μ-loop2 Inv-loop μ-loop
+byte-index-requires c κs = search needs
 
 equal-requires : tie.Need-equal-requires Inv-loop2 μ-loop2 Inv-loop μ-loop
 equal-requires c κs =
     let h = stands (c .before .before .before .before .before .before .before .before .before .before) in
-    (h .target, (c .before .before .before .before .before .before .before .before .before .before .before .before .before .before .pre .0 .placed, (ready-bound _ _ _ _ _ h _ (c .before .before .before .index3 .ensures), h .valid .held)))
+    (h .target, (c .before .before .before .before .before .before .before .before .before .before .before .before .before .before .pre .0 .placed, (ready-bound _ _ _ _ _ h _ (c .before .before .before .half-index3 .ensures) (c .before .before .before .before .before .before .before .before .if3 .taken) (c .before .before .before .before .before .if7 .taken), h .valid .held)))
 
 sub-free : tie.Need-sub-free Inv-loop2 μ-loop2 Inv-loop μ-loop
 sub-free c = rows c .words
@@ -221,23 +234,24 @@ wrote-requires c κs = let k = rows (c .before .before .before .before) in (k .s
 
 step-requires : tie.Need-step-requires Inv-loop2 μ-loop2 Inv-loop μ-loop
 step-requires c κs =
-    let h = stands (c .before .before .before .before .before .before .before .before) in
-    (h .target, (c .before .before .before .before .before .before .before .before .before .before .before .before .pre .0 .placed, turn-steps _ _ _ _ _ _ _ (joined (c .before .before .before .before .before .before)) (h .fine) (h .target) (h .valid) (h .count)))
+    let h = stands (c .before .before .before .before) in
+    (h .target, (c .before .before .before .before .before .before .before .before .pre .0 .placed, turn-steps _ _ _ _ _ _ _ (joined (c .before .before)) (h .fine) (h .target) (h .valid) (h .count) _ refl))
 
 settle-requires : tie.Need-settle-requires Inv-loop2 μ-loop2 Inv-loop μ-loop
 settle-requires c κs =
-    let h = stands (c .before .before .before .before .before .before .before .before) in
-    (h .target, (c .before .before .before .before .before .before .before .before .before .before .before .before .pre .0 .placed, (fine-slots _ (h .fine), turn-picks _ _ _ _ _ _ _ (joined (c .before .before .before .before .before .before)) (h .fine) (h .target) (h .valid) (h .count) (h .live) _ _ _ _ (met (c .before .before .before .before .before)))))
+    let h = stands (c .before .before .before .before) in
+    let m = met (c .before) in
+    (h .target, (c .before .before .before .before .before .before .before .before .pre .0 .placed, (fine-named _ (h .fine) _ (m .long), m .picks)))
 
 loop-less : tie.Need-loop-less Inv-loop2 μ-loop2 Inv-loop μ-loop
 loop-less c =
-    let h = stands (c .before .before .before .before .before .before .before .before .before) in
-    next-less _ _ _ _ _ (c .before .before .before .before .before .before .before .before .before .before .before .before .loop .inv) (h .fine) (h .target) (h .live) (c .before .before .before .before .before .before .before .before .before .if2 .left) _ (settled-by _ (run (c .before .before .before .before .before .before .if8 .x) _ _ _) _ _ (c .settle .ensures) ∙ ap (settled _) (met (c .before .before .before .before .before .before)))
+    let h = stands (c .before .before .before .before .before) in
+    next-less _ _ _ _ _ (c .before .before .before .before .before .before .before .before .loop .inv) (h .fine) (h .target) (h .live) (c .before .before .before .before .before .if2 .left) _ (settled-by _ (run (c .before .before .if8 .x) _ _ _) _ _ (c .settle .ensures) ∙ met (c .before .before) .next)
 
 loop-again : tie.Need-loop-again Inv-loop2 μ-loop2 Inv-loop μ-loop
 loop-again c =
-    let h = stands (c .before .before .before .before .before .before .before .before .before) in
-    here-next _ _ _ _ _ (c .before .before .before .before .before .before .before .before .before .before .before .before .loop .inv) (h .fine) (h .target) (h .live) (c .before .before .before .before .before .before .before .before .before .if2 .left) _ (settled-by _ (run (c .before .before .before .before .before .before .if8 .x) _ _ _) _ _ (c .settle .ensures) ∙ ap (settled _) (met (c .before .before .before .before .before .before)))
+    let h = stands (c .before .before .before .before .before) in
+    here-next _ _ _ _ _ (c .before .before .before .before .before .before .before .before .loop .inv) (h .fine) (h .target) (h .live) (c .before .before .before .before .before .if2 .left) _ (settled-by _ (run (c .before .before .if8 .x) _ _ _) _ _ (c .settle .ensures) ∙ met (c .before .before) .next)
 
 same-length-2 : tie.Need-same-length-2 Inv-loop2 μ-loop2 Inv-loop μ-loop
 same-length-2 c = c .before .before .loop .inv .long
@@ -257,23 +271,26 @@ advance-spec =
     same-length
     returns
     element-copy-out-o
-    element-copy-out-index
-    index-requires
+    mul-half-index
+    element-copy-out-half-index
+    half-index-requires
     mul-y
     array-copy-out-y
     mul-c
     element-copy-out-c
     is-sum-requires
-    element-copy-out-index-2
-    index-requires-2
+    mul-half-index-2
+    element-copy-out-half-index-2
+    half-index-requires-2
     mul-b
     array-set-from-b
-    element-copy-out-index-3
-    index-requires-3
+    mul-half-index-3
+    element-copy-out-half-index-3
+    half-index-requires-3
     mul-y-2
     array-copy-out-y-2
-    element-copy-out-index-4
-    index-requires-4
+    element-copy-out-byte-index
+    byte-index-requires
     equal-requires
     sub-free
     mul-if9

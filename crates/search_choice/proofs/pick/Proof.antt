@@ -4,9 +4,6 @@ use Rattle.search_choice.specs.Choices.{pickOf}
 use Rattle.search_choice.proofs.Laws.{pick-rules}
 use Rattle.search_choice.proofs.pick.Statement.{statement}
 use Rattle.search_choice.proofs.pick.Tie as tie
-use Rattle.search_choice.proofs.cons.Reads as cons-reads
-use Rattle.search_choice.proofs.join.Reads as join-reads
-use Rattle.search_choice.proofs.resume.Reads as resume-reads
 
 pub pick-spec : {M : Type 1} → statement M
 unfolding pickOf lived
@@ -14,11 +11,11 @@ pick-spec =
     tie.close
     (tie.spec
     (λ c. search pick-rules)  -- returns
-    (λ c. search pick-rules)  -- sub-j
+    (λ c. search pick-rules)  -- sub-pc
     (λ c. search pick-rules)  -- element-copy-out-o
-    (λ c κs. search pick-rules)  -- join-requires
+    (λ c κs. (search pick-rules, (search pick-rules, search pick-rules)))  -- join-requires
     (λ c. search pick-rules)  -- returns-2
     (λ c κs. search pick-rules)  -- resume-requires
     (λ c. search pick-rules)  -- returns-3
-    (λ c κs. (search pick-rules, (search pick-rules, search pick-rules)))  -- cons-requires
-    (λ c. search pick-rules))
+    (λ c κs. (search pick-rules, (search pick-rules, (search pick-rules, (search pick-rules, search pick-rules)))))  -- cons-requires
+    (λ c. search pick-rules))  -- returns-4

@@ -1,13 +1,9 @@
 -- `search_step::State::apart` meets its contract. Assumes nothing.
+use mathlib.Core.Path.{refl}
 use Rattle.search_step.specs.Steps.{moved, lived}
 use Rattle.search_step.proofs.Laws.{apart-rules}
 use Rattle.search_step.proofs.State.apart.Statement.{statement}
 use Rattle.search_step.proofs.State.apart.Tie as tie
-use Rattle.search_atom.proofs.tuples.later.Reads as later-reads
-use Rattle.search_atom.proofs.tuples.is_wide.Reads as is-wide-reads
-use Rattle.search_atom.proofs.tuples.keep.Reads as keep-reads
-use Rattle.value_places.proofs.places.element.Reads as element-reads
-use Rattle.value_places.proofs.places.whole.Reads as whole-reads
 
 pub apart-spec : {M : Type 1} → statement M
 unfolding moved lived
@@ -16,9 +12,9 @@ apart-spec =
     (tie.spec
     (λ c κs. search apart-rules)  -- later-requires
     (λ c κs. search apart-rules)  -- is-wide-requires
-    (λ c κs. (search apart-rules, (search apart-rules, (search apart-rules, (search apart-rules, search apart-rules, search apart-rules, search apart-rules)))))  -- keep-requires
+    (λ c κs. (search apart-rules, (search apart-rules, (search apart-rules, ((search apart-rules, search apart-rules, search apart-rules), search apart-rules)))))  -- keep-requires
     (λ c κs. search apart-rules)  -- element-requires
     (λ c. search apart-rules)  -- add-self
     (λ c κs. search apart-rules)  -- whole-requires
-    (λ c. (search apart-rules, (search apart-rules, search apart-rules)))  -- returns
-    (λ c. (search apart-rules, (search apart-rules, search apart-rules))))
+    (λ c. search apart-rules)  -- returns
+    (λ c. search apart-rules))  -- returns-2

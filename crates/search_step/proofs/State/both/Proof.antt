@@ -4,17 +4,12 @@ use Rattle.search_step.specs.Steps.{keptAt, moved}
 use Rattle.search_step.proofs.Laws.{both-rules}
 use Rattle.search_step.proofs.State.both.Statement.{statement}
 use Rattle.search_step.proofs.State.both.Tie as tie
-use Rattle.value_places.proofs.places.narrow.Reads as narrow-reads
 
 pub both-spec : {M : Type 1} → statement M
 unfolding keptAt moved
 both-spec =
     tie.close
     (tie.spec
-    (λ c κs. search both-rules)  -- narrow-requires
-    (λ c. search both-rules)  -- mul-ats
-    (λ c. search both-rules)  -- write-ats
-    (λ c. search both-rules)  -- mul-backs
-    (λ c. search both-rules)  -- write-backs
+    (λ c κs. search both-rules)  -- put-held-requires
     (λ c. search both-rules)  -- add-self
-    (λ c. (refl, (search both-rules, refl))))
+    (λ c. (refl, search both-rules)))  -- returns

@@ -1,9 +1,9 @@
 -- `search_step::State::cut` meets its contract. Assumes nothing.
+use mathlib.Core.Path.{refl}
 use Rattle.search_step.specs.Steps.{lived, topped}
 use Rattle.search_step.proofs.Laws.{cut-rules}
 use Rattle.search_step.proofs.State.cut.Statement.{statement}
 use Rattle.search_step.proofs.State.cut.Tie as tie
-use Rattle.value_places.proofs.places.wide.Reads as wide-reads
 
 pub cut-spec : {M : Type 1} → statement M
 unfolding lived topped
@@ -11,9 +11,7 @@ cut-spec =
     tie.close
     (tie.spec
     (λ c. search cut-rules)  -- mul-wide
-    (λ c. search cut-rules)  -- copy-wide
+    (λ c. search cut-rules)  -- element-copy-out-wide
     (λ c κs. search cut-rules)  -- wide-requires
-    (λ c. search cut-rules)  -- mul-wide-2
-    (λ c. search cut-rules)  -- copy-wide-2
-    (λ c κs. search cut-rules)  -- wide-requires-2
-    (λ c. search cut-rules))
+    (λ c κs. search cut-rules)  -- low-at-requires
+    (λ c. search cut-rules))  -- returns

@@ -1,9 +1,9 @@
 -- `search_step::State::drop` meets its contract. Assumes nothing.
+use mathlib.Core.Path.{refl}
 use Rattle.search_step.specs.Steps.{moved}
 use Rattle.search_step.proofs.Laws.{drop-rules}
 use Rattle.search_step.proofs.State.drop.Statement.{statement}
 use Rattle.search_step.proofs.State.drop.Tie as tie
-use Rattle.value_places.proofs.places.wide.Reads as wide-reads
 
 pub drop-spec : {M : Type 1} → statement M
 unfolding moved
@@ -13,12 +13,8 @@ drop-spec =
     (λ c. search drop-rules)  -- mul-wide
     (λ c. search drop-rules)  -- element-copy-out-wide
     (λ c κs. search drop-rules)  -- wide-requires
+    (λ c κs. search drop-rules)  -- held-at-requires
     (λ c. search drop-rules)  -- mul-wide-2
     (λ c. search drop-rules)  -- element-copy-out-wide-2
     (λ c κs. search drop-rules)  -- wide-requires-2
-    (λ c. search drop-rules)  -- mul-wide-3
-    (λ c. search drop-rules)  -- element-copy-out-wide-3
-    (λ c κs. search drop-rules)  -- wide-requires-3
-    (λ c. search drop-rules)  -- mul-self
-    (λ c. search drop-rules)  -- element-copy-out-self
-    (λ c. search drop-rules))
+    (λ c. search drop-rules))  -- returns

@@ -1,11 +1,9 @@
 -- `search_step::State::sides` meets its contract. Assumes nothing.
+use mathlib.Core.Path.{refl}
 use Rattle.search_step.specs.Steps.{lived}
 use Rattle.search_step.proofs.Laws.{sides-rules}
 use Rattle.search_step.proofs.State.sides.Statement.{statement}
 use Rattle.search_step.proofs.State.sides.Tie as tie
-use Rattle.search_step.proofs.State.both.Reads as both-reads
-use Rattle.search_step.proofs.State.frame.Reads as frame-reads
-use Rattle.search_step.proofs.State.cut.Reads as cut-reads
 
 pub sides-spec : {M : Type 1} → statement M
 unfolding lived
@@ -18,4 +16,4 @@ sides-spec =
     (λ c. search sides-rules)  -- returns-2
     (λ c κs. search sides-rules)  -- cut-requires
     (λ c. search sides-rules)  -- returns-3
-    (λ c. search sides-rules))
+    (λ c. search sides-rules))  -- returns-4

@@ -1,11 +1,9 @@
 -- `search_step::State::split` meets its contract. Assumes nothing.
+use mathlib.Core.Path.{refl}
 use Rattle.search_step.specs.Steps.{splitOf, lived}
 use Rattle.search_step.proofs.Laws.{split-rules}
 use Rattle.search_step.proofs.State.split.Statement.{statement}
 use Rattle.search_step.proofs.State.split.Tie as tie
-use Rattle.search_step.proofs.State.push.Reads as push-reads
-use Rattle.search_atom.proofs.nothing.Reads as nothing-reads
-use Rattle.search_atom.proofs.opens.Reads as opens-reads
 
 pub split-spec : {M : Type 1} → statement M
 unfolding splitOf lived
@@ -16,4 +14,4 @@ split-spec =
     (λ c. search split-rules)  -- returns
     (λ c κs. search split-rules)  -- opens-requires
     (λ c κs. search split-rules)  -- push-requires
-    (λ c. search split-rules))
+    (λ c. search split-rules))  -- returns-2

@@ -1,11 +1,9 @@
 -- `search_step::State::step` meets its contract. Assumes nothing.
+use mathlib.Core.Path.{refl}
 use Rattle.search_step.specs.Steps.{stepOf, stepBy, counted, moved, lived}
 use Rattle.search_step.proofs.Laws.{step-rules}
 use Rattle.search_step.proofs.State.step.Statement.{statement}
 use Rattle.search_step.proofs.State.step.Tie as tie
-use Rattle.search_step.proofs.State.drop.Reads as drop-reads
-use Rattle.search_step.proofs.State.divide.Reads as divide-reads
-use Rattle.search_atom.proofs.passes.Reads as passes-reads
 
 pub step-spec : {M : Type 1} → statement M
 unfolding stepOf stepBy counted moved lived
@@ -16,9 +14,9 @@ step-spec =
     (λ c. search step-rules)  -- add-self
     (λ c. search step-rules)  -- add-self-2
     (λ c. search step-rules)  -- returns
-    (λ c κs. (search step-rules, (search step-rules, search step-rules)))  -- divide-requires
+    (λ c κs. search step-rules)  -- divide-requires
     (λ c. search step-rules)  -- returns-2
     (λ c κs. search step-rules)  -- passes-requires
     (λ c κs. search step-rules)  -- drop-requires
     (λ c. search step-rules)  -- returns-3
-    (λ c. search step-rules))
+    (λ c. search step-rules))  -- returns-4
