@@ -1,0 +1,2 @@
+-- What the proofs of printing use.
+pub mod Laws

@@ -1,0 +1,2 @@
+-- What the proofs of writing use.
+pub mod Laws

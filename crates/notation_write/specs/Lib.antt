@@ -1,0 +1,2 @@
+-- What the contracts of writing cite.
+pub mod Written
