@@ -1,2 +1,3 @@
--- What a test says.
+-- What a test says, and what makes a run sound.
 pub mod Tested
+pub mod Sound
