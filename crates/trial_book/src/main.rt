@@ -1,0 +1,92 @@
+// The program of `./book`: a rule book in a file. Its argument is the file; standard input has what is asked, in the form of the trial program's input:
+//   matcher / pattern / version dialect / badge command
+// It prints a line, a word and two numbers, which `./book` puts into words, and for `list` and `show` the rules.
+mod disc;
+mod keep;
+mod line;
+
+use disc::LARGEST;
+use keep::Request;
+use libc::STDIN_FILENO;
+use line::tell;
+use text_ask::question::Asked;
+use text_ask::question::read_input;
+use words::tag_at;
+ghost use mathlib.Core.Path.{_≡_};
+ghost use Prim.Native.Nat.{_≤_};
+ghost use lib.ListN.{length};
+
+fn table() -> [i32; 2000]
+    ensures { λ r. ⌜ 2000 ≡ length r ⌝ }
+{
+    [0; 2000]
+}
+
+// How many words of a table a line has.
+fn words_of(n: usize) -> usize
+    ensures { λ r. ⌜ r ≤ 2000 ⌝ }
+{
+    if 2000 < n { 2000 } else { n }
+}
+
+fn blank() -> [u8; LARGEST] {
+    [0; LARGEST]
+}
+
+// Reads the book, and does what is asked.
+fn serve(fd: i32, asked: Request, matcher: &[i32], pattern: &[i32]) {
+    let mut book = blank();
+    let n = io::read_full(fd, &mut book);
+    if disc::is_whole(fd, n) {
+        keep::answer(fd, &mut book, n, asked, matcher, pattern);
+    } else {
+        tell(b"unread", 0, 0);
+    }
+}
+
+// Opens the file, which is changed by an add or a withdrawal alone.
+fn open(path: &[u8], asked: Request, matcher: &[i32], pattern: &[i32]) {
+    let fd = disc::open(path, keep::is_change(asked));
+    if fd < 0 {
+        tell(b"unopened", 0, 0);
+        return;
+    }
+    serve(fd, asked, matcher, pattern);
+    libc::close(fd);
+}
+
+// Reads what is asked.
+fn respond(path: &[u8], input: &[u8]) {
+    let mut m = table();
+    let mut p = table();
+    let mut t = table();
+    match read_input(input, &mut m, &mut p, &mut t) {
+        Asked::Other => tell(b"unreadable", 0, 0),
+        Asked::Of {
+            matcher,
+            pattern,
+            target,
+            budget,
+            room,
+        } => {
+            let i = words_of(matcher);
+            let j = words_of(pattern);
+            let asked = Request {
+                version: keep::half(tag_at(&t, 0)),
+                dialect: tag_at(&t, 1),
+                badge: keep::half(budget),
+                command: room,
+            };
+            open(path, asked, &m[..i], &p[..j]);
+        }
+    }
+}
+
+fn main() {
+    let mut path = io::buffer();
+    let n = os::arg(1, &mut path);
+    // One byte more than is read, so that longer input is seen.
+    let mut input = [0u8; 32769];
+    let k = io::read_full(STDIN_FILENO, &mut input);
+    respond(&path[..n], &input[..k]);
+}
