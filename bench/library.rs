@@ -25,6 +25,61 @@ extern "C" {
         numbers: *mut u8,
         numbers_len: usize,
     ) -> u32;
+    fn lozhbinor_book_add(
+        book: *mut u8,
+        book_len: usize,
+        used: u32,
+        version: u16,
+        badge: u16,
+        dialect: u32,
+        matcher: *const i32,
+        matcher_len: usize,
+        pattern: *const i32,
+        pattern_len: usize,
+        numbers: *mut u8,
+        numbers_len: usize,
+    ) -> u32;
+    fn lozhbinor_book_withdraw(
+        book: *mut u8,
+        book_len: usize,
+        used: u32,
+        badge: u16,
+        numbers: *mut u8,
+        numbers_len: usize,
+    ) -> u32;
+    fn lozhbinor_book_total(
+        book: *const u8,
+        book_len: usize,
+        used: u32,
+        numbers: *mut u8,
+        numbers_len: usize,
+    ) -> u32;
+    fn lozhbinor_book_check(
+        book: *const u8,
+        book_len: usize,
+        used: u32,
+        numbers: *mut u8,
+        numbers_len: usize,
+    ) -> u32;
+    fn lozhbinor_book_block(
+        book: *const u8,
+        book_len: usize,
+        block: u32,
+        words: *mut i32,
+        words_len: usize,
+        numbers: *mut u8,
+        numbers_len: usize,
+    ) -> u32;
+    fn lozhbinor_book_read(
+        book: *const u8,
+        book_len: usize,
+        used: u32,
+        badge: u16,
+        words: *mut i32,
+        words_len: usize,
+        numbers: *mut u8,
+        numbers_len: usize,
+    ) -> u32;
 }
 
 /// A byte that no number of a small run has, behind the numbers: it must stay.
@@ -76,6 +131,67 @@ pub fn match_words(matcher: &[i32], pattern: &[i32], target: &[i32], budget: u32
 pub fn review(matcher: &[i32], pattern: &[i32], cap: i32) -> Reviewed {
     let mut bytes = [MARK; 32];
     let answer = call_review([matcher, pattern], cap, &mut bytes);
+    numbers(&bytes, answer)
+}
+
+pub fn book_add(book: &mut [u8], used: u32, version: u16, badge: u16, dialect: u32, rule: [&[i32]; 2]) -> [u64; 3] {
+    let [m, p] = rule;
+    let mut bytes = [MARK; 32];
+    let answer = unsafe {
+        lozhbinor_book_add(
+            book.as_mut_ptr(),
+            book.len(),
+            used,
+            version,
+            badge,
+            dialect,
+            m.as_ptr(),
+            m.len(),
+            p.as_ptr(),
+            p.len(),
+            bytes.as_mut_ptr(),
+            bytes.len(),
+        )
+    };
+    numbers(&bytes, answer)
+}
+
+pub fn book_withdraw(book: &mut [u8], used: u32, badge: u16) -> [u64; 3] {
+    let mut bytes = [MARK; 32];
+    let out = bytes.as_mut_ptr();
+    let answer = unsafe { lozhbinor_book_withdraw(book.as_mut_ptr(), book.len(), used, badge, out, 32) };
+    numbers(&bytes, answer)
+}
+
+/// The total; the test by itself refuses the same, and names the block up to which all is good.
+pub fn book_total(book: &[u8], used: u32) -> [u64; 3] {
+    let mut bytes = [MARK; 32];
+    let answer = unsafe { lozhbinor_book_total(book.as_ptr(), book.len(), used, bytes.as_mut_ptr(), 32) };
+    let told = numbers(&bytes, answer);
+    let [checked, block, _] = book_check(book, used);
+    assert!(checked == told[0] && (block == u64::from(used)) == (answer == 0), "the test of a book");
+    told
+}
+
+/// The refusal of the whole book, and the block that is refused.
+pub fn book_check(book: &[u8], used: u32) -> [u64; 3] {
+    let mut bytes = [MARK; 32];
+    let answer = unsafe { lozhbinor_book_check(book.as_ptr(), book.len(), used, bytes.as_mut_ptr(), 32) };
+    numbers(&bytes, answer)
+}
+
+/// One block by itself: answer, badge, version, dialect, the matcher's length, the pattern's.
+pub fn book_block(book: &[u8], block: u32, words: &mut [i32]) -> [u64; 6] {
+    let mut bytes = [MARK; 56];
+    let (out, len) = (words.as_mut_ptr(), words.len());
+    let answer = unsafe { lozhbinor_book_block(book.as_ptr(), book.len(), block, out, len, bytes.as_mut_ptr(), 56) };
+    numbers(&bytes, answer)
+}
+
+pub fn book_read(book: &[u8], used: u32, badge: u16, words: &mut [i32]) -> [u64; 6] {
+    let mut bytes = [MARK; 56];
+    let (out, len) = (words.as_mut_ptr(), words.len());
+    let answer = unsafe { lozhbinor_book_read(book.as_ptr(), book.len(), used, badge, out, len, bytes.as_mut_ptr(), 56) };
     numbers(&bytes, answer)
 }
 

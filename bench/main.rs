@@ -3,6 +3,7 @@
 //!   bench compare N SEED           N random inputs: the services against the reference
 //!   bench rules                    what is measured: name, bar in tenths of an instruction, for a `step` or a `call`, and what it is
 //!   bench speed CASE ROUNDS WHO    one of them again and again, by `plain`, `tuned` or `library`; prints the steps of one run
+//!   bench listing ROUNDS           a book of 1,000 rules tested and listed again and again; prints the words of its blocks, and the bar
 //!   bench stack                    the deepest stack of a call in bytes, and its bar
 //! The services are the library's, through the C border (built with `--cfg library`), or else those of a slow second program.
 
@@ -11,6 +12,8 @@ mod compare;
 mod inputs;
 #[cfg(library)]
 mod library;
+#[cfg(library)]
+mod listing;
 #[cfg(not(library))]
 mod model;
 mod reference;
@@ -69,7 +72,12 @@ const TESTED: Services = Services {
     review: library::review,
     match_with: None,
     review_with: None,
-    book: None,
+    book: Some(scripts::Book {
+        add: library::book_add,
+        withdraw: library::book_withdraw,
+        total: library::book_total,
+        read: library::book_read,
+    }),
     open: None,
 };
 
@@ -134,6 +142,13 @@ fn run_stack() -> bool {
     true
 }
 
+fn run_listing(rounds: u64) -> bool {
+    #[cfg(library)]
+    println!("{} {}", listing::words(rounds), speed::LISTING_BAR);
+    let _ = rounds;
+    true
+}
+
 fn number(words: &[String], at: usize) -> u64 {
     words.get(at).and_then(|word| word.parse().ok()).unwrap_or_else(|| panic!("a number is missing: {words:?}"))
 }
@@ -153,9 +168,10 @@ fn main() {
         Some("compare") => run_comparison(number(&words, 1), number(&words, 2)),
         Some("rules") => list_rules(),
         Some("speed") if words.len() == 4 => run_speed(&words[1], number(&words, 2), &words[3]),
+        Some("listing") => run_listing(number(&words, 1)),
         Some("stack") => run_stack(),
         Some("recount") => recount(&words[1..]),
-        _ => panic!("bench cases FILE.. | compare N SEED | rules | speed CASE ROUNDS WHO | stack | recount FILE.."),
+        _ => panic!("bench cases FILE.. | compare N SEED | rules | speed CASE ROUNDS WHO | listing ROUNDS | stack | recount FILE.."),
     };
     std::process::exit(if good { 0 } else { 1 });
 }

@@ -24,6 +24,9 @@ pub enum Per {
 /// The deepest stack of a match call that is allowed, in bytes.
 pub const STACK_BAR: usize = 28_672;
 
+/// The most instructions for a word of a book of 1,000 rules that is tested and listed, block by block.
+pub const LISTING_BAR: u64 = 40;
+
 const MULTISET: &[i32] = &[3, 1];
 const LIST: &[i32] = &[2, 1];
 const PAIRS: &[i32] = &[3, 4, 2, 1, 1];

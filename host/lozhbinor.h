@@ -2,10 +2,10 @@
  * library is x86-64 code for Linux; on another machine it runs in an emulator.
  *
  * Every slice is a pointer and a length. Words are signed 32-bit numbers; the
- * lengths of matcher, pattern, target and room count words, that of `numbers`
- * counts bytes. The slices are only read, except `room` and `numbers`, which
- * must not overlap each other or any other slice. A slice of length 0 may have
- * any pointer, null too.
+ * lengths of matcher, pattern, target, room and `words` count words, those of
+ * `numbers` and of a book count bytes. The slices are only read, except `room`,
+ * `words`, `numbers` and a book that is changed, which must not overlap each
+ * other or any other slice. A slice of length 0 may have any pointer, null too.
  *
  * The words, each form a tag and what follows it (docs/RULES.md has examples):
  *   matcher, at most 64 words, four levels of 2, 3 and 4
@@ -100,8 +100,16 @@ enum {
     LOZHBINOR_CAP = 9,          /* review: the cap is outside 0 to 64 */
     LOZHBINOR_TOO_BIG = 10,     /* review: the count passes 4,294,967,295 */
     LOZHBINOR_ALWAYS_TRUE = 11, /* review: no tag of the pattern can fail; before 9 and 10 */
+    LOZHBINOR_BOOK_CHECK = 12,    /* a book: a block's check does not hold */
+    LOZHBINOR_BOOK_NUMBER = 13,   /* a book: a block has another number, or is not lent */
+    LOZHBINOR_BOOK_VERSION = 14,  /* a book: a version other than 1 and 2 */
+    LOZHBINOR_BOOK_FORM = 15,     /* a book: a block or a rule not as laid out, a badge live twice */
+    LOZHBINOR_BOOK_LIVE = 16,     /* add: the badge is live already */
+    LOZHBINOR_BOOK_FULL = 17,     /* add: no withdrawn block and no lent one */
+    LOZHBINOR_BOOK_LONG = 18,     /* add: a rule of over 124 words */
     LOZHBINOR_FORM = 20,        /* there is no such row form; before 1 */
-    LOZHBINOR_SHORT = 24        /* `numbers` is too short; nothing was written */
+    LOZHBINOR_BOOK_NOT_LIVE = 23, /* withdraw: the badge is not live */
+    LOZHBINOR_SHORT = 24        /* a slice for the answer is too short; nothing was written */
 };
 
 /* The numbers of match, and their indices. */
@@ -180,6 +188,72 @@ uint32_t lozhbinor_room(uint32_t form,
                         int32_t cap, uint32_t longest,
                         uint8_t *numbers, size_t numbers_bytes);
 
+/* The rule book (docs/BOOK.md). A book is lent bytes, blocks of 512, of which
+ * the first `used` are in use; bytes after the last whole block are left alone.
+ * Every call but lozhbinor_book_block tests every block in use, and a refused
+ * call changes no byte. */
+enum {
+    LOZHBINOR_BLOCK_BYTES = 512,
+    LOZHBINOR_RULE_WORDS = 124
+};
+
+/* The numbers of add, withdraw, total and check: the answer, a number, and the
+ * blocks in use then. The number is that of the live rules for total, that of
+ * the first block that is refused for check (`used` where none is), else 0. */
+enum {
+    LOZHBINOR_NUMBER = 1,
+    LOZHBINOR_USED = 2,
+    LOZHBINOR_BOOK_NUMBERS = 3,
+    LOZHBINOR_BOOK_BYTES = 24
+};
+
+/* The numbers of read and of a block: read has 1 where the badge is live and 0
+ * where it is not, a block its badge, 0 where it is withdrawn; then what the
+ * rule is, all 0 where there is none. */
+enum {
+    LOZHBINOR_FOUND = 1,
+    LOZHBINOR_BADGE = 1,
+    LOZHBINOR_RULE_VERSION = 2,
+    LOZHBINOR_RULE_DIALECT = 3,
+    LOZHBINOR_RULE_MATCHER = 4, /* words of the matcher, at the start of `words` */
+    LOZHBINOR_RULE_PATTERN = 5, /* words of the pattern, behind them */
+    LOZHBINOR_RULE_NUMBERS = 6,
+    LOZHBINOR_RULE_BYTES = 48
+};
+
+/* A new rule: into the lowest withdrawn block, or the book grows by one. */
+uint32_t lozhbinor_book_add(uint8_t *book, size_t book_bytes, uint32_t used,
+                            uint16_t version, uint16_t badge, uint32_t dialect,
+                            const int32_t *matcher, size_t matcher_words,
+                            const int32_t *pattern, size_t pattern_words,
+                            uint8_t *numbers, size_t numbers_bytes);
+
+/* A badge withdrawn: its block stays, empty, and keeps its version. */
+uint32_t lozhbinor_book_withdraw(uint8_t *book, size_t book_bytes, uint32_t used,
+                                 uint16_t badge,
+                                 uint8_t *numbers, size_t numbers_bytes);
+
+/* The number of live rules. */
+uint32_t lozhbinor_book_total(const uint8_t *book, size_t book_bytes, uint32_t used,
+                              uint8_t *numbers, size_t numbers_bytes);
+
+/* The test that every call makes, and where it fails. */
+uint32_t lozhbinor_book_check(const uint8_t *book, size_t book_bytes, uint32_t used,
+                              uint8_t *numbers, size_t numbers_bytes);
+
+/* A live rule by its badge. `words` has room for the longest rule, 124 words,
+ * or the answer is 24; the words after the rule are left alone. */
+uint32_t lozhbinor_book_read(const uint8_t *book, size_t book_bytes, uint32_t used,
+                             uint16_t badge,
+                             int32_t *words, size_t words_words,
+                             uint8_t *numbers, size_t numbers_bytes);
+
+/* One block by itself, whatever stands in the others: a book that was checked
+ * once is listed block by block. 13 where the block is not lent. */
+uint32_t lozhbinor_book_block(const uint8_t *book, size_t book_bytes, uint32_t block,
+                              int32_t *words, size_t words_words,
+                              uint8_t *numbers, size_t numbers_bytes);
+
 /* The number with this index, of those that a call has written. */
 static inline uint64_t lozhbinor_number(const uint8_t *numbers, size_t index)
 {
@@ -255,7 +329,15 @@ static inline const char *lozhbinor_answer_name(uint32_t answer)
     case LOZHBINOR_CAP: return "cap";
     case LOZHBINOR_TOO_BIG: return "too big";
     case LOZHBINOR_ALWAYS_TRUE: return "always true";
+    case LOZHBINOR_BOOK_CHECK: return "check";
+    case LOZHBINOR_BOOK_NUMBER: return "block number";
+    case LOZHBINOR_BOOK_VERSION: return "version";
+    case LOZHBINOR_BOOK_FORM: return "block form";
+    case LOZHBINOR_BOOK_LIVE: return "live already";
+    case LOZHBINOR_BOOK_FULL: return "no block";
+    case LOZHBINOR_BOOK_LONG: return "too long";
     case LOZHBINOR_FORM: return "form";
+    case LOZHBINOR_BOOK_NOT_LIVE: return "not live";
     case LOZHBINOR_SHORT: return "short";
     default: return "no answer";
     }

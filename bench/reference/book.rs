@@ -88,6 +88,21 @@ fn opened(book: &[u8], used: u32) -> Result<Vec<Option<Rule>>, u64> {
     Ok(rules)
 }
 
+/// A rule as block `at`, whatever stands there and in the others.
+fn lay(book: &mut [u8], at: usize, new: &Rule) {
+    let n = new.matcher.len() + new.pattern.len();
+    let mut words = [0; 256];
+    words[..4].copy_from_slice(&[at as u16, new.version, new.badge, n as u16]);
+    words[4] = new.matcher.len() as u16 | if new.dialect == 2 { 0x8000 } else { 0 };
+    for (k, &word) in new.matcher.iter().chain(&new.pattern).enumerate() {
+        words[5 + 2 * k] = word as u16;
+        words[6 + 2 * k] = (word as u32 >> 16) as u16;
+    }
+    let sum = check(&words);
+    words[CHECK..].copy_from_slice(&sum);
+    store(book, at, &words);
+}
+
 fn added(book: &mut [u8], used: u32, new: Rule) -> Result<u32, u64> {
     let rules = opened(book, used)?;
     if !(1..=2).contains(&new.version) {
@@ -108,16 +123,7 @@ fn added(book: &mut [u8], used: u32, new: Rule) -> Result<u32, u64> {
     if at > 65535 || block(book, at).is_none() {
         return Err(NO_BLOCK);
     }
-    let mut words = [0; 256];
-    words[..4].copy_from_slice(&[at as u16, new.version, new.badge, n as u16]);
-    words[4] = new.matcher.len() as u16 | if new.dialect == 2 { 0x8000 } else { 0 };
-    for (k, &word) in new.matcher.iter().chain(&new.pattern).enumerate() {
-        words[5 + 2 * k] = word as u16;
-        words[6 + 2 * k] = (word as u32 >> 16) as u16;
-    }
-    let sum = check(&words);
-    words[CHECK..].copy_from_slice(&sum);
-    store(book, at, &words);
+    lay(book, at, &new);
     Ok(used.max(at as u32 + 1))
 }
 
@@ -132,6 +138,17 @@ fn withdrawn(book: &mut [u8], used: u32, badge: u16) -> Result<u32, u64> {
     words[CHECK..].copy_from_slice(&sum);
     store(book, at, &words);
     Ok(used)
+}
+
+#[cfg(library)]
+/// A book of one block for each pattern, under one matcher, with badges from 1 on.
+pub fn bound(matcher: &[i32], patterns: &[Vec<i32>]) -> Vec<u8> {
+    let mut book = vec![0; BLOCK * patterns.len()];
+    for (at, pattern) in patterns.iter().enumerate() {
+        let (matcher, pattern) = (matcher.to_vec(), pattern.clone());
+        lay(&mut book, at, &Rule { version: 1, badge: at as u16 + 1, dialect: 1, matcher, pattern });
+    }
+    book
 }
 
 /// Answer, number, blocks in use.

@@ -3,3 +3,4 @@ pub mod Services
 pub mod Border
 pub mod Lines
 pub mod Rooms
+pub mod Books

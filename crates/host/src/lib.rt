@@ -1,4 +1,5 @@
 // Document 01, section 1: the border to C. Words cross as slices of i32; the answer's numbers go to a lent slice of bytes.
+mod books;
 mod rooms;
 
 use services::matching::match_units;

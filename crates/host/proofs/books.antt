@@ -1,0 +1,2 @@
+-- The calls on a rule book.
+pub mod Calls
