@@ -1,9 +1,10 @@
 -- The size and the words of held values and of rows, as the code asks. Assumes nothing.
-use mathlib.Core.Path.{_≡_, refl, sym, _∙_, ap}
+use mathlib.Core.Path.{_≡_, refl, sym, _∙_, ap, ap₂}
+use mathlib.Core.Bool.{Bool, true, false}
 use mathlib.Core.List.{List, [], _∷_, _++_, map}
 use Prim.Native.Nat.{ℕ, zero, suc, _+_, _-_, _*_, _/_, _%_, _^_, _<_, _≤_}
 use native.Mathlib.Decide.{decLt}
-use native.Mathlib.Nat.{suc-mul, mul-le-mul}
+use native.Mathlib.Nat.{suc-mul, mul-le-mul, le-refl, le-suc}
 use native.Mathlib.Numerals.{add-one}
 use native.Mathlib.Omega.{arith}
 use borrow.Author.Needs.{needs}
@@ -14,7 +15,7 @@ use lib.Count.{ones, trailingZeros}
 use mir.Syntax.{w64}
 use mir.Val.{Fits}
 use Rattle.rules.specs.Forms.{Value, int, collection, Values, empty, _▸_, words, wordsAll, size, sizeAll}
-use Rattle.rules.specs.Rows.{asWords, told, row}
+use Rattle.rules.specs.Rows.{Form, asWords, asOrigins, bits, told, row}
 use Rattle.words.specs.Words.{tagAt}
 use Rattle.words.specs.Marks.{clear}
 use Rattle.words.specs.Marked.{marked}
@@ -23,13 +24,13 @@ use Rattle.words.proofs.marks.Marked.{count-marked}
 use Rattle.value_places.specs.Places.{valueAt, elements, countAt, Target, Tag, elementAt}
 use Rattle.value_places.specs.Tables.{Ends, Places}
 use Rattle.value_places.specs.Held.{Held, heldAt, left, sizeLeft, wordsLeft, put, part}
-use Rattle.value_rows.specs.Row.{originOf, bound, boundFrom, nothing, Bound}
+use Rattle.value_rows.specs.Row.{originOf, formBy, toldAt, bound, boundFrom, nothing, Bound}
 use Rattle.value_rows.specs.declared.Binding.{Binding}
 use Rattle.forms.specs.Written.{length-words}
 use Rattle.value_places.proofs.Forest.{is-here, two-words}
 use Rattle.value_places.proofs.Elements.{second, by-tag, int-at, collection-at, tag-small, slice-words}
 use Rattle.value_places.proofs.Held.{held-int, held-collection, held-tuple, held-tag, held-clear, held-some, left-none, next-in, next-less, next-tag, next-left}
-use Rattle.value_places.proofs.Origins.{plain-origin}
+use Rattle.value_places.proofs.Origins.{plain-origin, origin-index, origin-marks}
 use Rattle.value_places.proofs.Filling.{find-half, find-half-mul}
 use Rattle.value_rows.proofs.Room.{length-put, put-append, put-none}
 
@@ -210,6 +211,54 @@ put-two-room s at m from l b = omega (arith, two-words (heldAt s at m))
 
 pub ruleset put-rules = (tag-small, kept-room, kept-end, kept-words, put-collection, put-collection-end, put-collection-room, put-two-room, held-tag, length-put, needs)
 
+-- ---- What a row tells of a held value.
+
+told-words : (s : List ℤ) (at m : ℕ) → toldAt asWords s at m ≡ words (heldAt s at m)
+unfolding toldAt told
+told-words s at m = ap words (plain-origin s at m 0)
+
+words-size : (s : List ℤ) (at m : ℕ) → length (toldAt asWords s at m) ≡ size (heldAt s at m)
+words-size s at m = ap length (told-words s at m) ∙ length-words (heldAt s at m)
+
+told-origin : (s : List ℤ) (at m : ℕ) → Target s → Held s at m → toldAt asOrigins s at m ≡ pos at ∷ bits (m % 2 ^ 32) ∷ bits (m / 2 ^ 32) ∷ []
+unfolding toldAt told
+told-origin s at m g w = ap₂ (λ (a n : ℕ). pos a ∷ bits (n % 2 ^ 32) ∷ bits (n / 2 ^ 32) ∷ []) (origin-index s at m 0) (origin-marks s at m 0 g w)
+
+three : (s : List ℤ) (at m : ℕ) → length (toldAt asOrigins s at m) ≡ 3
+unfolding toldAt told
+three s at m = refl
+
+module _ (o : Bool) (s : List ℤ) (at m from : ℕ) where
+  pub entry-origin-room : (l : ℕ) → o ≡ true → from + length (toldAt (formBy o) s at m) ≤ l → from + 3 ≤ l
+  unfolding formBy
+  entry-origin-room l e h = omega (arith, three s at m, rw e at h)
+
+  pub entry-origin-end : (r : ℕ) → o ≡ true → r ≡ from + 3 → r ≡ from + length (toldAt (formBy o) s at m)
+  unfolding formBy
+  entry-origin-end r e i = rw e (omega (arith, i, three s at m))
+
+  pub entry-origin : (room room′ : List ℤ) → o ≡ true → Target s → Held s at m → room′ ≡ put room from (pos at ∷ bits (m % 2 ^ 32) ∷ bits (m / 2 ^ 32) ∷ [])
+      → room′ ≡ put room from (toldAt (formBy o) s at m)
+  unfolding formBy
+  entry-origin room room′ e g w i = i ∙ rw e (ap (put room from) (sym (told-origin s at m g w)))
+
+  pub entry-words-room : (l : ℕ) → o ≡ false → from + length (toldAt (formBy o) s at m) ≤ l → from + size (heldAt s at m) ≤ l
+  unfolding formBy
+  entry-words-room l e h = omega (arith, words-size s at m, rw e at h)
+
+  pub entry-words-end : (r : ℕ) → o ≡ false → r ≡ from + size (heldAt s at m) → r ≡ from + length (toldAt (formBy o) s at m)
+  unfolding formBy
+  entry-words-end r e i = rw e (omega (arith, i, words-size s at m))
+
+  pub entry-words : (room room′ : List ℤ) → o ≡ false → room′ ≡ put room from (words (heldAt s at m)) → room′ ≡ put room from (toldAt (formBy o) s at m)
+  unfolding formBy
+  entry-words room room′ e i = i ∙ rw e (ap (put room from) (sym (told-words s at m)))
+
+pub held-1024 : (s : List ℤ) (at m : ℕ) → Target s → Held s at m → at < 1024
+held-1024 s at m g w = omega (arith, w .tag .inside, g .short)
+
+pub ruleset entry-rules = (entry-origin-room, entry-origin-end, entry-origin, entry-words-room, entry-words-end, entry-words, held-1024, length-put, needs)
+
 -- ---- The row.
 
 module _ (s : List ℤ) (b : List Binding) (n v : ℕ) (q : Bound s b n) (h : v < n) where
@@ -222,33 +271,34 @@ module _ (s : List ℤ) (b : List Binding) (n v : ℕ) (q : Bound s b n) (h : v 
   pub row-mul : Fits w64 (v * 16)
   row-mul = let z = row-16 in record { fits = omega arith }
 
-  row-step : row asWords (boundFrom s b v n) ≡ words (heldAt s (getD b v nothing .at) (getD b v nothing .marks)) ++ row asWords (boundFrom s b (v + 1) n)
-  unfolding boundFrom originOf told row
-  row-step =
-      let l : v < length (take n b) = rw length-take (omega (arith, q .most, q .long)) in
-      rw (drop-cons (take n b) v nothing l, getD-take n b v nothing h, add-one v, plain-origin s (getD b v nothing .at) (getD b v nothing .marks) 0)
+  module _ (form : Form) where
+    row-step : row form (boundFrom s b v n) ≡ toldAt form s (getD b v nothing .at) (getD b v nothing .marks) ++ row form (boundFrom s b (v + 1) n)
+    unfolding boundFrom originOf toldAt row
+    row-step =
+        let l : v < length (take n b) = rw length-take (omega (arith, q .most, q .long)) in
+        rw (drop-cons (take n b) v nothing l, getD-take n b v nothing h, add-one v)
 
-  step-length : length (row asWords (boundFrom s b v n)) ≡ size (heldAt s (getD b v nothing .at) (getD b v nothing .marks)) + length (row asWords (boundFrom s b (v + 1) n))
-  step-length =
-      let x = heldAt s (getD b v nothing .at) (getD b v nothing .marks) in
-      ap length row-step ∙ length-append (words x) (row asWords (boundFrom s b (v + 1) n)) ∙ ap (λ (k : ℕ). k + length (row asWords (boundFrom s b (v + 1) n))) (length-words x)
+    step-length : length (row form (boundFrom s b v n)) ≡ length (toldAt form s (getD b v nothing .at) (getD b v nothing .marks)) + length (row form (boundFrom s b (v + 1) n))
+    step-length = ap length row-step ∙ length-append (toldAt form s (getD b v nothing .at) (getD b v nothing .marks)) (row form (boundFrom s b (v + 1) n))
 
-  pub row-room : (o y l : ℕ) → y ≡ o + length (row asWords (boundFrom s b v n)) → y ≤ l → o + size (heldAt s (getD b v nothing .at) (getD b v nothing .marks)) ≤ l
-  row-room o y l i k = omega (arith, step-length)
+    pub row-room : (o y l : ℕ) → y ≡ o + length (row form (boundFrom s b v n)) → y ≤ l → o + length (toldAt form s (getD b v nothing .at) (getD b v nothing .marks)) ≤ l
+    row-room o y l i k = omega (arith, step-length)
 
-  pub row-turn-size : (o o′ y : ℕ) → y ≡ o + length (row asWords (boundFrom s b v n)) → o′ ≡ o + size (heldAt s (getD b v nothing .at) (getD b v nothing .marks))
-      → y ≡ o′ + length (row asWords (boundFrom s b (v + 1) n))
-  row-turn-size o o′ y i k = omega (arith, step-length)
+    pub row-turn-size : (o o′ y : ℕ) → y ≡ o + length (row form (boundFrom s b v n)) → o′ ≡ o + length (toldAt form s (getD b v nothing .at) (getD b v nothing .marks))
+        → y ≡ o′ + length (row form (boundFrom s b (v + 1) n))
+    row-turn-size o o′ y i k = omega (arith, step-length)
 
-  pub row-turn : (room room′ x : List ℤ) (o o′ : ℕ) → x ≡ put room o (row asWords (boundFrom s b v n)) → o′ ≡ o + size (heldAt s (getD b v nothing .at) (getD b v nothing .marks))
-      → room′ ≡ put room o (words (heldAt s (getD b v nothing .at) (getD b v nothing .marks))) → x ≡ put room′ o′ (row asWords (boundFrom s b (v + 1) n))
-  row-turn room room′ x o o′ i k j =
-      let y = heldAt s (getD b v nothing .at) (getD b v nothing .marks) in
-      i ∙ rw (k, j, ← length-words y, row-step) (put-append (words y) (row asWords (boundFrom s b (v + 1) n)) room o)
+    pub row-turn : (room room′ x : List ℤ) (o o′ : ℕ) → x ≡ put room o (row form (boundFrom s b v n)) → o′ ≡ o + length (toldAt form s (getD b v nothing .at) (getD b v nothing .marks))
+        → room′ ≡ put room o (toldAt form s (getD b v nothing .at) (getD b v nothing .marks)) → x ≡ put room′ o′ (row form (boundFrom s b (v + 1) n))
+    row-turn room room′ x o o′ i k j =
+        i ∙ rw (k, j, row-step) (put-append (toldAt form s (getD b v nothing .at) (getD b v nothing .marks)) (row form (boundFrom s b (v + 1) n)) room o)
 
-row-none : (s : List ℤ) (b : List Binding) (n v : ℕ) → Bound s b n → n ≤ v → row asWords (boundFrom s b v n) ≡ []
+  words-length : length (row asWords (boundFrom s b v n)) ≡ size (heldAt s (getD b v nothing .at) (getD b v nothing .marks)) + length (row asWords (boundFrom s b (v + 1) n))
+  words-length = step-length asWords ∙ ap (λ (k : ℕ). k + length (row asWords (boundFrom s b (v + 1) n))) (words-size s (getD b v nothing .at) (getD b v nothing .marks))
+
+row-none : (form : Form) (s : List ℤ) (b : List Binding) (n v : ℕ) → Bound s b n → n ≤ v → row form (boundFrom s b v n) ≡ []
 unfolding boundFrom row
-row-none s b n v q h = ap (λ (l : List Binding). row asWords (map (originOf s) l)) (all-dropped (take n b) v (rw length-take (omega (arith, q .most, q .long))))
+row-none form s b n v q h = ap (λ (l : List Binding). row form (map (originOf s) l)) (all-dropped (take n b) v (rw length-take (omega (arith, q .most, q .long))))
   where
     all-dropped : (l : List Binding) (k : ℕ) → length l ≤ k → drop k l ≡ []
     all-dropped [] zero h = refl
@@ -256,24 +306,24 @@ row-none s b n v q h = ap (λ (l : List Binding). row asWords (map (originOf s) 
     all-dropped (x ∷ l) zero h = absurd (omega arith)
     all-dropped (x ∷ l) (suc k) h = all-dropped l k (omega arith)
 
-pub row-out : (s room x : List ℤ) (b : List Binding) (n v o : ℕ) → Bound s b n → x ≡ put room o (row asWords (boundFrom s b v n)) → n ≤ v → room ≡ x
-row-out s room x b n v o q i h = sym (i ∙ rw (row-none s b n v q h) (put-none room o))
+pub row-out : (form : Form) (s room x : List ℤ) (b : List Binding) (n v o : ℕ) → Bound s b n → x ≡ put room o (row form (boundFrom s b v n)) → n ≤ v → room ≡ x
+row-out form s room x b n v o q i h = sym (i ∙ rw (row-none form s b n v q h) (put-none room o))
 
-pub row-out-size : (s : List ℤ) (b : List Binding) (n v o y : ℕ) → Bound s b n → y ≡ o + length (row asWords (boundFrom s b v n)) → n ≤ v → o ≡ y
-row-out-size s b n v o y q i h = omega (arith, ap length (row-none s b n v q h))
+pub row-out-size : (form : Form) (s : List ℤ) (b : List Binding) (n v o y : ℕ) → Bound s b n → y ≡ o + length (row form (boundFrom s b v n)) → n ≤ v → o ≡ y
+row-out-size form s b n v o y q i h = omega (arith, ap length (row-none form s b n v q h))
 
-module _ (s : List ℤ) (b : List Binding) (n : ℕ) where
-  row-start : row asWords (bound s b n) ≡ row asWords (boundFrom s b 0 n)
+module _ (form : Form) (s : List ℤ) (b : List Binding) (n : ℕ) where
+  row-start : row form (bound s b n) ≡ row form (boundFrom s b 0 n)
   unfolding bound boundFrom
   row-start = refl
 
-  pub row-start-size : (o : ℕ) → o + length (row asWords (bound s b n)) ≡ o + length (row asWords (boundFrom s b 0 n))
+  pub row-start-size : (o : ℕ) → o + length (row form (bound s b n)) ≡ o + length (row form (boundFrom s b 0 n))
   row-start-size o = rw row-start
 
-  pub row-start-sum : length (row asWords (bound s b n)) ≡ 0 + length (row asWords (boundFrom s b 0 n))
+  pub row-start-sum : length (row form (bound s b n)) ≡ 0 + length (row form (boundFrom s b 0 n))
   row-start-sum = omega (arith, ap length row-start)
 
-  pub row-start-room : (room : List ℤ) (o : ℕ) → put room o (row asWords (bound s b n)) ≡ put room o (row asWords (boundFrom s b 0 n))
+  pub row-start-room : (room : List ℤ) (o : ℕ) → put room o (row form (bound s b n)) ≡ put room o (row form (boundFrom s b 0 n))
   row-start-room room o = rw row-start
 
 -- ---- The size of the row.
@@ -287,17 +337,53 @@ held-within s at m g w = by-tag s at g (w .tag) _
 -- A row has no more words than its variables have targets.
 module _ (s : List ℤ) (b : List Binding) (n : ℕ) (q : Bound s b n) (g : Target s) where
   row-most : (k v : ℕ) → v + k ≡ n → length (row asWords (boundFrom s b v n)) ≤ k * length s
-  row-most zero v e = rw (row-none s b n v q (omega arith)) (omega arith)
+  row-most zero v e = rw (row-none asWords s b n v q (omega arith)) (omega arith)
   row-most (suc k) v e =
       let h : v < n = omega arith in
       rw (suc-mul k (length s))
-      (omega (arith, step-length s b n v q h, held-within s (getD b v nothing .at) (getD b v nothing .marks) g (q .are v h), row-most k (v + 1) (omega arith)))
+      (omega (arith, words-length s b n v q h, held-within s (getD b v nothing .at) (getD b v nothing .marks) g (q .are v h), row-most k (v + 1) (omega arith)))
 
-  pub row-within : length (row asWords (bound s b n)) ≤ n * length s
-  row-within = rw (row-start s b n) (row-most n 0 (omega arith))
+  words-within : length (row asWords (bound s b n)) ≤ n * length s
+  words-within = rw (row-start asWords s b n) (row-most n 0 (omega arith))
 
-pub targets-fit : (s : List ℤ) (n : ℕ) → Target s → n ≤ 16 → Fits w64 (n * length s)
-targets-fit s n g h = let l : n * length s ≤ 16 * 1024 = mul-le-mul h (g .short) in record { fits = omega arith }
+  origins-are : (k v : ℕ) → v + k ≡ n → length (row asOrigins (boundFrom s b v n)) ≡ 3 * k
+  origins-are zero v e = rw (row-none asOrigins s b n v q (omega arith)) (omega arith)
+  origins-are (suc k) v e =
+      let h : v < n = omega arith in
+      omega (arith, step-length s b n v q h asOrigins, three s (getD b v nothing .at) (getD b v nothing .marks), origins-are k (v + 1) (omega arith))
+
+  three-each : length (row asOrigins (bound s b n)) ≡ 3 * n
+  three-each = rw (row-start asOrigins s b n) (origins-are n 0 (omega arith))
+
+  -- In either form a row has no more words than its variables have targets with one word more. (A target has two words.)
+  pub row-within : (form : Form) → 0 < length s → length (row form (bound s b n)) ≤ n * (length s + 1)
+  row-within asWords l = omega (arith, words-within, mul-le-mul (le-refl n) (le-suc (length s)))
+  row-within asOrigins l =
+      let t : 3 ≤ length s + 1 = omega (arith, second s 0 g (record { even = refl; inside = l })) in
+      omega (arith, three-each, mul-le-mul (le-refl n) t)
+
+pub targets-fit : (s : List ℤ) (n : ℕ) → Target s → n ≤ 16 → Fits w64 (n * (length s + 1))
+targets-fit s n g h =
+    let k : length s + 1 ≤ 1025 = omega (arith, g .short) in
+    let l : n * (length s + 1) ≤ 16 * 1025 = mul-le-mul h k in
+    record { fits = omega arith }
+
+pub target-fits : (s : List ℤ) → Target s → Fits w64 (length s + 1)
+target-fits s g = record { fits = omega (arith, g .short) }
+
+module _ (o : Bool) (s : List ℤ) (b : List Binding) (n : ℕ) where
+  pub size-origins : (r : ℕ) → Target s → Bound s b n → o ≡ true → 3 * n ≡ length (row (formBy o) (bound s b n))
+  unfolding formBy
+  size-origins r g q e = rw e (sym (three-each s b n q g))
+
+  pub size-words : (r : ℕ) → o ≡ false → r ≡ length (row asWords (bound s b n)) → r ≡ length (row (formBy o) (bound s b n))
+  unfolding formBy
+  size-words r e i = rw e i
+
+pub three-fit : (s : List ℤ) (b : List Binding) (n : ℕ) → Bound s b n → Fits w64 (3 * n)
+three-fit s b n q = record { fits = omega (arith, q .most) }
+
+pub ruleset form-size-rules = (size-origins, size-words, three-fit, needs)
 
 module _ (s : List ℤ) (b : List Binding) (n v k r : ℕ) (q : Bound s b n) (h : v < n) (g : Target s)
     (e : r ≡ size (heldAt s (getD b v nothing .at) (getD b v nothing .marks))) where
@@ -311,6 +397,12 @@ module _ (s : List ℤ) (b : List Binding) (n v k r : ℕ) (q : Bound s b n) (h 
   sum-bound a = omega (arith, small)
 
   pub sum-turn : (y : ℕ) → y ≡ k + length (row asWords (boundFrom s b v n)) → y ≡ k + r + length (row asWords (boundFrom s b (v + 1) n))
-  sum-turn y i = omega (arith, step-length s b n v q h)
+  sum-turn y i = omega (arith, words-length s b n v q h)
 
-pub ruleset sum-rules = (sum-fits, sum-bound, sum-turn, row-held, row-16, row-mul, row-out-size, row-start-sum, needs)
+pub words-out-size : (s : List ℤ) (b : List Binding) (n v o y : ℕ) → Bound s b n → y ≡ o + length (row asWords (boundFrom s b v n)) → n ≤ v → o ≡ y
+words-out-size = row-out-size asWords
+
+pub words-start-sum : (s : List ℤ) (b : List Binding) (n : ℕ) → length (row asWords (bound s b n)) ≡ 0 + length (row asWords (boundFrom s b 0 n))
+words-start-sum = row-start-sum asWords
+
+pub ruleset sum-rules = (sum-fits, sum-bound, sum-turn, row-held, row-16, row-mul, words-out-size, words-start-sum, needs)

@@ -1,11 +1,13 @@
 -- The values that the variables are bound to.
 use Prim.Native.Nat.{ℕ, _<_, _≤_}
 use mathlib.Core.Path.{_≡_}
+use mathlib.Core.Bool.{Bool, true, false}
 use mathlib.Core.List.{List, map}
 use lib.ListN.{length, getD, take, drop}
 use lib.IntN.{ℤ}
 use Rattle.rules.specs.Origins.{Valueᵒ, Bindings}
 use Rattle.rules.specs.Forms.{Value}
+use Rattle.rules.specs.Rows.{Form, asWords, asOrigins, told}
 use Rattle.value_places.specs.Held.{heldAt, Held}
 use Rattle.value_places.specs.Origins.{originAt}
 use Rattle.value_rows.specs.declared.Binding.{Binding}
@@ -27,6 +29,15 @@ bound s b n = map (originOf s) (take n b)
 unfoldable pub boundFrom : List ℤ → List Binding → ℕ → ℕ → Bindings
 unfolding originOf
 boundFrom s b v n = map (originOf s) (drop v (take n b))
+
+-- The form of a row, by whether it tells origins; and what it tells of the value held at an index by marks.
+unfoldable pub formBy : Bool → Form
+formBy true = asOrigins
+formBy false = asWords
+
+unfoldable pub toldAt : Form → List ℤ → (at m : ℕ) → List ℤ
+unfolding told originAt
+toldAt form s at m = told form (originAt s at m 0)
 
 abbrev pub nothing : Binding
 nothing = record { at = 0; marks = 0 }

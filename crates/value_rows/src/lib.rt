@@ -1,5 +1,8 @@
 // Document 01, section 4, Row: the values of the variables, each in target form, elements in target order. The size is known before a word is
 // written, and no other word of the room is touched.
+pub mod origins;
+
+use origins::put_origin;
 use value_places::places::element;
 use value_places::places::number_at;
 use value_places::places::wide;
@@ -17,7 +20,7 @@ ghost use Rattle.rules.specs.Rows.{asWords, row};
 ghost use Rattle.value_places.specs.Places.{valueAt, Target, Tag};
 ghost use Rattle.value_places.specs.Tables.{Ends, Places};
 ghost use Rattle.value_places.specs.Held.{Held, heldAt, sizeLeft, wordsLeft, put, part};
-ghost use Rattle.value_rows.specs.Row.{bound, Bound};
+ghost use Rattle.value_rows.specs.Row.{formBy, toldAt, bound, Bound};
 
 // What a variable is bound to: the index of a tag in the target, and marks.
 pub struct Binding {
@@ -159,8 +162,29 @@ pub fn put_value(
     put_left(s, ends, base, places, at, m, room, from + 2)
 }
 
-// How many words the row has of which n variables are bound.
-pub fn row_size(
+// What a row tells of a held value, written into the room from an index on: its words, or its origin.
+pub fn put_entry(
+    origins: bool,
+    s: &[i32],
+    ends: &[u16; 512],
+    base: &[u16; 512],
+    places: &[u16; 512],
+    at: usize,
+    m: u64,
+    room: &mut [i32],
+    from: usize,
+) -> usize
+    requires { ⌜ Target (now s) ⌝ ∗ ⌜ Ends (now s) (now ends) ⌝ ∗ ⌜ Places (now s) (now base) (now places) ⌝ ∗ ⌜ Held (now s) at m ⌝ ∗ ⌜ from + length (toldAt (formBy origins) (now s) at m) ≤ length (now room) ⌝ }
+    ensures { λ r. ⌜ (r ≡ from + length (toldAt (formBy origins) (now (s .entry)) at m)) × (now (room .exit) ≡ put (now (room .entry)) from (toldAt (formBy origins) (now (s .entry)) at m)) ⌝ }
+{
+    if origins {
+        return put_origin(at, m, room, from);
+    }
+    put_value(s, ends, base, places, at, m, room, from)
+}
+
+// How many words the row has in form 1, of which n variables are bound.
+fn words_size(
     s: &[i32],
     ends: &[u16; 512],
     base: &[u16; 512],
@@ -181,4 +205,23 @@ pub fn row_size(
         v += 1;
     }
     size
+}
+
+// How many words the row has of which n variables are bound; in form 2 three for each.
+pub fn row_size(
+    origins: bool,
+    s: &[i32],
+    ends: &[u16; 512],
+    base: &[u16; 512],
+    places: &[u16; 512],
+    b: [Binding; 16],
+    n: usize,
+) -> usize
+    requires { ⌜ Target (now s) ⌝ ∗ ⌜ Ends (now s) (now ends) ⌝ ∗ ⌜ Places (now s) (now base) (now places) ⌝ ∗ ⌜ Bound (now s) b n ⌝ }
+    ensures { λ r. ⌜ r ≡ length (row (formBy origins) (bound (now (s .entry)) b n)) ⌝ }
+{
+    if origins {
+        return 3 * n;
+    }
+    words_size(s, ends, base, places, b, n)
 }
