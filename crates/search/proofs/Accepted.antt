@@ -1,4 +1,4 @@
--- For input that is accepted: the compiler's arrays are fine, the target stands, and a search of them tells what `match` is.
+-- For input that is accepted: the compiler's arrays are fine, the target stands, and a search of them tells what a match in its form is.
 use Prim.Native.Nat.{ℕ, zero, suc, _+_, _-_, _<_, _≤_}
 use native.Mathlib.Omega.{arith}
 use mathlib.Core.Path.{_≡_, refl, sym, ap, _∙_}
@@ -9,8 +9,8 @@ use lib.Dec.{ltb}
 use lib.ListN.{length, getD}
 use lib.IntN.{ℤ}
 use Rattle.rules.specs.Forms.{Value}
-use Rattle.rules.specs.Services.{Rule, Matched, match}
-use Rattle.rules.specs.Rows.{asWords}
+use Rattle.rules.specs.Services.{Rule, Matched, matchIn}
+use Rattle.rules.specs.Rows.{Form}
 use Rattle.forms.specs.ReadPattern.{pattern-read}
 use Rattle.forms.specs.Faults.{Sane, match-ran}
 use Rattle.words.specs.Words.{entries}
@@ -31,7 +31,7 @@ module _ (ms ps ts : List ℤ) (r : Rule) (v : Value) (sane : Sane ms ps ts r v)
   pub accepted-some : 0 < length ts
   accepted-some = read-tag ts v (sane .target .target) .inside
 
-module _ (ms ts : List ℤ) (r : Rule) (n : ℕ) (op from to arg mat : List ℕ) (con : List ℤ) (holds : Holds ms r n (columns op from arg mat con) to) where
+module _ (ms ts : List ℤ) (r : Rule) (n : ℕ) (op from to arg mat : List ℕ) (con : List ℤ) (form : Form) (holds : Holds ms r n (columns op from arg mat con) to) where
   -- A line that is no end is one of the program's.
   among : (i : ℕ) → (getD op i 0 ≡ 0 → ⊥) → i ≤ 639
   unfolding lineIn
@@ -46,7 +46,7 @@ module _ (ms ts : List ℤ) (r : Rule) (n : ℕ) (op from to arg mat : List ℕ)
   parts-fit i zero b e = let h = among i (λ z. omega arith) in omega arith
   parts-fit i (suc k) b e = among (i + suc k) (λ z. let h : getD op (i + suc k) 0 ≡ 1 = holds .reserved i (suc k) (omega arith) (omega arith) (omega arith) in omega arith)
 
-  pub accepted-fine : Fine (env op from to arg mat con ms ts n)
+  pub accepted-fine : Fine (env op from to arg mat con ms ts n form)
   unfolding lineIn
   accepted-fine = record {
     last = ap (λ (l : Line). l .op) (holds .after (entries - 1) (let h = holds .last in omega arith));
@@ -62,7 +62,6 @@ module _ (ms ts : List ℤ) (r : Rule) (n : ℕ) (op from to arg mat : List ℕ)
   }
 
   pub accepted-match : (ps : List ℤ) (v : Value) → Sane ms ps ts r v → (budget : ℕ) (room : List ℤ) (out : Matched)
-      → Searched (env op from to arg mat con ms ts n) budget room out → out ≡ match ms ps ts budget room
-  unfolding match
+      → Searched (env op from to arg mat con ms ts n form) budget room out → out ≡ matchIn form ms ps ts budget room
   accepted-match ps v sane budget room out s =
-      s .as-defined r v (sane .rule .fitting .0) holds (sane .rule .fitting .1) (pattern-read ps (r .pattern) .0 (sane .rule .pattern) .2) (closed-is (r .pattern) true 0 0 (sane .rule .numbered .0) (sane .rule .numbered .1)) (sane .target .target) (sane .target .fit) ∙ sym (match-ran asWords ms ps ts budget room r v sane)
+      s .as-defined r v (sane .rule .fitting .0) holds (sane .rule .fitting .1) (pattern-read ps (r .pattern) .0 (sane .rule .pattern) .2) (closed-is (r .pattern) true 0 0 (sane .rule .numbered .0) (sane .rule .numbered .1)) (sane .target .target) (sane .target .fit) ∙ sym (match-ran form ms ps ts budget room r v sane)

@@ -10,7 +10,7 @@ use lib.Dec.{eqb}
 use lib.IntN.{ℤ, pos}
 use mir.Syntax.{w64}
 use mir.Val.{Fits}
-use Rattle.rules.specs.Rows.{asWords, row}
+use Rattle.rules.specs.Rows.{Form, row}
 use Rattle.words.specs.Words.{entries}
 use Rattle.value_places.specs.Places.{Target}
 use Rattle.value_places.specs.Held.{Held, put}
@@ -37,16 +37,16 @@ use Rattle.search.proofs.Heads.{head-next, head-picks, head-backs}
 -- ---- The row: its size is asked only where the room may be short of it.
 
 -- What the code knows as the row's size tells whether it fits into the words that are free.
-pub record Sized (s : List ℤ) (b : List Binding) (n free size : ℕ) : Type 0 where
-  pub short : free < size → free < length (row asWords (bound s b n))
-  pub fits : size ≤ free → length (row asWords (bound s b n)) ≤ free
+pub record Sized (form : Form) (s : List ℤ) (b : List Binding) (n free size : ℕ) : Type 0 where
+  pub short : free < size → free < length (row form (bound s b n))
+  pub fits : size ≤ free → length (row form (bound s b n)) ≤ free
 
-module _ (s : List ℤ) (b : List Binding) (n free size : ℕ) where
-  pub sized-asked : size ≡ length (row asWords (bound s b n)) → Sized s b n free size
+module _ (form : Form) (s : List ℤ) (b : List Binding) (n free size : ℕ) where
+  pub sized-asked : size ≡ length (row form (bound s b n)) → Sized form s b n free size
   sized-asked e = record { short = λ l. omega arith; fits = λ l. omega arith }
 
-  pub sized-ample : Target s → Bound s b n → size ≡ 0 → n * length s ≤ free → Sized s b n free size
-  sized-ample g q z l = let m = row-within s b n q g in record { short = λ k. absurd (omega arith); fits = λ k. omega arith }
+  pub sized-ample : Target s → 0 < length s → Bound s b n → size ≡ 0 → n * (length s + 1) ≤ free → Sized form s b n free size
+  sized-ample g w q z l = let m = row-within s b n q g form w in record { short = λ k. absurd (omega arith); fits = λ k. omega arith }
 
 pub turned-path : {x y : State} {t u : Tables} → x ≡ y → t ≡ u → turned x t ≡ turned y u
 turned-path p q i = turned (p i) (q i)

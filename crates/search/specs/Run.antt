@@ -6,7 +6,7 @@ use mathlib.Core.List.{List}
 use lib.ListN.{length, getD, set}
 use lib.Dec.{eqb, ltb}
 use lib.IntN.{ℤ, pos}
-use Rattle.rules.specs.Rows.{Form, asWords, row}
+use Rattle.rules.specs.Rows.{Form, row}
 use Rattle.rules.specs.Services.{Matched}
 use Rattle.value_places.specs.Held.{put}
 use Rattle.value_rows.specs.Row.{bound, nothing}
@@ -33,8 +33,8 @@ pub record Env : Type 0 where
   pub vars : ℕ
   pub form : Form
 
-abbrev pub env : (op from to arg mat : List ℕ) → (con matcher words : List ℤ) → (vars : ℕ) → Env
-env op from to arg mat con mt s n = record { op = op; from = from; to = to; arg = arg; mat = mat; con = con; matcher = mt; words = s; vars = n; form = asWords }
+abbrev pub env : (op from to arg mat : List ℕ) → (con matcher words : List ℤ) → (vars : ℕ) → Form → Env
+env op from to arg mat con mt s n form = record { op = op; from = from; to = to; arg = arg; mat = mat; con = con; matcher = mt; words = s; vars = n; form = form }
 
 pub record Run : Type 0 where
   pub state : State

@@ -14,7 +14,7 @@ use value_places::places::ends_of;
 use value_places::places::places_of;
 use value_places::places::whole;
 use value_rows::Binding;
-use value_rows::put_value;
+use value_rows::put_entry;
 use value_rows::row_size;
 use words::ENTRIES;
 use words::casts::byte_index;
@@ -24,6 +24,7 @@ ghost use Prim.Native.Nat.{_-_, _<_};
 ghost use lib.ListN.{length};
 ghost use Rattle.program_rules.specs.Lines.{columns};
 ghost use Rattle.value_places.specs.Places.{Target};
+ghost use Rattle.value_rows.specs.Row.{formBy};
 ghost use Rattle.tables.specs.Slot.{viewOf};
 ghost use Rattle.search.specs.Run.{env, run, runOf, answerOf, matched};
 ghost use Rattle.search.specs.Valid.{Given, Fine, Valid};
@@ -40,6 +41,7 @@ pub fn advance(
     given: [Binding; 16],
     budget: u64,
     n: usize,
+    origins: bool,
     mt: &[i32],
     s: &[i32],
     ends: &[u16; 512],
@@ -54,8 +56,8 @@ pub fn advance(
     slots: &mut Slots,
     room: &mut [i32],
 ) -> Found
-    requires { ⌜ Given (now s) (now ends) (now base) (now places) ⌝ ∗ ⌜ Fine (env (now op) (now from) (now to) (now arg) (now mat) (now con) (now mt) (now s) n) ⌝ ∗ ⌜ Valid (env (now op) (now from) (now to) (now arg) (now mat) (now con) (now mt) (now s) n) (run first (viewOf (now arg) (now slots)) given (now room)) ⌝ }
-    ensures { λ r. ⌜ run (r .state) (viewOf (now (arg .entry)) (now (slots .exit))) (r .binds) (now (room .exit)) ≡ runOf (env (now (op .entry)) (now (from .entry)) (now (to .entry)) (now (arg .entry)) (now (mat .entry)) (now (con .entry)) (now (mt .entry)) (now (s .entry)) n) (budget - first .steps) (run first (viewOf (now (arg .entry)) (now (slots .entry))) given (now (room .entry))) ⌝ }
+    requires { ⌜ Given (now s) (now ends) (now base) (now places) ⌝ ∗ ⌜ Fine (env (now op) (now from) (now to) (now arg) (now mat) (now con) (now mt) (now s) n (formBy origins)) ⌝ ∗ ⌜ Valid (env (now op) (now from) (now to) (now arg) (now mat) (now con) (now mt) (now s) n (formBy origins)) (run first (viewOf (now arg) (now slots)) given (now room)) ⌝ }
+    ensures { λ r. ⌜ run (r .state) (viewOf (now (arg .entry)) (now (slots .exit))) (r .binds) (now (room .exit)) ≡ runOf (env (now (op .entry)) (now (from .entry)) (now (to .entry)) (now (arg .entry)) (now (mat .entry)) (now (con .entry)) (now (mt .entry)) (now (s .entry)) n (formBy origins)) (budget - first .steps) (run first (viewOf (now (arg .entry)) (now (slots .entry))) given (now (room .entry))) ⌝ }
 {
     let mut x = first;
     let mut b = given;
@@ -94,8 +96,8 @@ pub fn advance(
             let mut e = x.words;
             let free = room.len() - e;
             let mut size: usize = 0;
-            if free < n * s.len() {
-                size = row_size(s, ends, base, places, b, n);
+            if free < n * (s.len() + 1) {
+                size = row_size(origins, s, ends, base, places, b, n);
             }
             if free < size {
                 x = filled(x);
@@ -105,7 +107,7 @@ pub fn advance(
                     let y = b[v];
                     let g = y.at;
                     let k = y.marks;
-                    e = put_value(s, ends, base, places, g, k, room, e);
+                    e = put_entry(origins, s, ends, base, places, g, k, room, e);
                     v += 1;
                 }
                 x = wrote(x, e);
@@ -142,6 +144,7 @@ fn answer_of(live: u64) -> u32
 pub fn search(
     budget: u32,
     n: usize,
+    origins: bool,
     mt: &[i32],
     s: &[i32],
     op: &[u8; ENTRIES],
@@ -152,8 +155,8 @@ pub fn search(
     con: &[i32; ENTRIES],
     room: &mut [i32],
 ) -> Report
-    requires { ⌜ Target (now s) ⌝ ∗ ⌜ 0 < length (now s) ⌝ ∗ ⌜ Fine (env (now op) (now from) (now to) (now arg) (now mat) (now con) (now mt) (now s) n) ⌝ }
-    ensures { λ r. ⌜ Searched (env (now (op .entry)) (now (from .entry)) (now (to .entry)) (now (arg .entry)) (now (mat .entry)) (now (con .entry)) (now (mt .entry)) (now (s .entry)) n) budget (now (room .entry)) (matched (r .answer) (r .rows) (r .steps) (r .words) (now (room .exit))) ⌝ }
+    requires { ⌜ Target (now s) ⌝ ∗ ⌜ 0 < length (now s) ⌝ ∗ ⌜ Fine (env (now op) (now from) (now to) (now arg) (now mat) (now con) (now mt) (now s) n (formBy origins)) ⌝ }
+    ensures { λ r. ⌜ Searched (env (now (op .entry)) (now (from .entry)) (now (to .entry)) (now (arg .entry)) (now (mat .entry)) (now (con .entry)) (now (mt .entry)) (now (s .entry)) n (formBy origins)) budget (now (room .entry)) (matched (r .answer) (r .rows) (r .steps) (r .words) (now (room .exit))) ⌝ }
 {
     let mut ends = [0u16; 512];
     let mut base = [0u16; 512];
@@ -177,6 +180,7 @@ pub fn search(
         given,
         budget as u64,
         n,
+        origins,
         mt,
         s,
         &ends,

@@ -6,20 +6,20 @@ use mathlib.Core.Logic.{⊎-elim}
 use native.Mathlib.Omega.{arith}
 use borrow.Author.Needs.{needs}
 use lib.ListN.{length}
-use Rattle.rules.specs.Rows.{asWords, row}
+use Rattle.rules.specs.Rows.{row}
 use Rattle.value_places.specs.Held.{put}
-use Rattle.value_rows.specs.Row.{bound, boundFrom}
+use Rattle.value_rows.specs.Row.{formBy, bound, boundFrom}
 use Rattle.tables.specs.Slot.{viewOf}
 use Rattle.search.specs.Run.{Env, env, Run, run, settled, takeOf, runOf}
 use Rattle.search.specs.Valid.{Rows}
-use Rattle.value_rows.proofs.Row.{targets-fit, row-held, row-16, row-mul, row-room, row-turn, row-turn-size, row-out, row-out-size, row-start-size, row-start-room}
+use Rattle.value_rows.proofs.Row.{targets-fit, target-fits, row-held, row-16, row-mul, row-room, row-turn, row-turn-size, row-out, row-out-size, row-start-size, row-start-room}
 use Rattle.value_rows.proofs.Room.{length-put}
 use Rattle.search.proofs.Laws.{Sized, sized-asked, sized-ample, turned-path, Here, here-start, here-end, here-spent, here-next, next-less, Asked, asked-3, asked-4, asked-5, asked-6, asked-below, asked-above, took-full, took-wrote, Taken, taken-is, taken-step, turn-row, turn-steps, settled-by, Ready, ready, ready-place, ready-mul, ready-mul-2, ready-number, ready-number-mul, ready-bound, ready-sum, fine-named}
 use Rattle.search.proofs.advance.Statement.{statement}
 use Rattle.search.proofs.advance.Tie as tie
 use Rattle.value_equality.proofs.equal.Reads as equal-reads
 use Rattle.value_equality.proofs.is_sum.Reads as is-sum-reads
-use Rattle.value_rows.proofs.put_value.Reads as put-value-reads
+use Rattle.value_rows.proofs.put_entry.Reads as put-entry-reads
 use Rattle.value_rows.proofs.row_size.Reads as row-size-reads
 use Rattle.words.proofs.casts.byte_index.Reads as byte-index-reads
 use Rattle.words.proofs.casts.half_index.Reads as half-index-reads
@@ -29,26 +29,26 @@ use Rattle.search_step.proofs.State.step.Reads as step-reads
 use Rattle.search_choice.proofs.settle.Reads as settle-reads
 
 abbrev Inv-loop2 : tie.InvT-loop2
-Inv-loop2 budget n mt s ends base places op from to arg mat con slots room₀ x b steps pc at m o q e₀ free size v₀ room e v =
-    (v ≤ n) × (length room ≡ length room₀) × (e₀ + length (row asWords (bound s b n)) ≤ length room) × (e₀ + length (row asWords (bound s b n)) ≡ e + length (row asWords (boundFrom s b v n)))
-    × (put room₀ e₀ (row asWords (bound s b n)) ≡ put room e (row asWords (boundFrom s b v n)))
+Inv-loop2 budget n origins mt s ends base places op from to arg mat con slots room₀ x b steps pc at m o q e₀ free size v₀ room e v =
+    (v ≤ n) × (length room ≡ length room₀) × (e₀ + length (row (formBy origins) (bound s b n)) ≤ length room) × (e₀ + length (row (formBy origins) (bound s b n)) ≡ e + length (row (formBy origins) (boundFrom s b v n)))
+    × (put room₀ e₀ (row (formBy origins) (bound s b n)) ≡ put room e (row (formBy origins) (boundFrom s b v n)))
 
 abbrev μ-loop2 : tie.MeasureT-loop2
-μ-loop2 budget n mt s ends base places op from to arg mat con slots room₀ x b steps pc at m o q e₀ free size v₀ room e v = n - v
+μ-loop2 budget n origins mt s ends base places op from to arg mat con slots room₀ x b steps pc at m o q e₀ free size v₀ room e v = n - v
 
 abbrev Inv-loop : tie.InvT-loop
-Inv-loop budget n mt s ends base places op from to arg mat con slots₀ room₀ x₀ b₀ slots room x b =
-    Here (env op from to arg mat con mt s n) (runOf (env op from to arg mat con mt s n) (budget - x₀ .steps) (run x₀ (viewOf arg slots₀) b₀ room₀)) budget room₀
+Inv-loop budget n origins mt s ends base places op from to arg mat con slots₀ room₀ x₀ b₀ slots room x b =
+    Here (env op from to arg mat con mt s n (formBy origins)) (runOf (env op from to arg mat con mt s n (formBy origins)) (budget - x₀ .steps) (run x₀ (viewOf arg slots₀) b₀ room₀)) budget room₀
     (run x (viewOf arg slots) b room)
 
 abbrev μ-loop : tie.MeasureT-loop
-μ-loop budget n mt s ends base places op from to arg mat con slots₀ room₀ x₀ b₀ slots room x b = budget - x .steps
+μ-loop budget n origins mt s ends base places op from to arg mat con slots₀ room₀ x₀ b₀ slots room x b = budget - x .steps
 
 -- The program and the run at the loop's head.
 abbrev program : tie.At-loop Inv-loop2 μ-loop2 Inv-loop μ-loop → Env
 program c =
     env (c .before .args .op .now) (c .before .args .from .now) (c .before .args .to .now) (c .before .args .arg .now) (c .before .args .mat .now) (c .before .args .con .now) (c .before .args .mt .now)
-    (c .before .args .s .now) (c .before .args .n)
+    (c .before .args .s .now) (c .before .args .n) (formBy (c .before .args .origins))
 
 abbrev current : tie.At-loop Inv-loop2 μ-loop2 Inv-loop μ-loop → Run
 current c = run (c .loop .x) (viewOf (c .before .args .arg .now) (c .loop .slots)) (c .loop .b) (c .loop .room)
@@ -74,10 +74,10 @@ joined c = ⊎-elim
 rows : (c : tie.Then8 Inv-loop2 μ-loop2 Inv-loop μ-loop) → Rows (c .before .before .before .before .before .before .before .args .s .now) (c .before .if3 .b) (c .before .before .before .before .before .before .before .args .n) (c .before .before .before .before .before .before .loop .x) (c .before .before .before .before .before .before .loop .room)
 rows c = let h = stands (c .before .before .before) in turn-row _ _ _ _ _ _ _ (joined (c .before)) (h .fine) (h .target) (h .valid) (h .count) (c .if8 .taken)
 
-sized : (c : tie.Joined9 Inv-loop2 μ-loop2 Inv-loop μ-loop) → Sized (c .before .before .before .before .before .before .before .before .args .s .now) (c .before .before .if3 .b) (c .before .before .before .before .before .before .before .before .args .n) (length (c .before .before .before .before .before .before .before .loop .room) - c .before .before .before .before .before .before .before .loop .x .words) (c .if9 .size)
+sized : (c : tie.Joined9 Inv-loop2 μ-loop2 Inv-loop μ-loop) → Sized (formBy (c .before .before .before .before .before .before .before .before .args .origins)) (c .before .before .before .before .before .before .before .before .args .s .now) (c .before .before .if3 .b) (c .before .before .before .before .before .before .before .before .args .n) (length (c .before .before .before .before .before .before .before .loop .room) - c .before .before .before .before .before .before .before .loop .x .words) (c .if9 .size)
 sized c = ⊎-elim
-    (λ w. sized-asked _ _ _ _ _ (w .2 ∙ w .1 .ensures))
-    (λ w. sized-ample _ _ _ _ _ (c .before .before .before .before .before .before .before .before .pre .0 .target) (rows (c .before) .bound) (w .1) (w .0 .left))
+    (λ w. sized-asked _ _ _ _ _ _ (w .2 ∙ w .1 .ensures))
+    (λ w. sized-ample _ _ _ _ _ _ (c .before .before .before .before .before .before .before .before .pre .0 .target) (let h = stands (c .before .before .before .before) in omega (arith, h .valid .held .tag .inside)) (rows (c .before) .bound) (w .1) (w .0 .left))
     (c .if9 .came)
 
 -- Where a row and a step meet: the state is taken up.
@@ -94,7 +94,7 @@ met c = let h = stands (c .before .before .before) in ⊎-elim
     let i = w .3 .inv in
     taken-is _ _ _ _ _ _ _ (joined (c .before)) (h .fine) (h .target) (h .valid) (h .count) (h .live) _ _ _
     (took-wrote _ _ _ _ _ _ _ (joined (c .before)) _ _ _ _ (w .0 .taken) (z .fits (w .2 .left)) (w .8 ∙ w .5 .ensures)
-    (row-out-size _ _ _ _ _ _ k (i .3) (w .4 .left)) (ap (viewOf _) (w .6)) (w .7 ∙ row-out _ _ _ _ _ _ _ k (i .4) (w .4 .left))))
+    (row-out-size _ _ _ _ _ _ _ k (i .3) (w .4 .left)) (ap (viewOf _) (w .6)) (w .7 ∙ row-out _ _ _ _ _ _ _ _ k (i .4) (w .4 .left))))
     (λ w. taken-step _ _ _ _ _ _ _ (joined (c .before)) (h .fine) (h .target) (h .valid) (h .count) (h .live) _ _ _ (w .0 .left)
     (turned-path (w .5) (ap (viewOf _) (w .3)) ∙ w .2 .ensures) (w .4)))
     (c .if8 .came)
@@ -179,6 +179,9 @@ equal-requires c κs =
 sub-free : tie.Need-sub-free Inv-loop2 μ-loop2 Inv-loop μ-loop
 sub-free c = rows c .words
 
+add-if9 : tie.Need-add-if9 Inv-loop2 μ-loop2 Inv-loop μ-loop
+add-if9 c = let h = stands (c .before .before .before) in target-fits _ (h .target)
+
 mul-if9 : tie.Need-mul-if9 Inv-loop2 μ-loop2 Inv-loop μ-loop
 mul-if9 c = let h = stands (c .before .before .before) in targets-fit _ _ (h .target) (h .fine .few)
 
@@ -193,7 +196,7 @@ loop2-holds c =
     let k = rows (c .before .before) in
     let l = sized (c .before) .fits (c .if10 .left) in
     let w = k .words in
-    (omega arith, refl, omega arith, row-start-size _ _ _ _, row-start-room _ _ _ _ _)
+    (omega arith, refl, omega arith, row-start-size _ _ _ _ _, row-start-room _ _ _ _ _ _)
 
 mul-y-3 : tie.Need-mul-y-3 Inv-loop2 μ-loop2 Inv-loop μ-loop
 mul-y-3 c = row-mul _ _ _ _ (rows (c .before .before .before .before) .bound) (c .loop2-test .taken)
@@ -201,13 +204,13 @@ mul-y-3 c = row-mul _ _ _ _ (rows (c .before .before .before .before) .bound) (c
 array-copy-out-y-3 : tie.Need-array-copy-out-y-3 Inv-loop2 μ-loop2 Inv-loop μ-loop
 array-copy-out-y-3 c = row-16 _ _ _ _ (rows (c .before .before .before .before) .bound) (c .loop2-test .taken)
 
-put-value-requires : tie.Need-put-value-requires Inv-loop2 μ-loop2 Inv-loop μ-loop
-put-value-requires c κs =
+put-entry-requires : tie.Need-put-entry-requires Inv-loop2 μ-loop2 Inv-loop μ-loop
+put-entry-requires c κs =
     let g = c .before .before .before .before .before .before .before .before .before .before .before .before .before .pre .0 in
     let k = rows (c .before .before .before .before .before .before) .bound in
     let i = c .before .before .before .loop2 .inv in
     let h = c .before .before .loop2-test .taken in
-    (g .target, (g .ended, (g .placed, (row-held _ _ _ _ k h, row-room _ _ _ _ k h _ _ _ (i .3) (i .2)))))
+    (g .target, (g .ended, (g .placed, (row-held _ _ _ _ k h, row-room _ _ _ _ k h _ _ _ _ (i .3) (i .2)))))
 
 add-v : tie.Need-add-v Inv-loop2 μ-loop2 Inv-loop μ-loop
 add-v c = let l = row-16 _ _ _ _ (rows (c .before .before .before .before .before .before .before .before) .bound) (c .before .before .before .before .loop2-test .taken) in record { fits = omega arith }
@@ -220,13 +223,13 @@ loop2-again c =
     let k = rows (c .before .before .before .before .before .before .before .before) .bound in
     let i = c .before .before .before .before .before .loop2 .inv in
     let h = c .before .before .before .before .loop2-test .taken in
-    let p = c .before .put-value .ensures in
+    let p = c .before .put-entry .ensures in
     let l = ap length (p .1) ∙ length-put _ _ _ in (
       omega arith,
       l ∙ i .1,
       omega (arith, l, i .2),
-      row-turn-size _ _ _ _ k h _ _ _ (i .3) (p .0),
-      row-turn _ _ _ _ k h _ _ _ _ _ (i .4) (p .0) (p .1),
+      row-turn-size _ _ _ _ k h _ _ _ _ (i .3) (p .0),
+      row-turn _ _ _ _ k h _ _ _ _ _ _ (i .4) (p .0) (p .1),
     )
 
 wrote-requires : tie.Need-wrote-requires Inv-loop2 μ-loop2 Inv-loop μ-loop
@@ -293,13 +296,14 @@ advance-spec =
     byte-index-requires
     equal-requires
     sub-free
+    add-if9
     mul-if9
     row-size-requires
     filled-requires
     loop2-holds
     mul-y-3
     array-copy-out-y-3
-    put-value-requires
+    put-entry-requires
     add-v
     loop2-less
     loop2-again
