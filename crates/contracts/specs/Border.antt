@@ -3,7 +3,7 @@ use mathlib.Core.Path.{_≡_, sym, _∙_, ap}
 use mathlib.Core.List.{List, []}
 use Prim.Native.Nat.{ℕ}
 use lib.IntN.{ℤ}
-use Rattle.host.specs.Border.{Called, called, matchCalled, reviewCalled}
+use Rattle.host.specs.Border.{Called, called, matchCalled, matchWithCalled, reviewCalled}
 use Rattle.host.specs.Rooms.{roomCalled}
 
 same-call : (a b : ℕ) (x y : List ℤ) (m n : List ℕ) (c : Called) → called a x m ≡ c → called b y n ≡ c → (a ≡ b) × (x ≡ y) × (m ≡ n)
@@ -13,6 +13,11 @@ same-call a b x y m n c p q =
 pub match-called-once : (ms ps ts : List ℤ) (budget : ℕ) (room : List ℤ) (numbers : List ℕ) (a b : ℕ) (x y : List ℤ) (m n : List ℕ)
     → called a x m ≡ matchCalled ms ps ts budget room numbers → called b y n ≡ matchCalled ms ps ts budget room numbers → (a ≡ b) × (x ≡ y) × (m ≡ n)
 match-called-once ms ps ts budget room numbers a b x y m n = same-call a b x y m n (matchCalled ms ps ts budget room numbers)
+
+pub match-with-called-once : (form : ℕ) (ms ps ts : List ℤ) (budget : ℕ) (room : List ℤ) (numbers : List ℕ) (a b : ℕ) (x y : List ℤ) (m n : List ℕ)
+    → called a x m ≡ matchWithCalled form ms ps ts budget room numbers → called b y n ≡ matchWithCalled form ms ps ts budget room numbers
+    → (a ≡ b) × (x ≡ y) × (m ≡ n)
+match-with-called-once form ms ps ts budget room numbers a b x y m n = same-call a b x y m n (matchWithCalled form ms ps ts budget room numbers)
 
 pub review-called-once : (ms ps : List ℤ) (cap : ℤ) (numbers : List ℕ) (a b : ℕ) (m n : List ℕ)
     → called a [] m ≡ reviewCalled ms ps cap numbers → called b [] n ≡ reviewCalled ms ps cap numbers → (a ≡ b) × (m ≡ n)

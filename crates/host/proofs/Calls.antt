@@ -9,12 +9,12 @@ use lib.IntN.{ℤ}
 use borrow.Author.Tests.{lt-ltb, le-ltb}
 use borrow.Author.Needs.{needs}
 use Rattle.rules.specs.Services as paper
-use Rattle.rules.specs.Services.{match, review}
+use Rattle.rules.specs.Services.{match, matchWith, review}
 use Rattle.services.specs.Matches.{told}
 use Rattle.services.specs.Reviews.{reviewed}
 use Rattle.services.specs.declared.matching.Matched.{Matched}
 use Rattle.services.specs.declared.review.Reviewed.{Reviewed}
-use Rattle.host.specs.Border.{bytesOf, over, Called, called, matchNumbers, matchTold, matchCalled, reviewNumbers, reviewTold, reviewCalled}
+use Rattle.host.specs.Border.{bytesOf, over, Called, called, matchNumbers, matchTold, matchCalled, matchWithCalled, reviewNumbers, reviewTold, reviewCalled}
 
 module _ (ms ps ts : List ℤ) (budget : ℕ) (room : List ℤ) (numbers : List ℕ) where
   pub match-short : length numbers < 48 → called 24 room numbers ≡ matchCalled ms ps ts budget room numbers
@@ -26,6 +26,18 @@ module _ (ms ps ts : List ℤ) (budget : ℕ) (room : List ℤ) (numbers : List 
       → called (m .answer) after out ≡ matchCalled ms ps ts budget room numbers
   unfolding matchCalled matchTold matchNumbers told
   match-told m after out a p w k h e qa qp qw qk o =
+      rw (le-ltb (length numbers) 48 h) (rw (o, qa, qp, qw, qk) (ap (λ (x : paper.Matched). matchTold x numbers) e))
+
+module _ (form : ℕ) (ms ps ts : List ℤ) (budget : ℕ) (room : List ℤ) (numbers : List ℕ) where
+  pub with-short : length numbers < 48 → called 24 room numbers ≡ matchWithCalled form ms ps ts budget room numbers
+  unfolding matchWithCalled
+  with-short h = rw (lt-ltb (length numbers) 48 h)
+
+  pub with-told : (m : Matched) (after : List ℤ) (out : List ℕ) (a p w k : ℕ) → 48 ≤ length numbers → told m after ≡ matchWith form ms ps ts budget room
+      → a ≡ m .answer → p ≡ m .place → w ≡ m .words → k ≡ m .cause → out ≡ over (bytesOf (a ∷ p ∷ m .rows ∷ m .steps ∷ w ∷ k ∷ [])) numbers
+      → called (m .answer) after out ≡ matchWithCalled form ms ps ts budget room numbers
+  unfolding matchWithCalled matchTold matchNumbers told
+  with-told m after out a p w k h e qa qp qw qk o =
       rw (le-ltb (length numbers) 48 h) (rw (o, qa, qp, qw, qk) (ap (λ (x : paper.Matched). matchTold x numbers) e))
 
 module _ (ms ps : List ℤ) (most : ℤ) (numbers : List ℕ) where
@@ -40,4 +52,4 @@ module _ (ms ps : List ℤ) (most : ℤ) (numbers : List ℕ) where
   review-told m out a p y h e qy qa qp o =
       rw (le-ltb (length numbers) 24 h) (rw (o, qa, qp) (ap (λ (x : paper.Reviewed). reviewTold x numbers) (e ∙ ap (review ms ps) qy)))
 
-pub ruleset calls = (match-short, match-told, review-short, review-told, needs)
+pub ruleset calls = (match-short, match-told, with-short, with-told, review-short, review-told, needs)

@@ -6,7 +6,7 @@ use lib.ListN.{length, drop}
 use lib.Seq.{sets}
 use lib.Dec.{ltb}
 use lib.IntN.{ℤ}
-use Rattle.rules.specs.Services.{Matched, match, Reviewed, review}
+use Rattle.rules.specs.Services.{Matched, match, matchWith, Reviewed, review}
 
 -- n bytes of a number, low byte first.
 unfoldable pub digits : ℕ → ℕ → List ℕ
@@ -51,6 +51,10 @@ matchTold m numbers = called (m .answer) (m .room) (over (bytesOf (matchNumbers 
 unfoldable pub matchCalled : (ms ps ts : List ℤ) (budget : ℕ) (room : List ℤ) (numbers : List ℕ) → Called
 unfolding match matchTold
 matchCalled ms ps ts budget room numbers = cond (ltb (length numbers) 48) (called 24 room numbers) (matchTold (match ms ps ts budget room) numbers)
+
+unfoldable pub matchWithCalled : (form : ℕ) (ms ps ts : List ℤ) (budget : ℕ) (room : List ℤ) (numbers : List ℕ) → Called
+unfolding matchWith matchTold
+matchWithCalled form ms ps ts budget room numbers = cond (ltb (length numbers) 48) (called 24 room numbers) (matchTold (matchWith form ms ps ts budget room) numbers)
 
 unfoldable pub reviewTold : Reviewed → List ℕ → Called
 unfolding bytesOf over reviewNumbers

@@ -3,6 +3,7 @@ mod books;
 mod rooms;
 
 use services::matching::match_units;
+use services::matching::match_units_with;
 use services::review::review;
 use words::casts::wide;
 use words::casts::wide_index;
@@ -10,7 +11,7 @@ ghost use mathlib.Core.Path.{_≡_};
 ghost use Prim.Native.Nat.{_+_, _≤_};
 ghost use lib.ListN.{length};
 ghost use mathlib.Core.List.{_∷_, []};
-ghost use Rattle.host.specs.Border.{digits, put, bytesOf, over, called, matchCalled, reviewCalled};
+ghost use Rattle.host.specs.Border.{digits, put, bytesOf, over, called, matchCalled, matchWithCalled, reviewCalled};
 
 // A number's eight bytes, low byte first, from an index on.
 fn put_number(out: &mut [u8], at: usize, x: u64)
@@ -77,6 +78,35 @@ pub extern "C" fn lozhbinor_match(
         return SHORT;
     }
     let m = match_units(matcher, pattern, target, budget, room);
+    put_six(
+        numbers,
+        wide(m.answer),
+        wide_index(m.place),
+        m.rows,
+        m.steps,
+        wide_index(m.words),
+        wide(m.cause),
+    );
+    m.answer
+}
+
+// Match with its rows in the form that the caller picks: 20 where that is unknown.
+#[no_mangle]
+pub extern "C" fn lozhbinor_match_with(
+    form: u32,
+    matcher: &[i32],
+    pattern: &[i32],
+    target: &[i32],
+    budget: u32,
+    room: &mut [i32],
+    numbers: &mut [u8],
+) -> u32
+    ensures { λ r. ⌜ called r (now (room .exit)) (now (numbers .exit)) ≡ matchWithCalled form (now (matcher .entry)) (now (pattern .entry)) (now (target .entry)) budget (now (room .entry)) (now (numbers .entry)) ⌝ }
+{
+    if numbers.len() < 48 {
+        return SHORT;
+    }
+    let m = match_units_with(form, matcher, pattern, target, budget, room);
     put_six(
         numbers,
         wide(m.answer),

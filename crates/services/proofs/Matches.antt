@@ -2,13 +2,14 @@
 use Prim.Native.Nat.{ℕ, zero, suc, _≤_, _<_}
 use native.Mathlib.Omega.{arith}
 use mathlib.Core.Path.{_≡_, refl, sym, ap, _∙_}
+use mathlib.Core.Bool.{true, false}
 use mathlib.Core.List.{List}
 use lib.ListN.{length, replicate}
 use lib.IntN.{ℤ, pos}
 use Rattle.rules.specs.Forms.{Matcher, Value}
 use Rattle.rules.specs.Reading.{Verdict, ok, fault, readMatcher}
-use Rattle.rules.specs.Services.{Judged, accepted, refused, test, Rule, ruleOf, targetOf, causeIn, turnedAway, matchTarget, matchRule, matchIn, match}
-use Rattle.rules.specs.Rows.{asWords}
+use Rattle.rules.specs.Services.{Judged, accepted, refused, test, Rule, ruleOf, targetOf, causeIn, turnedAway, matchTarget, matchRule, matchIn, match, matchWith}
+use Rattle.rules.specs.Rows.{Form, asWords, asOrigins, formOf}
 use Rattle.rules.specs.Services as paper
 use Rattle.forms.specs.Faults.{rule-accepted, Sane, sane-exactly}
 use Rattle.words.specs.Words.{entries}
@@ -18,6 +19,7 @@ use Rattle.program_rules.specs.Link.{opsIn, bindingsIn, tosBy, placed}
 use Rattle.program_rules.specs.Slots.{numbered}
 use Rattle.program_rules.specs.Columns.{Holds, compiled-zeros}
 use Rattle.value_places.specs.Places.{Target}
+use Rattle.value_rows.specs.Row.{formBy}
 use Rattle.search.specs.Run.{env}
 use Rattle.search.specs.Valid.{Fine}
 use Rattle.search.specs.Searched.{Searched}
@@ -67,18 +69,18 @@ rule-whole ms ps x p q = let r = was-accepted (ruleOf ms ps) x p q in record { m
 
 -- ---- The answers 1 to 6.
 
-module _ (ms ps ts : List ℤ) (budget : ℕ) (room : List ℤ) (x : Judgement) (p : x ≡ judgement (ruleOf ms ps)) where
-  pub rule-away : (a i : ℕ) → x ≡ Refused a i → turnedAway a i 0 room ≡ match ms ps ts budget room
-  unfolding match matchIn
-  rule-away a i q = sym (ap (matchRule asWords budget room ts) (was-refused (ruleOf ms ps) x a i p q))
+module _ (form : Form) (ms ps ts : List ℤ) (budget : ℕ) (room : List ℤ) (x : Judgement) (p : x ≡ judgement (ruleOf ms ps)) where
+  pub rule-away : (a i : ℕ) → x ≡ Refused a i → turnedAway a i 0 room ≡ matchIn form ms ps ts budget room
+  unfolding matchIn
+  rule-away a i q = sym (ap (matchRule form budget room ts) (was-refused (ruleOf ms ps) x a i p q))
 
   module _ (ok : x ≡ Accepted) (y : TargetJudgement) (k : y ≡ targetJudgement ts (targetUnder ms ts)) where
-    pub target-away : (a i c : ℕ) → y ≡ targets.Refused a i c → turnedAway a i c room ≡ match ms ps ts budget room
-    unfolding match matchIn matchRule
+    pub target-away : (a i c : ℕ) → y ≡ targets.Refused a i c → turnedAway a i c room ≡ matchIn form ms ps ts budget room
+    unfolding matchIn matchRule
     target-away a i c q =
         let r = was-accepted (ruleOf ms ps) x p ok in
         let t = target-refused ts (targetOf (r .0 .matcher) ts) y a i c (k ∙ ap (targetJudgement ts) (under ms ps ts (r .0) (r .1))) q in
-        ap (λ n. turnedAway a i n room) (t .1) ∙ sym (ap (matchRule asWords budget room ts) (r .1) ∙ ap (matchTarget asWords budget room ts (r .0)) (t .0))
+        ap (λ n. turnedAway a i n room) (t .1) ∙ sym (ap (matchRule form budget room ts) (r .1) ∙ ap (matchTarget form budget room ts (r .0)) (t .0))
 
 pub both-ready : (ms ps ts : List ℤ) (x : Judgement) (y : TargetJudgement) → x ≡ judgement (ruleOf ms ps) → x ≡ Accepted
     → y ≡ targetJudgement ts (targetUnder ms ts) → y ≡ targets.Accepted → Ready ms ps ts
@@ -105,14 +107,36 @@ pub ready-some : (ms ps ts : List ℤ) → Ready ms ps ts → 0 < length ts
 ready-some ms ps ts g = accepted-some ms ps ts (g .rule) (g .value) (ready-sane g)
 
 -- The compiled rule, in arrays that held zeros.
-module _ (ms ps ts : List ℤ) (n : ℕ) (op from to arg mat : List ℕ) (con : List ℤ) (g : Ready ms ps ts) (vars : n ≡ bindingsIn (opsIn op 0 (length (linesOf ms ps))))
+module _ (ms ps ts : List ℤ) (n : ℕ) (op from to arg mat : List ℕ) (con : List ℤ) (form : Form) (g : Ready ms ps ts) (vars : n ≡ bindingsIn (opsIn op 0 (length (linesOf ms ps))))
     (is : columns op from arg mat con ≡ numbered (length (linesOf ms ps)) (laid 0 (linesOf ms ps) (columns (replicate entries 0) (replicate entries 0) (replicate entries 0) (replicate entries 0) (replicate entries (pos 0)))))
     (tos : to ≡ placed 0 (tosBy (opsIn op 0 (length (linesOf ms ps)))) (replicate entries 0)) where
   holds : Holds ms (g .rule) n (columns op from arg mat con) to
   holds = compiled-zeros ms ps (g .rule) (g .rule-is) n (columns op from arg mat con) to vars is tos
 
-  pub ready-fine : Fine (env op from to arg mat con ms ts n)
-  ready-fine = accepted-fine ms ts (g .rule) n op from to arg mat con holds
+  pub ready-fine : Fine (env op from to arg mat con ms ts n form)
+  ready-fine = accepted-fine ms ts (g .rule) n op from to arg mat con form holds
 
-  pub ready-match : (budget : ℕ) (room : List ℤ) (out : paper.Matched) → Searched (env op from to arg mat con ms ts n) budget room out → out ≡ match ms ps ts budget room
-  ready-match budget room out s = accepted-match ms ts (g .rule) n op from to arg mat con holds ps (g .value) (ready-sane g) budget room out s
+  pub ready-match : (budget : ℕ) (room : List ℤ) (out : paper.Matched) → Searched (env op from to arg mat con ms ts n form) budget room out → out ≡ matchIn form ms ps ts budget room
+  ready-match budget room out s = accepted-match ms ts (g .rule) n op from to arg mat con form holds ps (g .value) (ready-sane g) budget room out s
+
+-- ---- The form that the caller picks.
+
+module _ (ms ps ts : List ℤ) (budget : ℕ) (room : List ℤ) (r : paper.Matched) where
+  pub in-form-1 : r ≡ matchIn (formBy false) ms ps ts budget room → r ≡ match ms ps ts budget room
+  unfolding match formBy
+  in-form-1 e = e
+
+  pub with-form-1 : (n : ℕ) → n ≡ 1 → r ≡ matchIn (formBy false) ms ps ts budget room → r ≡ matchWith n ms ps ts budget room
+  unfolding matchWith formOf formBy
+  with-form-1 n z e = rw z e
+
+  pub with-form-2 : (n : ℕ) → n ≡ 2 → r ≡ matchIn (formBy true) ms ps ts budget room → r ≡ matchWith n ms ps ts budget room
+  unfolding matchWith formOf formBy
+  with-form-2 n z e = rw z e
+
+pub form-unknown : (ms ps ts : List ℤ) (budget : ℕ) (room : List ℤ) (n : ℕ) → (n ≡ 1 → ⊥) → (n ≡ 2 → ⊥) → turnedAway 20 0 0 room ≡ matchWith n ms ps ts budget room
+unfolding matchWith formOf
+form-unknown ms ps ts budget room zero f g = refl
+form-unknown ms ps ts budget room (suc zero) f g = absurd (f refl)
+form-unknown ms ps ts budget room (suc (suc zero)) f g = absurd (g refl)
+form-unknown ms ps ts budget room (suc (suc (suc n))) f g = refl

@@ -7,7 +7,8 @@ use tests::rule_refused;
 use tests::target_refused;
 use words::ENTRIES;
 ghost use mathlib.Core.Path.{_≡_};
-ghost use Rattle.rules.specs.Services.{match};
+ghost use Rattle.rules.specs.Services.{matchIn, match, matchWith};
+ghost use Rattle.value_rows.specs.Row.{formBy};
 ghost use Rattle.services.specs.Matches.{Ready, told};
 
 pub struct Matched {
@@ -21,6 +22,7 @@ pub struct Matched {
 
 // The run of a rule and a target that were accepted.
 fn carry_out(
+    origins: bool,
     matcher: &[i32],
     pattern: &[i32],
     target: &[i32],
@@ -28,7 +30,7 @@ fn carry_out(
     room: &mut [i32],
 ) -> Matched
     requires { ⌜ Ready (now matcher) (now pattern) (now target) ⌝ }
-    ensures { λ r. ⌜ told r (now (room .exit)) ≡ match (now (matcher .entry)) (now (pattern .entry)) (now (target .entry)) budget (now (room .entry)) ⌝ }
+    ensures { λ r. ⌜ told r (now (room .exit)) ≡ matchIn (formBy origins) (now (matcher .entry)) (now (pattern .entry)) (now (target .entry)) budget (now (room .entry)) ⌝ }
 {
     let mut op = [0u8; ENTRIES];
     let mut from = [0u16; ENTRIES];
@@ -49,6 +51,7 @@ fn carry_out(
     let r = search(
         budget,
         n,
+        origins,
         matcher,
         target,
         &op,
@@ -69,15 +72,16 @@ fn carry_out(
     }
 }
 
-// Match, for every input: answers 1 to 6 leave the room as it was, and answer 5 has a cause.
-pub fn match_units(
+// Match with its rows in one of the two forms: answers 1 to 6 leave the room as it was, and answer 5 has a cause.
+fn match_in(
+    origins: bool,
     matcher: &[i32],
     pattern: &[i32],
     target: &[i32],
     budget: u32,
     room: &mut [i32],
 ) -> Matched
-    ensures { λ r. ⌜ told r (now (room .exit)) ≡ match (now (matcher .entry)) (now (pattern .entry)) (now (target .entry)) budget (now (room .entry)) ⌝ }
+    ensures { λ r. ⌜ told r (now (room .exit)) ≡ matchIn (formBy origins) (now (matcher .entry)) (now (pattern .entry)) (now (target .entry)) budget (now (room .entry)) ⌝ }
 {
     if let Judgement::Refused(a, i) = rule_refused(matcher, pattern) {
         return Matched {
@@ -99,5 +103,45 @@ pub fn match_units(
             cause: c,
         };
     }
-    carry_out(matcher, pattern, target, budget, room)
+    carry_out(origins, matcher, pattern, target, budget, room)
+}
+
+// Match, for every input, with its rows in form 1.
+pub fn match_units(
+    matcher: &[i32],
+    pattern: &[i32],
+    target: &[i32],
+    budget: u32,
+    room: &mut [i32],
+) -> Matched
+    ensures { λ r. ⌜ told r (now (room .exit)) ≡ match (now (matcher .entry)) (now (pattern .entry)) (now (target .entry)) budget (now (room .entry)) ⌝ }
+{
+    match_in(false, matcher, pattern, target, budget, room)
+}
+
+// Match in the form that the caller picks; one that is unknown is 20, before any other look.
+pub fn match_units_with(
+    form: u32,
+    matcher: &[i32],
+    pattern: &[i32],
+    target: &[i32],
+    budget: u32,
+    room: &mut [i32],
+) -> Matched
+    ensures { λ r. ⌜ told r (now (room .exit)) ≡ matchWith form (now (matcher .entry)) (now (pattern .entry)) (now (target .entry)) budget (now (room .entry)) ⌝ }
+{
+    if form == 1 {
+        return match_in(false, matcher, pattern, target, budget, room);
+    }
+    if form == 2 {
+        return match_in(true, matcher, pattern, target, budget, room);
+    }
+    Matched {
+        answer: 20,
+        place: 0,
+        rows: 0,
+        steps: 0,
+        words: 0,
+        cause: 0,
+    }
 }
