@@ -9,9 +9,9 @@ const GUARD: usize = 8;
 pub struct Tally {
     pub inputs: u64,
     pub differ: u64,
-    pub answers: [u64; 12],
-    pub tuples: [u64; 12],
-    pub choices: [u64; 12],
+    pub answers: [u64; 21],
+    pub tuples: [u64; 21],
+    pub choices: [u64; 21],
     pub causes: [u64; 8],
 }
 
@@ -83,26 +83,33 @@ impl Tally {
             });
             return;
         }
+        let form = if services.match_in.is_none() || r.once_in(2) { 1 } else { r.pick(&[2, 2, 2, 2, 2, 2, 2, 0, 3]) as u32 };
         let most = if r.once_in(50) { 50_000 } else { 1_500 };
-        let whole = reference::match_words(&matcher, &pattern, &target, most, &mut vec![0; 4096]);
+        let whole = reference::match_in(form, [&matcher, &pattern, &target], most, &mut vec![0; 4096]);
         let budget = near(r, whole[3], most.into()) as u32;
         let room = near(r, whole[4], 4096).min(4096) as usize;
         let held: Vec<i32> = (0..room + 2 * GUARD).map(|_| r.next() as i32).collect();
         let (m, p, t) = (&matcher[..], &pattern[..], &target[..]);
-        let ours = in_a_room(|room| reference::match_words(m, p, t, budget, room), &held);
-        let theirs = in_a_room(|room| (services.match_words)(m, p, t, budget, room), &held);
+        let ours = in_a_room(|room| reference::match_in(form, [m, p, t], budget, room), &held);
+        let theirs = in_a_room(
+            |room| match services.match_in {
+                Some(call) if form != 1 => call(form, [m, p, t], budget, room),
+                _ => (services.match_words)(m, p, t, budget, room),
+            },
+            &held,
+        );
         let untouched = GUARD + ours.numbers[4] as usize;
         let kept = ours.room[..GUARD] == held[..GUARD] && ours.room[untouched..] == held[untouched..];
         let same = ours.numbers == theirs.numbers && ours.room == theirs.room && kept;
         self.causes[ours.numbers[5] as usize] += 1;
         self.see(ours.numbers[0], [m, p], same, || {
-            format!("{m:?} {p:?} {t:?} {budget} {room}: {:?} {:?}", ours.numbers, theirs.numbers)
+            format!("{form} {m:?} {p:?} {t:?} {budget} {room}: {:?} {:?}", ours.numbers, theirs.numbers)
         });
     }
 }
 
 pub fn random(services: &Services, inputs: u64, seed: u64) -> Tally {
-    let none = [0; 12];
+    let none = [0; 21];
     let mut tally = Tally { inputs: 0, differ: 0, answers: none, tuples: none, choices: none, causes: [0; 8] };
     let mut r = Random(seed);
     while tally.inputs < inputs {

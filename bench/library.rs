@@ -16,6 +16,20 @@ extern "C" {
         numbers: *mut u8,
         numbers_len: usize,
     ) -> u32;
+    fn lozhbinor_match_with(
+        form: u32,
+        matcher: *const i32,
+        matcher_len: usize,
+        pattern: *const i32,
+        pattern_len: usize,
+        target: *const i32,
+        target_len: usize,
+        budget: u32,
+        room: *mut i32,
+        room_len: usize,
+        numbers: *mut u8,
+        numbers_len: usize,
+    ) -> u32;
     fn lozhbinor_review(
         matcher: *const i32,
         matcher_len: usize,
@@ -117,6 +131,26 @@ pub fn call_match(rule: [&[i32]; 2], target: &[i32], budget: u32, room: &mut [i3
     }
 }
 
+fn call_match_with(form: u32, words: [&[i32]; 3], budget: u32, room: &mut [i32], numbers: &mut [u8]) -> u32 {
+    let [matcher, pattern, target] = words;
+    unsafe {
+        lozhbinor_match_with(
+            form,
+            matcher.as_ptr(),
+            matcher.len(),
+            pattern.as_ptr(),
+            pattern.len(),
+            target.as_ptr(),
+            target.len(),
+            budget,
+            room.as_mut_ptr(),
+            room.len(),
+            numbers.as_mut_ptr(),
+            numbers.len(),
+        )
+    }
+}
+
 fn call_review(rule: [&[i32]; 2], cap: i32, numbers: &mut [u8]) -> u32 {
     let [m, p] = rule;
     unsafe { lozhbinor_review(m.as_ptr(), m.len(), p.as_ptr(), p.len(), cap, numbers.as_mut_ptr(), numbers.len()) }
@@ -125,6 +159,12 @@ fn call_review(rule: [&[i32]; 2], cap: i32, numbers: &mut [u8]) -> u32 {
 pub fn match_words(matcher: &[i32], pattern: &[i32], target: &[i32], budget: u32, room: &mut [i32]) -> Matched {
     let mut bytes = [MARK; 56];
     let answer = call_match([matcher, pattern], target, budget, room, &mut bytes);
+    numbers(&bytes, answer)
+}
+
+pub fn match_in(form: u32, words: [&[i32]; 3], budget: u32, room: &mut [i32]) -> Matched {
+    let mut bytes = [MARK; 56];
+    let answer = call_match_with(form, words, budget, room, &mut bytes);
     numbers(&bytes, answer)
 }
 
@@ -202,11 +242,14 @@ pub fn short() -> usize {
         let (mut bytes, mut room) = ([MARK; 48], [-7; 4]);
         let answer = call_match(rule, &[1, 1, 0, 7], 99, &mut room, &mut bytes[..len]);
         assert!(answer == 24 && bytes == [MARK; 48] && room == [-7; 4], "match, {len} bytes for the numbers");
+        let words = [rule[0], rule[1], &[1, 1, 0, 7]];
+        let answer = call_match_with(3, words, 99, &mut room, &mut bytes[..len]);
+        assert!(answer == 24 && bytes == [MARK; 48] && room == [-7; 4], "match with a form, {len} bytes for the numbers");
     }
     for len in 0..24 {
         let mut bytes = [MARK; 24];
         let answer = call_review(rule, 3, &mut bytes[..len]);
         assert!(answer == 24 && bytes == [MARK; 24], "review, {len} bytes for the numbers");
     }
-    48 + 24
+    48 + 48 + 24
 }

@@ -28,7 +28,7 @@ pub struct Services {
     pub name: &'static str,
     pub match_words: fn(&[i32], &[i32], &[i32], u32, &mut [i32]) -> reference::Matched,
     pub review: fn(&[i32], &[i32], i32) -> reference::Reviewed,
-    pub match_with: Option<fn(scripts::Picks, [&[i32]; 3], u32, &mut [i32]) -> reference::Matched>,
+    pub match_in: Option<fn(u32, [&[i32]; 3], u32, &mut [i32]) -> reference::Matched>,
     pub review_with: Option<fn(u32, &[i32], &[i32], i32) -> reference::Reviewed>,
     pub book: Option<scripts::Book>,
     pub open: Option<fn(scripts::Picks, [&[i32]; 3], u32) -> (scripts::Advance, [u64; 3])>,
@@ -44,7 +44,7 @@ const REFERENCE: Services = Services {
     name: "the reference",
     match_words: reference::match_words,
     review: reference::review,
-    match_with: None,
+    match_in: Some(reference::match_in),
     review_with: None,
     book: Some(scripts::Book {
         add: reference::book::add,
@@ -59,7 +59,7 @@ const TUNED: Services = Services {
     name: "the tuned program",
     match_words: reference::tuned::match_words,
     review: reference::review,
-    match_with: None,
+    match_in: None,
     review_with: None,
     book: None,
     open: None,
@@ -70,7 +70,7 @@ const TESTED: Services = Services {
     name: "the library",
     match_words: library::match_words,
     review: library::review,
-    match_with: None,
+    match_in: Some(library::match_in),
     review_with: None,
     book: Some(scripts::Book {
         add: library::book_add,
@@ -86,7 +86,7 @@ const TESTED: Services = Services {
     name: "the slow program",
     match_words: model::match_words,
     review: model::review,
-    match_with: None,
+    match_in: None,
     review_with: None,
     book: None,
     open: None,
@@ -109,9 +109,9 @@ fn run_comparison(inputs: u64, seed: u64) -> bool {
     println!("{}: {} slices too short for the numbers, answer 24, nothing written", TESTED.name, library::short());
     let tally = compare::random(&TESTED, inputs, seed);
     println!("{} against the reference: {} random inputs, {} differ", TESTED.name, tally.inputs, tally.differ);
-    println!("  by answer, 0 to 11: {:?}", tally.answers);
-    println!("  of these under tuples: {:?}", tally.tuples);
-    println!("  of these with and, or, not: {:?}", tally.choices);
+    println!("  by answer, 0 to 11 and 20: {:?} {}", &tally.answers[..12], tally.answers[20]);
+    println!("  of these under tuples: {:?}", &tally.tuples[..12]);
+    println!("  of these with and, or, not: {:?}", &tally.choices[..12]);
     println!("  answer 5 by cause, 1 to 7: {:?}", &tally.causes[1..]);
     tally.differ == 0
 }

@@ -392,6 +392,8 @@ struct Search<'a> {
     room: &'a mut [i32],
     bound: [Held; 16],
     inside: bool,
+    /// Rows in form 2.
+    origins: bool,
     rows: u32,
     steps: u32,
     words: usize,
@@ -665,12 +667,18 @@ impl Search<'_> {
     }
 
     fn row(&mut self) -> Result<(), Stop> {
-        let size: usize = self.bound[..self.variables].iter().map(|&held| self.size(held)).sum();
+        let size: usize = match self.origins {
+            true => 3 * self.variables,
+            false => self.bound[..self.variables].iter().map(|&held| self.size(held)).sum(),
+        };
         if size > self.room.len() - self.words {
             return Err(Stop::Full);
         }
         for v in 0..self.variables {
-            self.write(self.bound[v]);
+            match self.origins {
+                true => self.write_origin(self.bound[v]),
+                false => self.write(self.bound[v]),
+            }
         }
         self.rows += 1;
         Ok(())
@@ -687,6 +695,15 @@ impl Search<'_> {
         while left != 0 {
             self.copy(self.element(held, left.trailing_zeros()));
             left &= left - 1;
+        }
+    }
+
+    /// Row form 2: the index, then the marks in two words, low half first; no marks of an integer or a tuple.
+    fn write_origin(&mut self, held: Held) {
+        let marks = if self.is_collection(held) { held.marks } else { 0 };
+        for word in [held.at as i32, marks as i32, (marks >> 32) as i32] {
+            self.room[self.words] = word;
+            self.words += 1;
         }
     }
 
@@ -765,6 +782,7 @@ fn checked(
         room,
         bound: [Held { at: 0, marks: 0 }; 16],
         inside: false,
+        origins: false,
         rows: 0,
         steps: 0,
         words: 0,
@@ -773,6 +791,19 @@ fn checked(
 
 pub fn match_words(matcher: &[i32], pattern: &[i32], target: &[i32], budget: u32, room: &mut [i32]) -> Matched {
     checked(matcher, pattern, target, budget, room, |mut search| {
+        let start = Atom { pattern: 0, matcher: 0, value: search.whole(0), older: None };
+        let ended = search.take_up(Some(&start));
+        search.numbers(ended)
+    })
+}
+
+/// Match with rows in the form that is picked.
+pub fn match_in(form: u32, [matcher, pattern, target]: [&[i32]; 3], budget: u32, room: &mut [i32]) -> Matched {
+    if form != 1 && form != 2 {
+        return [20, 0, 0, 0, 0, 0];
+    }
+    checked(matcher, pattern, target, budget, room, |mut search| {
+        search.origins = form == 2;
         let start = Atom { pattern: 0, matcher: 0, value: search.whole(0), older: None };
         let ended = search.take_up(Some(&start));
         search.numbers(ended)

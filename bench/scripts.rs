@@ -223,8 +223,8 @@ fn play_picks(services: &Services, picks: Picks, case: &[&str]) -> Played {
     let given = [(); 3].map(|_| words(lines.next()));
     let limits: Vec<u32> = numbers(lines.next());
     let mut room = vec![ROOM; limits[1] as usize];
-    let got = match services.match_with {
-        Some(call) => call(picks, [&given[0], &given[1], &given[2]], limits[0], &mut room),
+    let got = match services.match_in {
+        Some(call) => call(picks[0], [&given[0], &given[1], &given[2]], limits[0], &mut room),
         None => (services.match_words)(&given[0], &given[1], &given[2], limits[0], &mut room),
     };
     same("the lines", "=", lines.next())?;
@@ -259,7 +259,7 @@ pub fn file(services: &Services, kind: Kind, all: &str) -> Vec<(String, Option<P
             let one = match kind {
                 Kind::Picks => {
                     let picks = picks(script[0]);
-                    (services.match_with.is_some() || picks == PLAIN).then(|| play_picks(services, picks, &script[1..]))
+                    (picks == PLAIN || services.match_in.is_some() && picks[1..] == PLAIN[1..]).then(|| play_picks(services, picks, &script[1..]))
                 }
                 Kind::Book => services.book.as_ref().map(|book| play_book(book, &script)),
                 Kind::Run => services.open.map(|open| play_run(open, &script)),

@@ -44,7 +44,7 @@ extern "C" {
 /* The version of this header. lozhbinor_version() gives that of the library:
  * the same number, or the two do not belong together. */
 #define LOZHBINOR_VERSION_MAJOR 2
-#define LOZHBINOR_VERSION_MINOR 1
+#define LOZHBINOR_VERSION_MINOR 2
 #define LOZHBINOR_VERSION (1000 * LOZHBINOR_VERSION_MAJOR + LOZHBINOR_VERSION_MINOR)
 
 uint32_t lozhbinor_version(void);
@@ -112,6 +112,16 @@ enum {
     LOZHBINOR_SHORT = 24        /* a slice for the answer is too short; nothing was written */
 };
 
+/* The forms of a row. In form 1 each variable has its value in target form. In
+ * form 2 it has three words: the index of the value's tag in the target, and
+ * which elements of the collection that stands there are the value's, bit by
+ * bit, the first element lowest, low half first; for an integer or a tuple 0 0. */
+enum {
+    LOZHBINOR_FORM_WORDS = 1,
+    LOZHBINOR_FORM_ORIGINS = 2,
+    LOZHBINOR_ORIGIN_WORDS = 3
+};
+
 /* The numbers of match, and their indices. */
 enum {
     LOZHBINOR_ANSWER = 0,
@@ -155,6 +165,22 @@ uint32_t lozhbinor_match(const int32_t *matcher, size_t matcher_words,
                          int32_t *room, size_t room_words,
                          uint8_t *numbers, size_t numbers_bytes);
 
+/* The same with rows in the form that is picked. In form 2 the room is never
+ * full with rows times variables times three words. */
+uint32_t lozhbinor_match_with(uint32_t form,
+                              const int32_t *matcher, size_t matcher_words,
+                              const int32_t *pattern, size_t pattern_words,
+                              const int32_t *target, size_t target_words,
+                              uint32_t budget,
+                              int32_t *room, size_t room_words,
+                              uint8_t *numbers, size_t numbers_bytes);
+
+/* The marks of a variable in a row of form 2, bit k for element k. */
+static inline uint64_t lozhbinor_marks(const int32_t *origin)
+{
+    return (uint64_t)(uint32_t)origin[1] | (uint64_t)(uint32_t)origin[2] << 32;
+}
+
 /* The worst count of steps of a rule where no collection has more than `cap`
  * elements: a match with that budget is never stopped by it. A rule that
  * everybody passes is turned away with 11. */
@@ -162,13 +188,6 @@ uint32_t lozhbinor_review(const int32_t *matcher, size_t matcher_words,
                           const int32_t *pattern, size_t pattern_words,
                           int32_t cap,
                           uint8_t *numbers, size_t numbers_bytes);
-
-/* The row forms: the words of each value; or, three words for a value, where it
- * stands in the target and which of its elements remain. */
-enum {
-    LOZHBINOR_FORM_WORDS = 1,
-    LOZHBINOR_FORM_ORIGINS = 2
-};
 
 /* The numbers of room: answer and place as review gives them, or 20, and the
  * words. */

@@ -54,11 +54,11 @@ fn put_six(out: &mut [u8], a: u64, b: u64, c: u64, d: u64, e: u64, f: u64)
 const SHORT: u32 = 24;
 
 // The library's version, as the header has it: a thousand times the first number, plus the second.
-const VERSION: u32 = 2001;
+const VERSION: u32 = 2002;
 
 #[no_mangle]
 pub extern "C" fn lozhbinor_version() -> u32
-    ensures { λ r. ⌜ r ≡ 2001 ⌝ }
+    ensures { λ r. ⌜ r ≡ 2002 ⌝ }
 {
     VERSION
 }
