@@ -21,24 +21,24 @@ module _ (ms ps ts : List ℤ) (budget : ℕ) (room : List ℤ) (numbers : List 
   unfolding matchCalled
   match-short h = rw (lt-ltb (length numbers) 48 h)
 
-  pub match-told : (m : Matched) (after : List ℤ) (out : List ℕ) (a p w k : ℕ) → 48 ≤ length numbers → told m after ≡ match ms ps ts budget room
-      → a ≡ m .answer → p ≡ m .place → w ≡ m .words → k ≡ m .cause → out ≡ over (bytesOf (a ∷ p ∷ m .rows ∷ m .steps ∷ w ∷ k ∷ [])) numbers
-      → called (m .answer) after out ≡ matchCalled ms ps ts budget room numbers
+  pub match-told : (m : Matched) (after : List ℤ) (out : List ℕ) (r : ℕ) → 48 ≤ length numbers → told m after ≡ match ms ps ts budget room
+      → r ≡ m .answer → out ≡ over (bytesOf (m .answer ∷ m .place ∷ m .rows ∷ m .steps ∷ m .words ∷ m .cause ∷ [])) numbers
+      → called r after out ≡ matchCalled ms ps ts budget room numbers
   unfolding matchCalled matchTold matchNumbers told
-  match-told m after out a p w k h e qa qp qw qk o =
-      rw (le-ltb (length numbers) 48 h) (rw (o, qa, qp, qw, qk) (ap (λ (x : paper.Matched). matchTold x numbers) e))
+  match-told m after out r h e q o =
+      rw (le-ltb (length numbers) 48 h) (rw (o, q) (ap (λ (x : paper.Matched). matchTold x numbers) e))
 
 module _ (form : ℕ) (ms ps ts : List ℤ) (budget : ℕ) (room : List ℤ) (numbers : List ℕ) where
   pub with-short : length numbers < 48 → called 24 room numbers ≡ matchWithCalled form ms ps ts budget room numbers
   unfolding matchWithCalled
   with-short h = rw (lt-ltb (length numbers) 48 h)
 
-  pub with-told : (m : Matched) (after : List ℤ) (out : List ℕ) (a p w k : ℕ) → 48 ≤ length numbers → told m after ≡ matchWith form ms ps ts budget room
-      → a ≡ m .answer → p ≡ m .place → w ≡ m .words → k ≡ m .cause → out ≡ over (bytesOf (a ∷ p ∷ m .rows ∷ m .steps ∷ w ∷ k ∷ [])) numbers
-      → called (m .answer) after out ≡ matchWithCalled form ms ps ts budget room numbers
+  pub with-told : (m : Matched) (after : List ℤ) (out : List ℕ) (r : ℕ) → 48 ≤ length numbers → told m after ≡ matchWith form ms ps ts budget room
+      → r ≡ m .answer → out ≡ over (bytesOf (m .answer ∷ m .place ∷ m .rows ∷ m .steps ∷ m .words ∷ m .cause ∷ [])) numbers
+      → called r after out ≡ matchWithCalled form ms ps ts budget room numbers
   unfolding matchWithCalled matchTold matchNumbers told
-  with-told m after out a p w k h e qa qp qw qk o =
-      rw (le-ltb (length numbers) 48 h) (rw (o, qa, qp, qw, qk) (ap (λ (x : paper.Matched). matchTold x numbers) e))
+  with-told m after out r h e q o =
+      rw (le-ltb (length numbers) 48 h) (rw (o, q) (ap (λ (x : paper.Matched). matchTold x numbers) e))
 
 module _ (ms ps : List ℤ) (most : ℤ) (numbers : List ℕ) where
   pub review-short : length numbers < 24 → called 24 [] numbers ≡ reviewCalled ms ps most numbers
@@ -52,4 +52,9 @@ module _ (ms ps : List ℤ) (most : ℤ) (numbers : List ℕ) where
   review-told m out a p y h e qy qa qp o =
       rw (le-ltb (length numbers) 24 h) (rw (o, qa, qp) (ap (λ (x : paper.Reviewed). reviewTold x numbers) (e ∙ ap (review ms ps) qy)))
 
-pub ruleset calls = (match-short, match-told, with-short, with-told, review-short, review-told, needs)
+pub tells : (out numbers : List ℕ) (m : Matched) (a p w k : ℕ) → a ≡ m .answer → p ≡ m .place → w ≡ m .words → k ≡ m .cause
+    → out ≡ over (bytesOf (a ∷ p ∷ m .rows ∷ m .steps ∷ w ∷ k ∷ [])) numbers
+    → out ≡ over (bytesOf (m .answer ∷ m .place ∷ m .rows ∷ m .steps ∷ m .words ∷ m .cause ∷ [])) numbers
+tells out numbers m a p w k qa qp qw qk o = o ∙ rw (qa, qp, qw, qk)
+
+pub ruleset calls = (match-short, match-told, with-short, with-told, tells, review-short, review-told, needs)

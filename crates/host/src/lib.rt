@@ -2,6 +2,7 @@
 mod books;
 mod rooms;
 
+use services::matching::Matched;
 use services::matching::match_units;
 use services::matching::match_units_with;
 use services::review::review;
@@ -50,6 +51,26 @@ fn put_six(out: &mut [u8], a: u64, b: u64, c: u64, d: u64, e: u64, f: u64)
     put_number(out, 40, f);
 }
 
+// The bytes of match's numbers.
+const MATCH_BYTES: usize = 48;
+
+// The numbers of a match are written, and its answer is given back.
+fn tell(m: Matched, numbers: &mut [u8]) -> u32
+    requires { ⌜ 48 ≤ length (now numbers) ⌝ }
+    ensures { λ r. ⌜ (r ≡ m .answer) × (now (numbers .exit) ≡ over (bytesOf (m .answer ∷ m .place ∷ m .rows ∷ m .steps ∷ m .words ∷ m .cause ∷ [])) (now (numbers .entry))) ⌝ }
+{
+    put_six(
+        numbers,
+        wide(m.answer),
+        wide_index(m.place),
+        m.rows,
+        m.steps,
+        wide_index(m.words),
+        wide(m.cause),
+    );
+    m.answer
+}
+
 // 24 short: the slice for the numbers is too short for them.
 const SHORT: u32 = 24;
 
@@ -74,20 +95,11 @@ pub extern "C" fn lozhbinor_match(
 ) -> u32
     ensures { λ r. ⌜ called r (now (room .exit)) (now (numbers .exit)) ≡ matchCalled (now (matcher .entry)) (now (pattern .entry)) (now (target .entry)) budget (now (room .entry)) (now (numbers .entry)) ⌝ }
 {
-    if numbers.len() < 48 {
+    if numbers.len() < MATCH_BYTES {
         return SHORT;
     }
     let m = match_units(matcher, pattern, target, budget, room);
-    put_six(
-        numbers,
-        wide(m.answer),
-        wide_index(m.place),
-        m.rows,
-        m.steps,
-        wide_index(m.words),
-        wide(m.cause),
-    );
-    m.answer
+    tell(m, numbers)
 }
 
 // Match with its rows in the form that the caller picks: 20 where that is unknown.
@@ -103,20 +115,11 @@ pub extern "C" fn lozhbinor_match_with(
 ) -> u32
     ensures { λ r. ⌜ called r (now (room .exit)) (now (numbers .exit)) ≡ matchWithCalled form (now (matcher .entry)) (now (pattern .entry)) (now (target .entry)) budget (now (room .entry)) (now (numbers .entry)) ⌝ }
 {
-    if numbers.len() < 48 {
+    if numbers.len() < MATCH_BYTES {
         return SHORT;
     }
     let m = match_units_with(form, matcher, pattern, target, budget, room);
-    put_six(
-        numbers,
-        wide(m.answer),
-        wide_index(m.place),
-        m.rows,
-        m.steps,
-        wide_index(m.words),
-        wide(m.cause),
-    );
-    m.answer
+    tell(m, numbers)
 }
 
 #[no_mangle]

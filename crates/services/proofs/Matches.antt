@@ -29,7 +29,8 @@ use Rattle.tests.specs.declared.Judgement.{Judgement}
 use Rattle.tests.specs.declared.Judgement.the-variants.{Accepted, Refused}
 use Rattle.tests.specs.declared.TargetJudgement.{TargetJudgement}
 use Rattle.tests.specs.declared.TargetJudgement.the-variants as targets
-use Rattle.services.specs.Matches.{Ready}
+use Rattle.services.specs.Matches.{Ready, told, away}
+use Rattle.services.specs.declared.matching.Matched.{Matched}
 
 -- ---- What a judgement says.
 
@@ -70,17 +71,17 @@ rule-whole ms ps x p q = let r = was-accepted (ruleOf ms ps) x p q in record { m
 -- ---- The answers 1 to 6.
 
 module _ (form : Form) (ms ps ts : List ℤ) (budget : ℕ) (room : List ℤ) (x : Judgement) (p : x ≡ judgement (ruleOf ms ps)) where
-  pub rule-away : (a i : ℕ) → x ≡ Refused a i → turnedAway a i 0 room ≡ matchIn form ms ps ts budget room
-  unfolding matchIn
-  rule-away a i q = sym (ap (matchRule form budget room ts) (was-refused (ruleOf ms ps) x a i p q))
+  pub rule-away : (a i : ℕ) → x ≡ Refused a i → (r : Matched) → r ≡ away a i 0 → told r room ≡ matchIn form ms ps ts budget room
+  unfolding matchIn told away turnedAway
+  rule-away a i q r e = ap (λ (y : Matched). told y room) e ∙ sym (ap (matchRule form budget room ts) (was-refused (ruleOf ms ps) x a i p q))
 
   module _ (ok : x ≡ Accepted) (y : TargetJudgement) (k : y ≡ targetJudgement ts (targetUnder ms ts)) where
-    pub target-away : (a i c : ℕ) → y ≡ targets.Refused a i c → turnedAway a i c room ≡ matchIn form ms ps ts budget room
-    unfolding matchIn matchRule
-    target-away a i c q =
+    pub target-away : (a i c : ℕ) → y ≡ targets.Refused a i c → (r : Matched) → r ≡ away a i c → told r room ≡ matchIn form ms ps ts budget room
+    unfolding matchIn matchRule told away turnedAway
+    target-away a i c q m e =
         let r = was-accepted (ruleOf ms ps) x p ok in
         let t = target-refused ts (targetOf (r .0 .matcher) ts) y a i c (k ∙ ap (targetJudgement ts) (under ms ps ts (r .0) (r .1))) q in
-        ap (λ n. turnedAway a i n room) (t .1) ∙ sym (ap (matchRule form budget room ts) (r .1) ∙ ap (matchTarget form budget room ts (r .0)) (t .0))
+        ap (λ (y : Matched). told y room) e ∙ ap (λ n. turnedAway a i n room) (t .1) ∙ sym (ap (matchRule form budget room ts) (r .1) ∙ ap (matchTarget form budget room ts (r .0)) (t .0))
 
 pub both-ready : (ms ps ts : List ℤ) (x : Judgement) (y : TargetJudgement) → x ≡ judgement (ruleOf ms ps) → x ≡ Accepted
     → y ≡ targetJudgement ts (targetUnder ms ts) → y ≡ targets.Accepted → Ready ms ps ts
@@ -134,9 +135,9 @@ module _ (ms ps ts : List ℤ) (budget : ℕ) (room : List ℤ) (r : paper.Match
   unfolding matchWith formOf formBy
   with-form-2 n z e = rw z e
 
-pub form-unknown : (ms ps ts : List ℤ) (budget : ℕ) (room : List ℤ) (n : ℕ) → (n ≡ 1 → ⊥) → (n ≡ 2 → ⊥) → turnedAway 20 0 0 room ≡ matchWith n ms ps ts budget room
-unfolding matchWith formOf
-form-unknown ms ps ts budget room zero f g = refl
-form-unknown ms ps ts budget room (suc zero) f g = absurd (f refl)
-form-unknown ms ps ts budget room (suc (suc zero)) f g = absurd (g refl)
-form-unknown ms ps ts budget room (suc (suc (suc n))) f g = refl
+pub form-unknown : (ms ps ts : List ℤ) (budget : ℕ) (room : List ℤ) (n : ℕ) → (n ≡ 1 → ⊥) → (n ≡ 2 → ⊥) → (r : Matched) → r ≡ away 20 0 0 → told r room ≡ matchWith n ms ps ts budget room
+unfolding matchWith formOf told away turnedAway
+form-unknown ms ps ts budget room zero f g r e = ap (λ (y : Matched). told y room) e
+form-unknown ms ps ts budget room (suc zero) f g r e = absurd (f refl)
+form-unknown ms ps ts budget room (suc (suc zero)) f g r e = absurd (g refl)
+form-unknown ms ps ts budget room (suc (suc (suc n))) f g r e = ap (λ (y : Matched). told y room) e

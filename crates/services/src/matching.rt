@@ -9,7 +9,7 @@ use words::ENTRIES;
 ghost use mathlib.Core.Path.{_≡_};
 ghost use Rattle.rules.specs.Services.{matchIn, match, matchWith};
 ghost use Rattle.value_rows.specs.Row.{formBy};
-ghost use Rattle.services.specs.Matches.{Ready, told};
+ghost use Rattle.services.specs.Matches.{Ready, told, away};
 
 pub struct Matched {
     pub answer: u32,
@@ -18,6 +18,23 @@ pub struct Matched {
     pub steps: u64,
     pub words: usize,
     pub cause: u32,
+}
+
+// The answer to a row form that there is not.
+const UNKNOWN_FORM: u32 = 20;
+
+// A refusal has no rows, steps or words.
+fn turned_away(answer: u32, place: usize, cause: u32) -> Matched
+    ensures { λ r. ⌜ r ≡ away answer place cause ⌝ }
+{
+    Matched {
+        answer: answer,
+        place: place,
+        rows: 0,
+        steps: 0,
+        words: 0,
+        cause: cause,
+    }
 }
 
 // The run of a rule and a target that were accepted.
@@ -84,24 +101,10 @@ fn match_in(
     ensures { λ r. ⌜ told r (now (room .exit)) ≡ matchIn (formBy origins) (now (matcher .entry)) (now (pattern .entry)) (now (target .entry)) budget (now (room .entry)) ⌝ }
 {
     if let Judgement::Refused(a, i) = rule_refused(matcher, pattern) {
-        return Matched {
-            answer: a,
-            place: i,
-            rows: 0,
-            steps: 0,
-            words: 0,
-            cause: 0,
-        };
+        return turned_away(a, i, 0);
     }
     if let TargetJudgement::Refused(a, i, c) = target_refused(matcher, target) {
-        return Matched {
-            answer: a,
-            place: i,
-            rows: 0,
-            steps: 0,
-            words: 0,
-            cause: c,
-        };
+        return turned_away(a, i, c);
     }
     carry_out(origins, matcher, pattern, target, budget, room)
 }
@@ -136,12 +139,5 @@ pub fn match_units_with(
     if form == 2 {
         return match_in(true, matcher, pattern, target, budget, room);
     }
-    Matched {
-        answer: 20,
-        place: 0,
-        rows: 0,
-        steps: 0,
-        words: 0,
-        cause: 0,
-    }
+    turned_away(UNKNOWN_FORM, 0, 0)
 }

@@ -1,13 +1,10 @@
 -- `services::matching::match_units_with` meets its contract: the form, then match in it. Assumes nothing.
 use borrow.Author.Needs.{needs}
-use Rattle.rules.specs.Services.{turnedAway}
-use Rattle.services.specs.Matches.{told}
 use Rattle.services.proofs.Matches.{with-form-1, with-form-2, form-unknown}
 use Rattle.services.proofs.matching.match_units_with.Statement.{statement}
 use Rattle.services.proofs.matching.match_units_with.Tie as tie
 
 pub match-units-with-spec : {M : Type 1} → statement M
-unfolding told turnedAway
 match-units-with-spec = tie.close (tie.spec
     (λ c κs. search needs)
     (λ c. search needs)
@@ -15,4 +12,5 @@ match-units-with-spec = tie.close (tie.spec
     (λ c κs. search needs)
     (λ c. search needs)
     (λ c. search (with-form-2, needs))
+    (λ c κs. search needs)
     (λ c. search (form-unknown, needs)))
