@@ -7,6 +7,7 @@
 //!   bench stack                    the deepest stack of a call in bytes, and its bar
 //! The services are the library's, through the C border (built with `--cfg library`), or else those of a slow second program.
 
+mod books;
 mod cases;
 mod compare;
 mod inputs;
@@ -113,7 +114,13 @@ fn run_comparison(inputs: u64, seed: u64) -> bool {
     println!("  of these under tuples: {:?}", &tally.tuples[..12]);
     println!("  of these with and, or, not: {:?}", &tally.choices[..12]);
     println!("  answer 5 by cause, 1 to 7: {:?}", &tally.causes[1..]);
-    tally.differ == 0
+    let books = match &TESTED.book {
+        Some(book) => books::random(book, inputs, seed),
+        None => return tally.differ == 0,
+    };
+    println!("{} against the reference: {} random calls on rule books, {} differ", TESTED.name, books.calls, books.differ);
+    println!("  by answer, 0 and 12 to 23: {} {:?}", books.answers[0], &books.answers[12..24]);
+    tally.differ == 0 && books.differ == 0
 }
 
 fn list_rules() -> bool {

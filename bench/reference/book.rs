@@ -28,6 +28,12 @@ pub fn store(book: &mut [u8], at: usize, words: &Words) {
     }
 }
 
+/// The check, made good.
+pub fn seal(words: &mut Words) {
+    let sum = check(words);
+    words[CHECK..].copy_from_slice(&sum);
+}
+
 fn check(words: &Words) -> [u16; 2] {
     let sum: u64 = (0..CHECK).map(|i| u64::from(words[i]) * (i as u64 + 1)).sum::<u64>() % 65537;
     [(sum & 0xffff) as u16, (sum >> 16) as u16]
@@ -98,8 +104,7 @@ fn lay(book: &mut [u8], at: usize, new: &Rule) {
         words[5 + 2 * k] = word as u16;
         words[6 + 2 * k] = (word as u32 >> 16) as u16;
     }
-    let sum = check(&words);
-    words[CHECK..].copy_from_slice(&sum);
+    seal(&mut words);
     store(book, at, &words);
 }
 
@@ -134,8 +139,7 @@ fn withdrawn(book: &mut [u8], used: u32, badge: u16) -> Result<u32, u64> {
     let mut words = [0; 256];
     let old = block(book, at).unwrap();
     words[..2].copy_from_slice(&old[..2]);
-    let sum = check(&words);
-    words[CHECK..].copy_from_slice(&sum);
+    seal(&mut words);
     store(book, at, &words);
     Ok(used)
 }
