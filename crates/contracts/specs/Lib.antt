@@ -3,4 +3,5 @@ pub mod Services
 pub mod Border
 pub mod Lines
 pub mod Rooms
+pub mod WorkedRooms
 pub mod Books
