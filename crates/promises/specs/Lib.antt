@@ -21,6 +21,9 @@ pub mod Matching
 pub mod Reaching
 pub mod Found
 pub mod Causes
+pub mod Origins
+pub mod Bindings
+pub mod Telling
 pub mod Elsewhere
 pub mod Clauses
 pub mod Main

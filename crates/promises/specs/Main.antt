@@ -4,6 +4,7 @@
 -- Determined   two results that the definitions allow agree
 -- Ways         the good ways: each once, in order; the states of the search find these and no others
 -- Runs         at every budget and in every room: which states, rows, words, and when 0, 7 and 8
+-- Origins      row form 2: it points back, and tells ways apart; 20
 -- Reviews      review's answers, each exactly when; rules that everybody passes
 -- Bounds       review's figure bounds steps and rows; budget and room that suffice
 -- Reached      review's figure never exceeds the old one, and is reached
@@ -17,6 +18,7 @@
 pub mod Determined
 pub mod Ways
 pub mod Runs
+pub mod Origins
 pub mod Reviews
 pub mod Bounds
 pub mod Reached

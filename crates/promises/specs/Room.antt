@@ -36,7 +36,7 @@ use Rattle.promises.specs.Budget.{rowsOf}
 use Rattle.promises.specs.Bound.{Fine, fine-target, rows-bound}
 use Rattle.forms.specs.Origins.{plain-target}
 
-row-append : (form : Form) (e d : Bindings) → row form (e ++ d) ≡ row form e ++ row form d
+pub row-append : (form : Form) (e d : Bindings) → row form (e ++ d) ≡ row form e ++ row form d
 unfolding row
 row-append form [] d = refl
 row-append form (v ∷ e) d = ap {B = List ℤ} (λ r. told form v ++ r) (row-append form e d) ∙ sym (append-assoc (told form v) (row form e) (row form d))
@@ -64,10 +64,10 @@ widest-grows asOrigins a b h = le-refl 3
 made-member : (b : Bool) (hs : List Halves) (here : Way) (x y : Valueᵒ) → Made b hs here x y → Mem (record { first = x; second = y }) hs
 made-member b hs here x y c = subst (λ (g : Halves). Mem g hs) (c .is) (in-numbered hs (c .c) (c .member))
 
-cons-member : (m : Matcher) (v : Valueᵒ) (here : Way) (a b : Valueᵒ) → ConsBy m v here a b → Mem (record { first = a; second = b }) (consHalves m v)
+pub cons-member : (m : Matcher) (v : Valueᵒ) (here : Way) (a b : Valueᵒ) → ConsBy m v here a b → Mem (record { first = a; second = b }) (consHalves m v)
 cons-member m v here a b h = made-member (isMultiset m) (consHalves m v) here a b (cons-complete m v here a b h)
 
-join-member : (v : Valueᵒ) (here : Way) (a b : Valueᵒ) → JoinBy v here a b → Mem (record { first = a; second = b }) (joinHalves v)
+pub join-member : (v : Valueᵒ) (here : Way) (a b : Valueᵒ) → JoinBy v here a b → Mem (record { first = a; second = b }) (joinHalves v)
 join-member v here a b h = made-member true (joinHalves v) here a b (join-complete v here a b h)
 
 -- ---- One binding for each variable, where the pattern and the value fit: a tuple's parts are then as many as its patterns.
