@@ -16,7 +16,7 @@
 #include <sys/mman.h>
 #include <unistd.h>
 
-enum { WORDS = 2048, FILL = -77, DEPTH = 4 };
+enum { WORDS = 2048, FILL = -77, DEPTH = 4, BOOK = 4 * LOZHBINOR_BLOCK_BYTES };
 
 static uint64_t state;
 
@@ -184,7 +184,7 @@ static void wrong(uint64_t call, const char *what)
 }
 
 struct lent {
-    struct pages matcher, pattern, target, room, numbers;
+    struct pages matcher, pattern, target, room, numbers, book;
 };
 
 struct call {
@@ -264,22 +264,62 @@ static int room(uint64_t no, const struct lent *l, const struct call *c)
     struct lozhbinor_roomed r = lozhbinor_roomed_of(numbers);
     if (r.answer != answer || answer != (form == 1 || form == 2 ? reviewed : LOZHBINOR_FORM) || (answer != LOZHBINOR_DONE && r.words != 0))
         wrong(no, "an answer that room does not give");
-    if (answer != LOZHBINOR_DONE || form != LOZHBINOR_FORM_WORDS || r.words > WORDS || budget > 100000)
+    if (answer != LOZHBINOR_DONE || r.words > WORDS || budget > 100000)
         return 0;
-    answer = lozhbinor_match(m, c->m.count, p, c->p.count, t, c->t.count, budget, place_of(l->room, 4 * (size_t)r.words, c->at_end), (size_t)r.words,
-                             numbers, LOZHBINOR_MATCH_BYTES);
+    answer = lozhbinor_match_with(form, m, c->m.count, p, c->p.count, t, c->t.count, budget, place_of(l->room, 4 * (size_t)r.words, c->at_end),
+                                  (size_t)r.words, numbers, LOZHBINOR_MATCH_BYTES);
     if (answer == LOZHBINOR_BUDGET || answer == LOZHBINOR_FULL)
         wrong(no, "the words that suffice do not");
     return answer == LOZHBINOR_DONE;
+}
+
+/* A call on a book is answered from the table, and changes no byte where it is refused or only reads. */
+static void answered(uint64_t no, uint32_t answer, const uint8_t *before, const uint8_t *book, size_t lent, int reads)
+{
+    if (answer != LOZHBINOR_DONE && (answer < LOZHBINOR_BOOK_CHECK || answer > LOZHBINOR_BOOK_LONG) && answer != LOZHBINOR_BOOK_NOT_LIVE)
+        wrong(no, "an answer that a book does not give");
+    if ((reads || answer != LOZHBINOR_DONE) && memcmp(before, book, lent) != 0)
+        wrong(no, "a byte of a book changed");
+}
+
+/* A book of some blocks and bytes: some adds and withdrawals, some damage, and every call. Gives the live rules at its end. */
+static uint64_t book(uint64_t no, const struct lent *l, const struct call *c)
+{
+    size_t lent = below(2) ? LOZHBINOR_BLOCK_BYTES * below(5) : below(BOOK + 1);
+    uint8_t before[BOOK], *at = place_of(l->book, lent, c->at_end), *numbers = place_of(l->numbers, LOZHBINOR_RULE_BYTES, c->at_end);
+    int32_t *words = place_of(l->room, 4 * LOZHBINOR_RULE_WORDS, c->at_end);
+    const int32_t *m = laid(l->matcher, &c->m, c->at_end), *p = laid(l->pattern, &c->p, c->at_end);
+    uint32_t used = 0;
+    memset(at, 170, lent);
+    for (int k = 0; k < 6; k++) {
+        uint16_t badge = (uint16_t)below(5);
+        memcpy(before, at, lent);
+        if (below(4) == 0)
+            answered(no, lozhbinor_book_withdraw(at, lent, used, badge, numbers, LOZHBINOR_BOOK_BYTES), before, at, lent, 0);
+        else
+            answered(no, lozhbinor_book_add(at, lent, used, (uint16_t)below(4), badge, below(4), m, c->m.count, p, c->p.count, numbers, LOZHBINOR_BOOK_BYTES),
+                     before, at, lent, 0);
+        used = (uint32_t)lozhbinor_number(numbers, LOZHBINOR_USED);
+        if (lent > 0 && below(16) == 0)
+            at[below((uint32_t)lent)] ^= (uint8_t)(1 + below(255));
+        if (below(32) == 0)
+            used = below(7);
+        memcpy(before, at, lent);
+        answered(no, lozhbinor_book_read(at, lent, used, badge, words, LOZHBINOR_RULE_WORDS, numbers, LOZHBINOR_RULE_BYTES), before, at, lent, 1);
+        answered(no, lozhbinor_book_block(at, lent, below(6), words, LOZHBINOR_RULE_WORDS, numbers, LOZHBINOR_RULE_BYTES), before, at, lent, 1);
+        answered(no, lozhbinor_book_check(at, lent, used, numbers, LOZHBINOR_BOOK_BYTES), before, at, lent, 1);
+    }
+    answered(no, lozhbinor_book_total(at, lent, used, numbers, LOZHBINOR_BOOK_BYTES), before, at, lent, 1);
+    return lozhbinor_number(numbers, LOZHBINOR_NUMBER);
 }
 
 int main(int argc, char **argv)
 {
     uint64_t calls = argc > 1 ? strtoull(argv[1], NULL, 10) : 50000;
     state = 2463534242u + (argc > 2 ? strtoull(argv[2], NULL, 10) : 1);
-    struct lent l = {pages_for(4 * WORDS), pages_for(4 * WORDS), pages_for(4 * WORDS), pages_for(4 * WORDS), pages_for(64)};
+    struct lent l = {pages_for(4 * WORDS), pages_for(4 * WORDS), pages_for(4 * WORDS), pages_for(4 * WORDS), pages_for(64), pages_for(BOOK)};
     static struct call c;
-    uint64_t answers[LOZHBINOR_SHORT + 1] = {0}, sufficed = 0;
+    uint64_t answers[LOZHBINOR_SHORT + 1] = {0}, sufficed = 0, live = 0;
     for (uint64_t no = 0; no < calls; no++) {
         uint8_t once[64], again[64];
         int next = 0;
@@ -301,9 +341,11 @@ int main(int argc, char **argv)
         answers[c.bytes < LOZHBINOR_MATCH_BYTES ? LOZHBINOR_SHORT : lozhbinor_number(once, LOZHBINOR_ANSWER)]++;
         review(no, &l, &c);
         sufficed += (uint64_t)room(no, &l, &c);
+        live += book(no, &l, &c);
     }
     printf("fuzz: %" PRIu64 " random calls of match, twice each, and of review, between guard pages: 0 differ\n", calls);
     printf("fuzz: %" PRIu64 " of these rules matched in the room that suffices\n", sufficed);
+    printf("fuzz: as many rule books, with %" PRIu64 " live rules in the end\n", live);
     printf("fuzz: answers");
     for (uint32_t a = 0; a <= LOZHBINOR_SHORT; a++)
         if (answers[a] > 0)
