@@ -168,6 +168,11 @@ pub fn match_in(form: u32, words: [&[i32]; 3], budget: u32, room: &mut [i32]) ->
     numbers(&bytes, answer)
 }
 
+/// Rows in form 2.
+pub fn match_origins(matcher: &[i32], pattern: &[i32], target: &[i32], budget: u32, room: &mut [i32]) -> Matched {
+    match_in(2, [matcher, pattern, target], budget, room)
+}
+
 pub fn review(matcher: &[i32], pattern: &[i32], cap: i32) -> Reviewed {
     let mut bytes = [MARK; 32];
     let answer = call_review([matcher, pattern], cap, &mut bytes);

@@ -2,7 +2,7 @@
 //!   bench cases FILE..             case files, through the reference and through the services
 //!   bench compare N SEED           N random inputs: the services against the reference
 //!   bench rules                    what is measured: name, bar in tenths of an instruction, for a `step` or a `call`, and what it is
-//!   bench speed CASE ROUNDS WHO    one of them again and again, by `plain`, `tuned` or `library`; prints the steps of one run
+//!   bench speed CASE ROUNDS WHO    one of them again and again, by `plain`, `tuned`, `library` or `origins` (the library in row form 2); prints the steps of one run
 //!   bench listing ROUNDS           a book of 1,000 rules tested and listed again and again; prints the words of its blocks, and the bar
 //!   bench stack                    the deepest stack of a call in bytes, and its bar
 //! The services are the library's, through the C border (built with `--cfg library`), or else those of a slow second program.
@@ -131,10 +131,18 @@ fn list_rules() -> bool {
     true
 }
 
+/// The library with its rows in form 2.
+#[cfg(library)]
+const ORIGINS: Services = Services { match_words: library::match_origins, ..TESTED };
+
+#[cfg(not(library))]
+const ORIGINS: Services = TESTED;
+
 fn run_speed(name: &str, rounds: u64, who: &str) -> bool {
     let services = match who {
         "plain" => &REFERENCE,
         "tuned" => &TUNED,
+        "origins" => &ORIGINS,
         _ => &TESTED,
     };
     let case = speed::CASES.iter().find(|case| case.name == name);

@@ -66,7 +66,7 @@ pub const CASES: [Case; 12] = [
     Case { name: "none", about: "budget 0 on 64 units, whole call", bar: 57_200, per: Per::Call,
         matcher: MULTISET, pattern: TWO_OF_A_RANK, target: || units(64, |_| 7), budget: 0 },
     // with some twenty for the caller's own instructions, which differ from compiler to compiler
-    Case { name: "P1", about: "two of a rank, {2 8 2}, whole call", bar: 37_600, per: Per::Call,
+    Case { name: "P1", about: "two of a rank, {2 8 2}, whole call", bar: 38_000, per: Per::Call,
         matcher: MULTISET, pattern: TWO_OF_A_RANK, target: || vec![1, 3, 0, 2, 0, 8, 0, 2], budget: u32::MAX },
 ];
 
@@ -88,7 +88,7 @@ impl Case {
     /// Runs the rule `rounds` times; gives the steps of one run. With no rounds all else is done, so that it can be taken off.
     pub fn run(&self, services: &Services, rounds: u64) -> u64 {
         let target = (self.target)();
-        let mut room = vec![0; 400_000];
+        let mut room = vec![0; 600_000];
         let mut steps = 0;
         for _ in 0..rounds {
             let numbers = (services.match_words)(self.matcher, self.pattern, &target, self.budget, &mut room);
