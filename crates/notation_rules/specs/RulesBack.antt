@@ -45,7 +45,7 @@ rule-tokens (rule (some v) m p) h = U.back (λ u. theMatcher (some u)) v [] (mar
 good-pattern : (p : Pattern) → B.Fine p → Numbered 0 (events p []) → Good 0 (P.write 1 p [])
 good-pattern p h n = good p 1 0 [] [] (omega arith) h n (λ m l g. good-nothing m l)
 
-good-rule : (r : Rule) → Fine r → Good 0 (writeRule r)
+pub good-rule : (r : Rule) → Fine r → Good 0 (writeRule r)
 unfolding Fine FineUnits writeRule units
 good-rule (rule none m p) h = good-mark by 0 _ (good-matcher m false 0 _ (good-mark with′ 0 _ (good-pattern p (h .2) (h .3))))
 good-rule (rule (some v) m p) h = good-mark matching 0 _ (good-target v 0 _ (h .0) (good-mark by 0 _ (good-matcher m false 0 _ (good-mark with′ 0 _ (good-pattern p (h .2) (h .3))))))
