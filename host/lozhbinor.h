@@ -23,7 +23,7 @@
  * input is wrong: every words, budget and room give one of the answers below.
  * Nothing is allocated, nothing is kept between calls, and two threads may call
  * at the same time on slices of their own. The deepest stack of a match, measured
- * over the rules of bench/, is under 28 KB. A call is not interrupted from
+ * over the rules of bench/, is under 29 KB. A call is not interrupted from
  * outside: it ends by itself, a match after at most `budget` steps.
  *
  * How to choose a room. Either by what the game shows: with room for some rows

@@ -1,5 +1,5 @@
 -- The numbers of the slots: one line, and the loop. Assumes nothing.
-use Prim.Native.Nat.{ℕ, zero, suc, _+_, _-_, _*_, _<_, _≤_}
+use Prim.Native.Nat.{ℕ, zero, suc, _+_, _-_, _<_, _≤_}
 use native.Mathlib.Numerals.{add-one}
 use native.Mathlib.Omega.{arith}
 use mathlib.Core.Path.{_≡_, refl, sym, ap, _∙_}
@@ -9,8 +9,9 @@ use lib.ListN.{length, getD, set}
 use mir.Syntax.{w16, w64}
 use mir.Val.{Fits}
 use Rattle.words.specs.Words.{entries}
+use Rattle.tables.specs.Line.{Columns, named}
 use Rattle.program_rules.specs.Link.{opsIn}
-use Rattle.program_rules.specs.Slots.{width, slotted}
+use Rattle.program_rules.specs.Slots.{width, slotted, numbered}
 use Rattle.program_rules.specs.SlotLaws.{width-low, width-high, width-tuple, width-parts, width-sides, slotted-has, slotted-none}
 
 -- ---- One line.
@@ -34,19 +35,20 @@ pub ruleset width-rules = (wide-low, wide-high, wide-parts, wide-tuple, wide-sid
 
 -- ---- The loop.
 
-pub record Numbering (op : List ℕ) (last : ℕ) (arg₀ arg : List ℕ) (next left pc : ℕ) : Type 0 where
-  pub rest : slotted pc next left (opsIn op pc (suc last - pc)) arg ≡ slotted 0 16 0 (opsIn op 0 (suc last)) arg₀
+pub record Numbering (last : ℕ) (t₀ t : Columns) (next left pc : ℕ) : Type 0 where
+  pub rest : named (slotted pc next left (opsIn (t .op) pc (suc last - pc)) (t .arg)) t ≡ numbered (suc last) t₀
   pub reach : pc ≤ suc last
   pub few : next ≤ 16 + pc
 
-pub numbering-start : (op : List ℕ) (last : ℕ) (arg : List ℕ) → Numbering op last arg arg 16 0 0
-numbering-start op last arg = let z : suc last - 0 ≡ suc last = omega arith in record { rest = rw z; reach = omega arith; few = omega arith }
+pub numbering-start : (last : ℕ) (t : Columns) → Numbering last t t 16 0 0
+unfolding numbered
+numbering-start last t = let z : suc last - 0 ≡ suc last = omega arith in record { rest = rw z; reach = omega arith; few = omega arith }
 
 ops-more : (op : List ℕ) (last pc : ℕ) → pc ≤ last → opsIn op pc (suc last - pc) ≡ getD op pc 0 ∷ opsIn op (pc + 1) (suc last - (pc + 1))
 unfolding opsIn
 ops-more op last pc h = let z : suc last - pc ≡ suc (suc last - (pc + 1)) = omega arith in rw (z, add-one pc)
 
-module _ (op : List ℕ) (last : ℕ) (arg₀ arg : List ℕ) (next left pc : ℕ) (N : Numbering op last arg₀ arg next left pc) (low : last < entries) where
+module _ (last : ℕ) (t₀ t : Columns) (next left pc : ℕ) (N : Numbering last t₀ t next left pc) (low : last < entries) where
   module _ (h : pc ≤ last) where
     pub numbering-index : pc < entries
     numbering-index = omega arith
@@ -54,44 +56,45 @@ module _ (op : List ℕ) (last : ℕ) (arg₀ arg : List ℕ) (next left pc : �
     pub numbering-fits : Fits w64 (pc + 1)
     numbering-fits = record { fits = omega arith }
 
-    pub numbering-wide : Fits w64 (pc * 2)
-    numbering-wide = record { fits = omega arith }
-
     pub numbering-next : Fits w16 (next + 1)
     numbering-next = let f = N .few in record { fits = omega arith }
 
     pub numbering-less : suc last - (pc + 1) < suc last - pc
     numbering-less = omega arith
 
-    module _ (w : ℕ) (e : w ≡ width (getD op pc 0) left) where
-      step : slotted pc next left (getD op pc 0 ∷ opsIn op (pc + 1) (suc last - (pc + 1))) arg ≡ slotted 0 16 0 (opsIn op 0 (suc last)) arg₀
-      step = rw (ops-more op last pc h) at (N .rest)
+    module _ (o w : ℕ) (g : o ≡ getD (t .op) pc 0) (e : w ≡ width o left) where
+      abbrev os : List ℕ
+      os = opsIn (t .op) (pc + 1) (suc last - (pc + 1))
 
-      pub numbering-has : 0 < w → Numbering op last arg₀ (set arg pc next) (next + 1) (w - 1) (pc + 1)
-      numbering-has p =
+      step : named (slotted pc next left (o ∷ opsIn (t .op) (pc + 1) (suc last - (pc + 1))) (t .arg)) t ≡ numbered (suc last) t₀
+      step = rw (g) (rw (ops-more (t .op) last pc h) at (N .rest))
+
+      pub numbering-has : 0 < w → (u : Columns) → u ≡ named (set (t .arg) pc next) t → Numbering last t₀ u (next + 1) (w - 1) (pc + 1)
+      unfolding named
+      numbering-has p u k =
           let f = N .few in
           record {
-            rest = rw (add-one next, e)
-                (ap (λ q. slotted q (suc next) (width (getD op pc 0) left - 1) (opsIn op (pc + 1) (suc last - (pc + 1))) (set arg pc next)) (add-one pc)
-                ∙ sym (slotted-has pc next left (getD op pc 0) (opsIn op (pc + 1) (suc last - (pc + 1))) arg (omega arith)) ∙ step);
+            rest = rw (k, add-one next, e)
+                (ap (λ q. named (slotted q (suc next) (width o left - 1) os (set (t .arg) pc next)) t) (add-one pc)
+                ∙ ap (λ a. named a t) (sym (slotted-has pc next left o os (t .arg) (omega arith))) ∙ step);
             reach = omega arith;
             few = omega arith;
           }
 
-      pub numbering-none : w ≤ 0 → Numbering op last arg₀ arg next w (pc + 1)
+      pub numbering-none : w ≤ 0 → Numbering last t₀ t next w (pc + 1)
       numbering-none p =
           let f = N .few in
           let z : w ≡ 0 = omega arith in
           record {
             rest = rw z
-                (ap (λ q. slotted q next 0 (opsIn op (pc + 1) (suc last - (pc + 1))) arg) (add-one pc)
-                ∙ sym (slotted-none pc next left (getD op pc 0) (opsIn op (pc + 1) (suc last - (pc + 1))) arg (omega arith)) ∙ step);
+                (ap (λ q. named (slotted q next 0 os (t .arg)) t) (add-one pc)
+                ∙ ap (λ a. named a t) (sym (slotted-none pc next left o os (t .arg) (omega arith))) ∙ step);
             reach = omega arith;
             few = omega arith;
           }
 
-  pub numbering-end : last < pc → arg ≡ slotted 0 16 0 (opsIn op 0 (suc last)) arg₀
-  unfolding slotted opsIn
+  pub numbering-end : last < pc → t ≡ numbered (suc last) t₀
+  unfolding slotted opsIn named
   numbering-end h = let z : suc last - pc ≡ 0 = omega arith in rw z at (N .rest)
 
-pub ruleset numbering-rules = (numbering-start, numbering-index, numbering-fits, numbering-wide, numbering-next, numbering-less, numbering-has, numbering-none, numbering-end, needs)
+pub ruleset numbering-rules = (numbering-start, numbering-index, numbering-fits, numbering-next, numbering-less, numbering-has, numbering-none, numbering-end, needs)

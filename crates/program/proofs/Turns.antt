@@ -15,8 +15,10 @@ use mir.Syntax.{w64}
 use mir.Val.{Fits}
 use Rattle.words.specs.Words.{tagZ, tagAt, entries}
 use Rattle.words.proofs.Signed.{within}
-use Rattle.program_rules.specs.Lines.{Line, line, endLine, reservedLines, opsUnder, opOf, operandsOf, beyondTwo, reservedBy, stripLines, leafLine, firstUnder, secondUnder}
-use Rattle.program_rules.specs.Lines.{Waiting, waits, slotOf, fromBy, slotBy, behindBy, others, elseLine, elseLines, resumed, divided, linesFrom, lines-split, lines-leaf, linesOf, Columns, written, laid}
+use Rattle.tables.specs.declared.line.Line.{Line}
+use Rattle.program_rules.specs.Lines.{line, endLine, reservedLines, opsUnder, opOf, operandsOf, beyondTwo, reservedBy, stripLines, leafLine, firstUnder, secondUnder}
+use Rattle.tables.specs.Line.{Columns, written}
+use Rattle.program_rules.specs.Lines.{Waiting, waits, slotOf, fromBy, slotBy, behindBy, others, elseLine, elseLines, resumed, divided, linesFrom, lines-split, lines-leaf, linesOf, laid}
 use Rattle.program_rules.specs.Stack.{stack, waitingAt, popped, closeLines}
 use Rattle.program_rules.specs.Made.{cond-le, op-most}
 use Rattle.program_rules.specs.Bounds.{weight, heavy, heavy-most, weight-one, few, few-part, by-few, reserved-length}

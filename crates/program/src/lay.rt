@@ -14,25 +14,18 @@ use program_parts::tags::op_of;
 use program_parts::tags::operands;
 use program_parts::tags::reserved;
 use program_parts::wide;
-use words::ENTRIES;
+use tables::line::Lines;
 use words::tag_at;
 ghost use mathlib.Core.Path.{_≡_};
 ghost use Prim.Native.Nat.{suc, _<_, _≤_};
 ghost use lib.ListN.{length};
-ghost use Rattle.program_rules.specs.Lines.{linesOf, columns, laid};
+ghost use Rattle.tables.specs.Line.{columnsOf};
+ghost use Rattle.program_rules.specs.Lines.{linesOf, laid};
 
 // The rule's lines from the first entry on: the place of the last.
-pub fn lay(
-    m: &[i32],
-    p: &[i32],
-    op: &mut [u8; ENTRIES],
-    from: &mut [u16; ENTRIES],
-    arg: &mut [u16; ENTRIES],
-    mat: &mut [u8; ENTRIES],
-    con: &mut [i32; ENTRIES],
-) -> usize
+pub fn lay(m: &[i32], p: &[i32], lines: &mut Lines) -> usize
     requires { do ⌜ (← ⟦m.len()⟧) ≤ 64 ⌝ ∗ ⌜ (← ⟦p.len()⟧) ≤ 256 ⌝ }
-    ensures { λ r. ⌜ suc r ≡ length (linesOf (now (m .entry)) (now (p .entry))) ⌝ ∗ ⌜ columns (now (op .exit)) (now (from .exit)) (now (arg .exit)) (now (mat .exit)) (now (con .exit)) ≡ laid 0 (linesOf (now (m .entry)) (now (p .entry))) (columns (now (op .entry)) (now (from .entry)) (now (arg .entry)) (now (mat .entry)) (now (con .entry))) ⌝ }
+    ensures { λ r. ⌜ suc r ≡ length (linesOf (now (m .entry)) (now (p .entry))) ⌝ ∗ ⌜ columnsOf (now (lines .exit)) ≡ laid 0 (linesOf (now (m .entry)) (now (p .entry))) (columnsOf (now (lines .entry))) ⌝ }
 {
     let mut under = [0u8; 257];
     let mut slots = [0u16; 257];
@@ -55,24 +48,24 @@ pub fn lay(
             under[depth] = u;
             slots[depth] = slot_by(o, pc, f);
             behind[depth] = behind_by(o, e);
-            pc = divide(o, e, from_by(o, f), i, pc, op, from, arg, mat, con);
+            pc = divide(o, e, from_by(o, f), i, pc, lines);
             i = j;
             at += operands(o);
         } else {
-            pc = leaf(p, at, k, o, i, f, pc, op, from, arg, mat, con);
-            let d = close(depth, pc, &slots, &behind, op, from, arg, mat, con);
+            pc = leaf(p, at, k, o, i, f, pc, lines);
+            let d = close(depth, pc, &slots, &behind, lines);
             pc += depth - d;
             depth = d;
             if depth == 0 {
-                put(pc, 0, 0, 0, 0, 0, op, from, arg, mat, con);
+                put(pc, 0, 0, 0, 0, 0, lines);
                 return pc;
             }
             i = under[depth];
-            pc = other(behind[depth], pc, op, from, arg, mat, con);
+            pc = other(behind[depth], pc, lines);
             depth = pop(m, depth, &mut under, &mut slots, &mut behind);
             at += operands(o);
         }
     }
-    put(pc, 0, 0, 0, 0, 0, op, from, arg, mat, con);
+    put(pc, 0, 0, 0, 0, 0, lines);
     pc
 }

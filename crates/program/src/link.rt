@@ -1,16 +1,19 @@
 // The second pass: where the next state stands, from the last line to the first.
-use words::ENTRIES;
+use tables::line::Lines;
+use tables::line::op_at;
+use tables::line::put_to;
 ghost use mathlib.Core.Path.{_≡_};
 ghost use Prim.Native.Nat.{suc, _+_, _-_, _<_, _≤_};
 ghost use mathlib.Core.Bool.{cond};
 ghost use lib.Dec.{eqb};
 ghost use Rattle.words.specs.Words.{entries};
+ghost use Rattle.tables.specs.Line.{columnsOf};
 ghost use Rattle.program_rules.specs.Lines.{binding};
-ghost use Rattle.program_rules.specs.Link.{keeps, takes, opsIn, bindingsIn, tosBy, placed};
+ghost use Rattle.program_rules.specs.Link.{keeps, takes, opsIn, bindingsIn, linkedIn};
 ghost use Rattle.program_rules.specs.Pile.{pile, lower, placeBy, toAt, landAt, piled};
 
 // Whether a line keeps a place for the line that begins what it ends.
-pub fn keeps_place(o: u8) -> bool
+pub fn keeps_place(o: u16) -> bool
     ensures { λ r. ⌜ r ≡ keeps o ⌝ }
 {
     match o {
@@ -22,7 +25,7 @@ pub fn keeps_place(o: u8) -> bool
 }
 
 // Whether a line takes the last place kept.
-pub fn takes_place(o: u8) -> bool
+pub fn takes_place(o: u16) -> bool
     ensures { λ r. ⌜ r ≡ takes o ⌝ }
 {
     match o {
@@ -34,14 +37,14 @@ pub fn takes_place(o: u8) -> bool
 }
 
 // The line's own place: the last one kept, x, where it takes it.
-pub fn to_by(o: u8, land: u16, x: u16) -> u16
+pub fn to_by(o: u16, land: u16, x: u16) -> u16
     ensures { λ r. ⌜ r ≡ toAt o land x ⌝ }
 {
     if takes_place(o) { x } else { land }
 }
 
 // The place that is kept.
-pub fn place_by(o: u8, pc: usize, land: u16) -> u16
+pub fn place_by(o: u16, pc: usize, land: u16) -> u16
     requires { ⌜ pc < entries ⌝ }
     ensures { λ r. ⌜ r ≡ placeBy o pc land ⌝ }
 {
@@ -49,7 +52,7 @@ pub fn place_by(o: u8, pc: usize, land: u16) -> u16
 }
 
 // Where a state stands that comes to this line, x being the last place kept.
-pub fn land_by(o: u8, pc: usize, land: u16, x: u16) -> u16
+pub fn land_by(o: u16, pc: usize, land: u16, x: u16) -> u16
     requires { ⌜ pc < entries ⌝ }
     ensures { λ r. ⌜ r ≡ landAt o pc land x ⌝ }
 {
@@ -61,7 +64,7 @@ pub fn land_by(o: u8, pc: usize, land: u16, x: u16) -> u16
 }
 
 // How many places are kept when this line has taken its own.
-pub fn lowered(o: u8, depth: usize) -> usize
+pub fn lowered(o: u16, depth: usize) -> usize
     ensures { λ r. ⌜ r ≡ lower o depth ⌝ }
 {
     if takes_place(o) {
@@ -72,7 +75,7 @@ pub fn lowered(o: u8, depth: usize) -> usize
 }
 
 // The places kept after this line: how many.
-pub fn keep(o: u8, pc: usize, land: u16, depth: usize, kept: &mut [u16; 651]) -> usize
+pub fn keep(o: u16, pc: usize, land: u16, depth: usize, kept: &mut [u16; 651]) -> usize
     requires { ⌜ pc < entries ⌝ ∗ ⌜ depth < entries ⌝ }
     ensures { λ r. ⌜ pile (now (kept .exit)) r ≡ piled o pc land (pile (now (kept .entry)) depth) ⌝ }
 {
@@ -85,7 +88,7 @@ pub fn keep(o: u8, pc: usize, land: u16, depth: usize, kept: &mut [u16; 651]) ->
 }
 
 // How many variables there are with this one.
-pub fn counted(n: usize, o: u8) -> usize
+pub fn counted(n: usize, o: u16) -> usize
     requires { ⌜ n < 1000 ⌝ }
     ensures { λ r. ⌜ r ≡ n + binding o ⌝ }
 {
@@ -93,9 +96,9 @@ pub fn counted(n: usize, o: u8) -> usize
 }
 
 // For each line up to the last the place where the next state stands, and how many variables there are.
-pub fn link(op: &[u8; ENTRIES], last: usize, to: &mut [u16; ENTRIES]) -> usize
+pub fn link(last: usize, lines: &mut Lines) -> usize
     requires { ⌜ last < entries ⌝ }
-    ensures { λ r. ⌜ r ≡ bindingsIn (opsIn (now (op .entry)) 0 (suc last)) ⌝ ∗ ⌜ now (to .exit) ≡ placed 0 (tosBy (opsIn (now (op .entry)) 0 (suc last))) (now (to .entry)) ⌝ }
+    ensures { λ r. ⌜ r ≡ bindingsIn (opsIn (columnsOf (now (lines .entry)) .op) 0 (suc last)) ⌝ ∗ ⌜ columnsOf (now (lines .exit)) ≡ linkedIn (suc last) (columnsOf (now (lines .entry))) ⌝ }
 {
     let mut kept = [0u16; 651];
     let mut depth: usize = 0;
@@ -104,14 +107,14 @@ pub fn link(op: &[u8; ENTRIES], last: usize, to: &mut [u16; ENTRIES]) -> usize
     let mut land = pc as u16;
     while 0 < pc {
         pc -= 1;
-        let o = op[pc];
+        let o = op_at(lines, pc);
         if o < 15 {
-            to[pc] = land;
+            put_to(lines, pc, land);
             land = pc as u16;
             n = counted(n, o);
         } else {
             let x = kept[depth];
-            to[pc] = to_by(o, land, x);
+            put_to(lines, pc, to_by(o, land, x));
             depth = keep(o, pc, land, depth, &mut kept);
             land = land_by(o, pc, land, x);
         }

@@ -12,7 +12,9 @@ use lib.IntN.{ℤ}
 use mir.Syntax.{w64}
 use mir.Val.{Fits}
 use Rattle.words.specs.Words.{entries}
-use Rattle.program_rules.specs.Lines.{Line, Waiting, waits, closeLine, elseLines, others, resumed, Columns, written, laid}
+use Rattle.tables.specs.declared.line.Line.{Line}
+use Rattle.tables.specs.Line.{Columns, written}
+use Rattle.program_rules.specs.Lines.{Waiting, waits, closeLine, elseLines, others, resumed, laid}
 use Rattle.program_rules.specs.Stack.{waitingAt, closeLines}
 use Rattle.program_rules.specs.Made.{resumed-end}
 use Rattle.program_rules.specs.Bounds.{weight, heavy, heavy-end}

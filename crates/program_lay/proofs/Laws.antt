@@ -14,7 +14,15 @@ use mir.Syntax.{w8, w64}
 use mir.Val.{Fits}
 use Rattle.words.specs.Words.{entries}
 use Rattle.program_parts.proofs.Laws.{operands-le}
-use Rattle.program_rules.specs.Lines.{line, reservedLine, reservedLines, operandsOf, argOf, conOf, leafLine, stripLines, elseLine, fiLine, cutLine, closeLine, elseLines, Columns, written, laid}
+use Rattle.tables.specs.Line.{Columns, written}
+use Rattle.program_rules.specs.Lines.{line, reservedLine, reservedLines, operandsOf, argOf, conOf, leafLine, stripLines, elseLine, fiLine, cutLine, closeLine, elseLines, laid}
+
+-- ---- One line, its instruction and its matcher as numbers of a line.
+
+pub put-is : (t u : Columns) (pc o f a i o' i' : ℕ) (c c' : ℤ) → u ≡ written pc (line o' f a i' c') t → o' ≡ o → i' ≡ i → c' ≡ c → u ≡ written pc (line o f a i c) t
+put-is t u pc o f a i o' i' c c' h e g k = rw (← e, ← g, ← k) h
+
+pub ruleset put-rules = (put-is, needs)
 
 -- ---- Ends.
 

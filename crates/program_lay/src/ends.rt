@@ -1,31 +1,23 @@
 // The ends that wait, of ors and of the searches inside nots, and the line before the second side of an or.
 use super::put;
-use words::ENTRIES;
+use tables::line::Lines;
 ghost use mathlib.Core.Path.{_≡_};
 ghost use Prim.Native.Nat.{suc, _+_, _<_, _≤_};
 ghost use lib.ListN.{length, getD};
 ghost use Rattle.words.specs.Words.{entries};
-ghost use Rattle.program_rules.specs.Lines.{columns, written, laid, closeLine, elseLines};
+ghost use Rattle.tables.specs.Line.{columnsOf, written};
+ghost use Rattle.program_rules.specs.Lines.{laid, closeLine, elseLines};
 ghost use Rattle.program_rules.specs.Stack.{closeLines};
 
 // The line of an end, with its number and its slot.
-pub fn close_line(
-    n: u8,
-    c: u16,
-    pc: usize,
-    op: &mut [u8; ENTRIES],
-    from: &mut [u16; ENTRIES],
-    arg: &mut [u16; ENTRIES],
-    mat: &mut [u8; ENTRIES],
-    con: &mut [i32; ENTRIES],
-)
+pub fn close_line(n: u8, c: u16, pc: usize, lines: &mut Lines)
     requires { ⌜ pc < entries ⌝ }
-    ensures { λ r. ⌜ columns (now (op .exit)) (now (from .exit)) (now (arg .exit)) (now (mat .exit)) (now (con .exit)) ≡ written pc (closeLine n c) (columns (now (op .entry)) (now (from .entry)) (now (arg .entry)) (now (mat .entry)) (now (con .entry))) ⌝ }
+    ensures { λ r. ⌜ columnsOf (now (lines .exit)) ≡ written pc (closeLine n c) (columnsOf (now (lines .entry))) ⌝ }
 {
     if n == 4 {
-        put(pc, 19, 0, 0, 0, 0, op, from, arg, mat, con);
+        put(pc, 19, 0, 0, 0, 0, lines);
     } else {
-        put(pc, 17, c, 0, 0, 0, op, from, arg, mat, con);
+        put(pc, 17, c, 0, 0, 0, lines);
     }
 }
 
@@ -35,19 +27,15 @@ pub fn close(
     pc: usize,
     slots: &[u16; 257],
     behind: &[u8; 257],
-    op: &mut [u8; ENTRIES],
-    from: &mut [u16; ENTRIES],
-    arg: &mut [u16; ENTRIES],
-    mat: &mut [u8; ENTRIES],
-    con: &mut [i32; ENTRIES],
+    lines: &mut Lines,
 ) -> usize
     requires { ⌜ depth < 257 ⌝ ∗ ⌜ getD (now behind) 0 0 ≡ 0 ⌝ ∗ ⌜ pc + length (closeLines (now slots) (now behind) depth) < entries ⌝ }
-    ensures { λ r. ⌜ r + length (closeLines (now (slots .entry)) (now (behind .entry)) depth) ≡ depth ⌝ ∗ ⌜ columns (now (op .exit)) (now (from .exit)) (now (arg .exit)) (now (mat .exit)) (now (con .exit)) ≡ laid pc (closeLines (now (slots .entry)) (now (behind .entry)) depth) (columns (now (op .entry)) (now (from .entry)) (now (arg .entry)) (now (mat .entry)) (now (con .entry))) ⌝ }
+    ensures { λ r. ⌜ r + length (closeLines (now (slots .entry)) (now (behind .entry)) depth) ≡ depth ⌝ ∗ ⌜ columnsOf (now (lines .exit)) ≡ laid pc (closeLines (now (slots .entry)) (now (behind .entry)) depth) (columnsOf (now (lines .entry))) ⌝ }
 {
     let mut d = depth;
     let mut q = pc;
     while 3 < behind[d] {
-        close_line(behind[d], slots[d], q, op, from, arg, mat, con);
+        close_line(behind[d], slots[d], q, lines);
         q += 1;
         d -= 1;
     }
@@ -55,20 +43,12 @@ pub fn close(
 }
 
 // The line before the second side of an or, where that is what waits: the place after it.
-pub fn other(
-    n: u8,
-    pc: usize,
-    op: &mut [u8; ENTRIES],
-    from: &mut [u16; ENTRIES],
-    arg: &mut [u16; ENTRIES],
-    mat: &mut [u8; ENTRIES],
-    con: &mut [i32; ENTRIES],
-) -> usize
+pub fn other(n: u8, pc: usize, lines: &mut Lines) -> usize
     requires { ⌜ pc < entries ⌝ }
-    ensures { λ r. ⌜ r ≡ pc + length (elseLines n) ⌝ ∗ ⌜ columns (now (op .exit)) (now (from .exit)) (now (arg .exit)) (now (mat .exit)) (now (con .exit)) ≡ laid pc (elseLines n) (columns (now (op .entry)) (now (from .entry)) (now (arg .entry)) (now (mat .entry)) (now (con .entry))) ⌝ }
+    ensures { λ r. ⌜ r ≡ pc + length (elseLines n) ⌝ ∗ ⌜ columnsOf (now (lines .exit)) ≡ laid pc (elseLines n) (columnsOf (now (lines .entry))) ⌝ }
 {
     if n == 3 {
-        put(pc, 18, 0, 0, 0, 0, op, from, arg, mat, con);
+        put(pc, 18, 0, 0, 0, 0, lines);
         return pc + 1;
     }
     pc

@@ -21,7 +21,8 @@ use Rattle.program_rules.specs.Program.{pointAt, followOf, program}
 use Rattle.program_rules.specs.Walk.{in-range}
 use Rattle.program_rules.specs.Closed.{Closed, closed-is}
 use Rattle.program_rules.specs.Fitted.{program-follows}
-use Rattle.program_rules.specs.Lines.{Line, endLine, linesFrom, linesOf, variablesIn}
+use Rattle.tables.specs.declared.line.Line.{Line}
+use Rattle.program_rules.specs.Lines.{endLine, linesFrom, linesOf, variablesIn}
 use Rattle.program_rules.specs.Meaning.{MatcherAt, whole-matcher, Means, Leads}
 use Rattle.program_rules.specs.Numbered.{Numbered, numbered-end, numbered-reserve, numbered-at}
 use Rattle.program_rules.specs.Compiled.{itemWords, parts-none, Stands, at-tag, at-wildcard, at-variable, at-else, at-close, at-cut, at-reserve, at-end, at-beyond, Goes, goes}

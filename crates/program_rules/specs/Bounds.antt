@@ -10,7 +10,8 @@ use lib.Dec.{eqb, ltb}
 use lib.ListN.{length, length-append, getD}
 use lib.IntN.{ℤ, pos}
 use Rattle.words.specs.Words.{tagAt}
-use Rattle.program_rules.specs.Lines.{Line, line, endLine, elseLine, fiLine, cutLine, reservedLine, reservedLines, operandsOf, argOf, leafLine}
+use Rattle.tables.specs.declared.line.Line.{Line}
+use Rattle.program_rules.specs.Lines.{line, endLine, elseLine, fiLine, cutLine, reservedLine, reservedLines, operandsOf, argOf, leafLine}
 use Rattle.program_rules.specs.Lines.{Waiting, waits, slotOf, fromBy, slotBy, behindBy, others, closeLine, linesOf}
 use Rattle.program_rules.specs.Made.{cond-le, Reserving, reserving-none, reserving, Made, made-end, made-skip, made-divided, made-leaf, made-leaf-two, after-end, after-close, after-else, after-part, made}
 

@@ -1,4 +1,4 @@
--- The program in its six arrays: a line reads back as it was laid, and with it the place where the next state stands, and of a rule that is accepted each means the instruction at its place.
+-- The program in its table: a line reads back as it was laid, and with it the place where the next state stands, and of a rule that is accepted each means the instruction at its place.
 use Prim.Native.Nat.{ℕ, zero, suc, _+_, _<_, _≤_}
 use native.Mathlib.Omega.{arith}
 use mathlib.Core.Path.{_≡_, refl, sym, ap, _∙_}
@@ -14,10 +14,13 @@ use Rattle.words.specs.Words.{entries}
 use Rattle.forms.specs.Faults.{rule-accepted}
 use Rattle.program_rules.specs.Program.{program}
 use Rattle.program_rules.specs.Length.{instrs}
-use Rattle.program_rules.specs.Lines.{Line, line, endLine, linesOf, variablesIn, Columns, columns, written, laid, getD-same}
+use Rattle.tables.specs.declared.line.Line.{Line}
+use Rattle.tables.specs.Line.{Columns, columns, written, aimed, named, columnsOf, noLines}
+use Rattle.tables.specs.LineLaws.{no-lines}
+use Rattle.program_rules.specs.Lines.{line, endLine, linesOf, variablesIn, laid, getD-same}
 use Rattle.program_rules.specs.Meaning.{Means, means-end, means-strip, means-drop, means-bind, means-constant, means-integer, means-value, means-nil, means-list, means-multiset, means-join, means-tuple}
 use Rattle.program_rules.specs.Meaning.{means-keep, means-choice, means-deny, means-cut, means-other, means-close}
-use Rattle.program_rules.specs.Link.{opsOf, tosOf, tosBy, opsIn, bindingsIn, placed}
+use Rattle.program_rules.specs.Link.{opsOf, tosOf, tosBy, opsIn, bindingsIn, placed, linkedIn}
 use Rattle.program_rules.specs.Linked.{link-leads}
 use Rattle.program_rules.specs.Points.{Instr}
 use Rattle.program_rules.specs.Places.{ops-length, tos-length, tos-low, placed-zeros}
@@ -97,14 +100,20 @@ unfolding laid
 sized-laid pc [] t s = s
 sized-laid pc (l ∷ ls) t s = sized-laid (suc pc) ls (written pc l t) (sized-written pc l t s)
 
--- ---- Arrays of zeros, as they are lent to the compiler: then every entry after the lines is an end too.
+laid-to : (pc : ℕ) (ls : List Line) (t : Columns) → (laid pc ls t) .to ≡ t .to
+unfolding laid written
+laid-to pc [] t = refl
+laid-to pc (l ∷ ls) t = laid-to (suc pc) ls (written pc l t)
+
+-- ---- A table of zeros, as it is lent to the compiler: then every entry after the lines is an end too.
 
 pub record Blank (t : Columns) : Type 0 where
   pub sized : Sized t
   pub ends : (pc : ℕ) → lineIn t pc ≡ endLine
+  pub tos : t .to ≡ replicate entries 0
 
 zeros : ℕ → Columns
-zeros n = columns (replicate n 0) (replicate n 0) (replicate n 0) (replicate n 0) (replicate n (pos 0))
+zeros n = columns (replicate n 0) (replicate n 0) (replicate n 0) (replicate n 0) (replicate n (pos 0)) (replicate n 0)
 
 zeros-blank : (n : ℕ) → n ≡ entries → Blank (zeros n)
 unfolding zeros lineIn
@@ -117,11 +126,12 @@ zeros-blank n e = record {
     con = length-replicate n (pos 0) ∙ e;
   };
   ends = λ pc. rw (getD-same {A = ℕ} n pc 0, getD-same n pc (pos 0));
+  tos = rw e;
 }
 
-pub blank : Blank (columns (replicate entries 0) (replicate entries 0) (replicate entries 0) (replicate entries 0) (replicate entries (pos 0)))
+pub blank : Blank (columnsOf noLines)
 unfolding zeros
-blank = zeros-blank entries refl
+blank = rw no-lines (zeros-blank entries refl)
 
 pub laid-blank : (ls : List Line) (t : Columns) → Blank t → length ls ≤ entries → (pc : ℕ) → lineIn (laid 0 ls t) pc ≡ getD ls pc endLine
 laid-blank ls t b h pc = go (ltb pc (length ls)) refl
@@ -163,7 +173,7 @@ ops-at (l ∷ ls) (suc j) = ops-at ls j
 
 module _ (ls : List Line) (t : Columns) (b : Blank t) (h : length ls ≤ entries) where
   arg-is : (pc : ℕ) → getD (numbered (length ls) (laid 0 ls t) .arg) pc 0 ≡ over (slotAt 16 0 (opsOf ls) pc) (getD (laid 0 ls t .arg) pc 0)
-  unfolding numbered
+  unfolding numbered named
   arg-is pc =
       let e = ops-length ls in
       let f = (sized-laid 0 ls t (b .sized)) .arg in
@@ -171,7 +181,7 @@ module _ (ls : List Line) (t : Columns) (b : Blank t) (h : length ls ≤ entries
       rw (ops-laid ls t (b .sized) h) (rw z at (slotted-at 0 16 0 (opsOf ls) (laid 0 ls t .arg) (omega arith) (omega arith) pc))
 
   numbered-blank : (pc : ℕ) → lineIn (numbered (length ls) (laid 0 ls t)) pc ≡ withSlot (slotAt 16 0 (opsOf ls) pc) (getD ls pc endLine)
-  unfolding lineIn withSlot numbered
+  unfolding lineIn withSlot numbered named
   numbered-blank pc =
       let T = laid 0 ls t in
       ap (λ a. line (getD (T .op) pc 0) (getD (T .from) pc 0) a (getD (T .mat) pc 0) (getD (T .con) pc (pos 0))) (arg-is pc)
@@ -201,8 +211,8 @@ means-slot s l h (means-close e) = means-close e
 
 -- ---- The arrays hold the rule's program, and `vars` is the number of its variables.
 
-pub record Holds (ms : List ℤ) (r : Rule) (vars : ℕ) (t : Columns) (to : List ℕ) : Type 0 where
-  pub means : (pc : ℕ) → pc ≤ instrs (r .pattern) (r .matcher) → Means ms vars (lineIn t pc) (getD to pc 0) (program (r .matcher) (r .pattern) pc)
+pub record Holds (ms : List ℤ) (r : Rule) (vars : ℕ) (t : Columns) : Type 0 where
+  pub means : (pc : ℕ) → pc ≤ instrs (r .pattern) (r .matcher) → Means ms vars (lineIn t pc) (getD (t .to) pc 0) (program (r .matcher) (r .pattern) pc)
   pub after : (pc : ℕ) → instrs (r .pattern) (r .matcher) < pc → lineIn t pc ≡ endLine
   -- Its slot is that of an earlier line or 0.
   pub from : (pc : ℕ) → (lineIn t pc) .from ≤ pc
@@ -212,28 +222,49 @@ pub record Holds (ms : List ℤ) (r : Rule) (vars : ℕ) (t : Columns) (to : Lis
   -- A line that divides has a slot of its own, and a tuple's one for each part that waits.
   pub own : (pc : ℕ) → 8 ≤ (lineIn t pc) .op → (lineIn t pc) .op ≤ 16 → Own (t .arg) pc
   pub part : (pc k : ℕ) → 11 + k ≤ (lineIn t pc) .op → (lineIn t pc) .op ≤ 13 → Own (t .arg) (pc + k)
-  pub low : (pc : ℕ) → getD to pc 0 ≤ 640
+  pub low : (pc : ℕ) → getD (t .to) pc 0 ≤ 640
   pub reserved : (pc k : ℕ) → 0 < k → 11 + k ≤ (lineIn t pc) .op → (lineIn t pc) .op ≤ 13 → (lineIn t (pc + k)) .op ≡ 1
   pub last : instrs (r .pattern) (r .matcher) ≤ 639
   pub few : vars ≤ 16
+  -- There is a constant for each line.
+  pub long : length (t .con) ≡ entries
 
--- What the compiler leaves in the arrays, if the rule is accepted.
+-- What the compiler leaves in the table, if the rule is accepted.
 module _ (ms ps : List ℤ) (r : Rule) (a : ruleOf ms ps ≡ accepted r) (t : Columns) (b : Blank t) where
   abbrev L : List Line
   L = linesOf ms ps
 
+  abbrev T : Columns
+  T = linkedIn (length (linesOf ms ps)) (numbered (length (linesOf ms ps)) (laid 0 (linesOf ms ps) t))
+
   fits : length (linesOf ms ps) ≤ entries
   fits = let w = rule-accepted ms ps r .0 a in let n = lines-length ms ps r w in let l = program-fits ms ps r w in omega arith
 
-  slots-are : (pc : ℕ) → lineIn (numbered (length L) (laid 0 L t)) pc ≡ withSlot (slotAt 16 0 (opsOf L) pc) (getD L pc endLine)
+  slots-are : (pc : ℕ) → lineIn T pc ≡ withSlot (slotAt 16 0 (opsOf L) pc) (getD L pc endLine)
+  unfolding lineIn linkedIn aimed
   slots-are = numbered-blank L t b fits
 
+  op-same : T .op ≡ (laid 0 L t) .op
+  unfolding linkedIn aimed numbered named
+  op-same = refl
+
+  ops-are : opsIn (T .op) 0 (length L) ≡ opsOf L
+  ops-are = rw op-same (ops-laid L t (b .sized) fits)
+
+  tos-are : T .to ≡ placed 0 (tosOf L) (replicate entries 0)
+  unfolding linkedIn aimed numbered named tosOf
+  tos-are = rw (ops-laid L t (b .sized) fits, laid-to 0 L t, b .tos)
+
+  constants-are : length (T .con) ≡ entries
+  unfolding linkedIn aimed numbered named
+  constants-are = (sized-laid 0 L t (b .sized)) .con
+
   -- The instruction is the line's.
-  op-is : (pc : ℕ) → getD (opsOf L) pc 0 ≡ (lineIn (numbered (length L) (laid 0 L t)) pc) .op
+  op-is : (pc : ℕ) → getD (opsOf L) pc 0 ≡ (lineIn T pc) .op
   unfolding withSlot
   op-is pc = ops-at L pc ∙ sym (ap (λ (l : Line). l .op) (slots-are pc))
 
-  args-are : (pc : ℕ) → getD (numbered (length L) (laid 0 L t) .arg) pc 0 ≡ over (slotAt 16 0 (opsOf L) pc) ((getD L pc endLine) .arg)
+  args-are : (pc : ℕ) → getD (T .arg) pc 0 ≡ over (slotAt 16 0 (opsOf L) pc) ((getD L pc endLine) .arg)
   unfolding lineIn withSlot
   args-are pc = ap (λ (l : Line). l .arg) (slots-are pc)
 
@@ -243,15 +274,15 @@ module _ (ms ps : List ℤ) (r : Rule) (a : ruleOf ms ps ≡ accepted r) (t : Co
   short : slotsIn 0 (opsOf L) ≤ 255
   short = slots-few ms ps r a
 
-  owns : (pc : ℕ) → 0 < slotAt 16 0 (opsOf L) pc → Own (numbered (length L) (laid 0 L t) .arg) pc
-  owns = number-own (opsOf L) (numbered (length L) (laid 0 L t) .arg) (λ j. (getD L j endLine) .arg) args-are small short
+  owns : (pc : ℕ) → 0 < slotAt 16 0 (opsOf L) pc → Own (T .arg) pc
+  owns = number-own (opsOf L) (T .arg) (λ j. (getD L j endLine) .arg) args-are small short
 
-  number-is : (pc : ℕ) → (lineIn (numbered (length L) (laid 0 L t)) pc) .arg < 272
+  number-is : (pc : ℕ) → (lineIn T pc) .arg < 272
   unfolding lineIn
-  number-is = number-few (opsOf L) (numbered (length L) (laid 0 L t) .arg) (λ j. (getD L j endLine) .arg) args-are small short
+  number-is = number-few (opsOf L) (T .arg) (λ j. (getD L j endLine) .arg) args-are small short
 
-  variable-is : (pc : ℕ) → 2 ≤ (lineIn (numbered (length L) (laid 0 L t)) pc) .op → (lineIn (numbered (length L) (laid 0 L t)) pc) .op ≤ 7
-      → (lineIn (numbered (length L) (laid 0 L t)) pc) .arg < 16
+  variable-is : (pc : ℕ) → 2 ≤ (lineIn T pc) .op → (lineIn T pc) .op ≤ 7
+      → (lineIn T pc) .arg < 16
   unfolding lineIn
   variable-is pc h d =
       let o = op-is pc in
@@ -261,21 +292,21 @@ module _ (ms ps : List ℤ) (r : Rule) (a : ruleOf ms ps ≡ accepted r) (t : Co
       let g = args-are pc in
       omega arith
 
-  reserved-is : (pc k : ℕ) → 0 < k → 11 + k ≤ (lineIn (numbered (length L) (laid 0 L t)) pc) .op → (lineIn (numbered (length L) (laid 0 L t)) pc) .op ≤ 13
-      → (lineIn (numbered (length L) (laid 0 L t)) (pc + k)) .op ≡ 1
+  reserved-is : (pc k : ℕ) → 0 < k → 11 + k ≤ (lineIn T pc) .op → (lineIn T pc) .op ≤ 13
+      → (lineIn T (pc + k)) .op ≡ 1
   unfolding Reserved
   reserved-is pc k z h d =
       let o = op-is pc in
       let q = ops-at L pc in
       sym (op-is (pc + k)) ∙ ops-at L (pc + k) ∙ line-reserved ms ps pc k z (omega arith) (omega arith)
 
-  part-is : (pc k : ℕ) → 11 + k ≤ (lineIn (numbered (length L) (laid 0 L t)) pc) .op → (lineIn (numbered (length L) (laid 0 L t)) pc) .op ≤ 13
-      → Own (numbered (length L) (laid 0 L t) .arg) (pc + k)
+  part-is : (pc k : ℕ) → 11 + k ≤ (lineIn T pc) .op → (lineIn T pc) .op ≤ 13
+      → Own (T .arg) (pc + k)
   part-is pc k h d =
       let o = op-is pc in
       owns (pc + k) (slot-part 16 0 (opsOf L) pc k (omega arith) (omega arith) (omega arith) (λ i z g. op-is (pc + i) ∙ reserved-is pc i z (omega arith) d))
 
-  pub compiled : Holds ms r (variablesIn (linesOf ms ps)) (numbered (length (linesOf ms ps)) (laid 0 (linesOf ms ps) t)) (placed 0 (tosOf (linesOf ms ps)) (replicate entries 0))
+  pub compiled : Holds ms r (variablesIn (linesOf ms ps)) T
   unfolding withSlot
   compiled =
       let w = rule-accepted ms ps r .0 a in
@@ -284,7 +315,7 @@ module _ (ms ps : List ℤ) (r : Rule) (a : ruleOf ms ps ≡ accepted r) (t : Co
       let m = tos-length L in
       let at = placed-zeros entries (tosOf L) (omega arith) in
       record {
-        means = λ pc h. rw (slots-are pc, at pc) (means-slot (slotAt 16 0 (opsOf L) pc) (getD L pc endLine) (slots-plain ms ps 16 pc) (line-means ms ps r w pc h (getD (tosOf L) pc 0) (link-leads ms ps r w pc h)));
+        means = λ pc h. rw (slots-are pc, tos-are, at pc) (means-slot (slotAt 16 0 (opsOf L) pc) (getD L pc endLine) (slots-plain ms ps 16 pc) (line-means ms ps r w pc h (getD (tosOf L) pc 0) (link-leads ms ps r w pc h)));
         after = λ pc h.
             let q = ops-length L in
             slots-are pc ∙ rw (List·getD-eq-default L endLine {n = pc} (omega arith), slot-after 16 0 (opsOf L) pc (omega arith), over-none 0 0 refl);
@@ -293,27 +324,18 @@ module _ (ms ps : List ℤ) (r : Rule) (a : ruleOf ms ps ≡ accepted r) (t : Co
         variable = variable-is;
         own = λ pc h d. let o = op-is pc in owns pc (slot-own 16 0 (opsOf L) pc (omega arith) (omega arith) (omega arith));
         part = part-is;
-        low = λ pc. let h = tos-low L pc in rw (at pc) (omega arith);
+        low = λ pc. let h = tos-low L pc in rw (tos-are, at pc) (omega arith);
         reserved = reserved-is;
         last = l;
         few = few-variables ms ps r w;
+        long = constants-are;
       }
 
-op-same : (n : ℕ) (t : Columns) → numbered n t .op ≡ t .op
-unfolding numbered
-op-same n t = refl
-
--- The same, as a caller has it that lent arrays of zeros.
-pub compiled-zeros : (ms ps : List ℤ) (r : Rule) → ruleOf ms ps ≡ accepted r → (vars : ℕ) (t : Columns) (to : List ℕ)
+-- The same, as a caller has it that lent a table of zeros.
+pub compiled-zeros : (ms ps : List ℤ) (r : Rule) → ruleOf ms ps ≡ accepted r → (vars : ℕ) (t : Columns)
     → vars ≡ bindingsIn (opsIn (t .op) 0 (length (linesOf ms ps)))
-    → t ≡ numbered (length (linesOf ms ps)) (laid 0 (linesOf ms ps) (columns (replicate entries 0) (replicate entries 0) (replicate entries 0) (replicate entries 0) (replicate entries (pos 0))))
-    → to ≡ placed 0 (tosBy (opsIn (t .op) 0 (length (linesOf ms ps)))) (replicate entries 0) → Holds ms r vars t to
-unfolding tosOf
-compiled-zeros ms ps r a vars t to e g h =
-    let w = rule-accepted ms ps r .0 a in
-    let n = lines-length ms ps r w in
-    let l = program-fits ms ps r w in
-    let o : opsIn (t .op) 0 (length (linesOf ms ps)) ≡ opsOf (linesOf ms ps) = rw (g, op-same (length (linesOf ms ps)) (laid 0 (linesOf ms ps) _)) (ops-laid (linesOf ms ps) _ (blank .sized) (omega arith)) in
+    → t ≡ linkedIn (length (linesOf ms ps)) (numbered (length (linesOf ms ps)) (laid 0 (linesOf ms ps) (columnsOf noLines))) → Holds ms r vars t
+compiled-zeros ms ps r a vars t e g =
+    let o : opsIn (t .op) 0 (length (linesOf ms ps)) ≡ opsOf (linesOf ms ps) = rw g (ops-are ms ps r a (columnsOf noLines) blank) in
     let v : vars ≡ variablesIn (linesOf ms ps) = e ∙ ap bindingsIn o ∙ bindings-are (linesOf ms ps) in
-    let u : to ≡ placed 0 (tosOf (linesOf ms ps)) (replicate entries 0) = h ∙ ap (λ x. placed 0 (tosBy x) (replicate entries 0)) o in
-    rw (v, g, u) (compiled ms ps r a _ blank)
+    rw (v, g) (compiled ms ps r a (columnsOf noLines) blank)

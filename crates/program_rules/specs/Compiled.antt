@@ -18,7 +18,8 @@ use Rattle.matchers.specs.Places.{matcherEnd}
 use Rattle.program_rules.specs.Points.{Kind, listCons, multisetCons, joins, over, firstBy, whole, asConstant, asValue, asNil, tested, testBy, Sound, Loose, loose-wildcard, loose-variable}
 use Rattle.program_rules.specs.Points.{Instr, strip, keep, other, close, drop, bind, test, split, apart, choice, deny, cutAt, Item, item, orElse, endOr, stop, Point, point, elsePlace, endPlace, cutting, finish, reserve, beyond, beside, from, reserved, firstOf, othersOf, items, parted}
 use Rattle.program_rules.specs.Points.{Follows, strips, drops, binds, tests, splits, aparts, keeps, chooses, denies, cuts, elses, closes, reserves, ends, after-end}
-use Rattle.program_rules.specs.Lines.{Line, line, endLine, elseLine, fiLine, cutLine, reservedLine, reservedLines, opOf, operandsOf, beyondTwo, reservedBy, argOf, conOf, stripLines, leafLine, firstUnder, secondUnder}
+use Rattle.tables.specs.declared.line.Line.{Line}
+use Rattle.program_rules.specs.Lines.{line, endLine, elseLine, fiLine, cutLine, reservedLine, reservedLines, opOf, operandsOf, beyondTwo, reservedBy, argOf, conOf, stripLines, leafLine, firstUnder, secondUnder}
 use Rattle.program_rules.specs.Lines.{Waiting, waits, slotOf, fromBy, slotBy, behindBy, others, elseLines, closeLine, resumed, divided, linesFrom, lines-split, lines-leaf, binding, variablesIn, binding-none}
 use Rattle.program_rules.specs.Meaning.{MatcherAt, MatchersAt, tagOf, matcher-tag, list-inner, multiset-inner, tuple-inner, matchers-first, matchers-others}
 use Rattle.program_rules.specs.Meaning.{Means, means-end, means-strip, means-drop, means-bind, means-constant, means-integer, means-value, means-nil, means-list, means-multiset, means-join, means-tuple, means-keep, means-choice, means-deny, means-cut, means-other, means-close, Leads}

@@ -5,10 +5,12 @@ use mathlib.Core.Bool.{true, false, cond}
 use mathlib.Core.List.{List, [], _∷_, _++_}
 use native.Mathlib.Omega.{arith}
 use borrow.Author.Tests.{ne-eqb}
-use lib.ListN.{length, getD, set, replicate}
+use lib.ListN.{length, getD, replicate}
 use lib.Dec.{eqb, ltb}
 use lib.IntN.{ℤ, pos}
 use Rattle.words.specs.Words.{tagZ, tagAt}
+use Rattle.tables.specs.declared.line.Line.{Line}
+use Rattle.tables.specs.Line.{Columns, written}
 use Rattle.matchers.specs.Places.{matcherEnd}
 
 -- ---- A line is one instruction in numbers.
@@ -17,13 +19,6 @@ use Rattle.matchers.specs.Places.{matcherEnd}
 -- a list, 9 cons under a multiset, 10 join, 11 to 13 a tuple of 2 to 4 parts, 14 and, 15 or, 16 not, 17 the end of the search inside a not, 18 between the
 -- two sides of an or, 19 after the second. `from`: the slot of the value for the atom after one that is dropped or after a not; of 17, the place of its not. `arg`: the
 -- variable of 3, 5 and 6. `mat`: the index of the matcher's tag in the matcher's words. `con`: the constant of 4, the number that 5 and 6 add.
-pub record Line : Type 0 where
-  pub op : ℕ
-  pub from : ℕ
-  pub arg : ℕ
-  pub mat : ℕ
-  pub con : ℤ
-
 abbrev pub line : ℕ → ℕ → ℕ → ℕ → ℤ → Line
 line o f a i c = record { op = o; from = f; arg = a; mat = i; con = c }
 
@@ -194,20 +189,7 @@ pub binding-none : (o : ℕ) → 7 < o → binding o ≡ 0
 unfolding binding
 binding-none o h = rw (ne-eqb o 3 (λ e. omega arith))
 
--- ---- The program lies in five arrays, one for each field of a line.
-
-pub record Columns : Type 0 where
-  pub op : List ℕ
-  pub from : List ℕ
-  pub arg : List ℕ
-  pub mat : List ℕ
-  pub con : List ℤ
-
-abbrev pub columns : List ℕ → List ℕ → List ℕ → List ℕ → List ℤ → Columns
-columns o f a i c = record { op = o; from = f; arg = a; mat = i; con = c }
-
-unfoldable pub written : ℕ → Line → Columns → Columns
-written pc l t = columns (set (t .op) pc (l .op)) (set (t .from) pc (l .from)) (set (t .arg) pc (l .arg)) (set (t .mat) pc (l .mat)) (set (t .con) pc (l .con))
+-- ---- The program lies in a table, a column for each field of a line.
 
 -- The lines from a place on; every other entry is what it was.
 unfoldable pub laid : ℕ → List Line → Columns → Columns

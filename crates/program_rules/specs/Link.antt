@@ -4,7 +4,9 @@ use mathlib.Core.Bool.{Bool, true, false, cond, _||_}
 use mathlib.Core.List.{List, [], _∷_}
 use lib.ListN.{getD, set}
 use lib.Dec.{eqb}
-use Rattle.program_rules.specs.Lines.{Line, binding}
+use Rattle.tables.specs.Line.{Columns, aimed}
+use Rattle.tables.specs.declared.line.Line.{Line}
+use Rattle.program_rules.specs.Lines.{binding}
 
 -- `to` of a line that drops an atom is the place where the next atom stands: the next place, unless that is between the sides of an or or after the
 -- second, where no state stands. Of an or it is the first place of the second side; of a not the place where the next atom after it stands.
@@ -80,6 +82,11 @@ tosOf ls = tosBy (opsOf ls)
 unfoldable pub opsIn : (op : List ℕ) (pc n : ℕ) → List ℕ
 opsIn op pc zero = []
 opsIn op pc (suc n) = getD op pc 0 ∷ opsIn op (suc pc) n
+
+-- A table of n lines with these places.
+unfoldable pub linkedIn : (lines : ℕ) → Columns → Columns
+unfolding tosBy opsIn placed aimed
+linkedIn n t = aimed (placed 0 (tosBy (opsIn (t .op) 0 n)) (t .to)) t
 
 -- How many variables: a row has so many values.
 unfoldable pub bindingsIn : (ops : List ℕ) → ℕ

@@ -19,7 +19,8 @@ use Rattle.program_rules.specs.Points.{Item, item, orElse, endOr, stop, 
 use Rattle.program_rules.specs.Points.{Follows, strips, drops, binds, tests, splits, aparts, keeps, chooses, denies, cuts, elses, closes, reserves, ends, after-end}
 use Rattle.program_rules.specs.Length.{instrs, instrsParts, skip}
 use Rattle.program_rules.specs.Program.{instrOf, pointAt, followOf, program}
-use Rattle.program_rules.specs.Lines.{Line, endLine, linesOf, variablesIn}
+use Rattle.tables.specs.declared.line.Line.{Line}
+use Rattle.program_rules.specs.Lines.{endLine, linesOf, variablesIn}
 use Rattle.program_rules.specs.Link.{keeps as keeping, takes, top, under, toBy, landBy, keptBy, Linked, linked, linkedBy, linkFrom, opsOf, tosOf}
 use Rattle.program_rules.specs.Meaning.{Means, means-end, means-strip, means-drop, means-bind, means-constant, means-integer, means-value, means-nil, means-list, means-multiset, means-join, means-tuple, means-keep, means-choice, means-deny, means-cut, means-other, means-close, Leads}
 use Rattle.program_rules.specs.Accepted.{follows, lines-length, line-means, last-beyond}

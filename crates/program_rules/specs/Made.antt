@@ -9,7 +9,8 @@ use lib.Dec.{eqb, ltb}
 use lib.ListN.{length, length-append, getD}
 use lib.IntN.{ℤ, pos}
 use Rattle.words.specs.Words.{tagZ, tagAt}
-use Rattle.program_rules.specs.Lines.{Line, line, endLine, elseLine, fiLine, cutLine, reservedLine, reservedLines, opsUnder, opOf, operandsOf, beyondTwo, reservedBy, argOf, stripLines, leafLine, firstUnder, secondUnder}
+use Rattle.tables.specs.declared.line.Line.{Line}
+use Rattle.program_rules.specs.Lines.{line, endLine, elseLine, fiLine, cutLine, reservedLine, reservedLines, opsUnder, opOf, operandsOf, beyondTwo, reservedBy, argOf, stripLines, leafLine, firstUnder, secondUnder}
 use Rattle.program_rules.specs.Lines.{Waiting, waits, slotOf, fromBy, slotBy, behindBy, others, elseLines, closeLine, resumed, divided, linesFrom, lines-split, lines-leaf, linesOf}
 
 -- n places are reserved after a line, and s of the words ws are its operands: only a tuple of more than two parts has such places, and its width is a

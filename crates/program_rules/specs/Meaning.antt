@@ -14,7 +14,7 @@ use Rattle.words.specs.Words.{tagZ, tagAt}
 use Rattle.matchers.specs.Places.{matcherEnd}
 use Rattle.matchers.proofs.Matchers.{end-drop}
 use Rattle.program_rules.specs.Points.{listCons, multisetCons, joins, asConstant, asValue, asNil, Instr, strip, keep, other, close, drop as drops, bind, test, split, apart, choice, deny, cutAt, end}
-use Rattle.program_rules.specs.Lines.{Line}
+use Rattle.tables.specs.declared.line.Line.{Line}
 
 -- The words of the matcher m stand at the index i.
 pub record MatcherAt (ms : List ℤ) (i : ℕ) (m : Matcher) : Type 0 where

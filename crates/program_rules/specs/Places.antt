@@ -8,7 +8,7 @@ use borrow.Author.Tests.{ltb-true, ltb-false}
 use lib.Dec.{eqb, ltb}
 use lib.ListN.{length, getD, set, length-set, replicate, length-replicate, List·getD-eq-default}
 use lib.Seq.{getD-set-same, getD-set-other}
-use Rattle.program_rules.specs.Lines.{Line}
+use Rattle.tables.specs.declared.line.Line.{Line}
 use Rattle.program_rules.specs.Link.{keeps, takes, top, under, toBy, landBy, keptBy, Linked, linkedBy, linkFrom, placed, opsOf, tosOf}
 
 -- ---- As many as lines.

@@ -17,7 +17,8 @@ use Rattle.program_rules.specs.Points.{Instr, strip, keep, other, close,
 use Rattle.program_rules.specs.Points.{Item, item, orElse, endOr, stop, Point, point, elsePlace, endPlace, cutting, finish, reserve, beyond, beside, reserved, othersOf, items, parted}
 use Rattle.program_rules.specs.Length.{instrs}
 use Rattle.program_rules.specs.Program.{instrOf, followOf, pointAt, program}
-use Rattle.program_rules.specs.Lines.{Line, endLine, linesOf}
+use Rattle.tables.specs.declared.line.Line.{Line}
+use Rattle.program_rules.specs.Lines.{endLine, linesOf}
 use Rattle.program_rules.specs.Link.{opsOf, tosOf}
 use Rattle.program_rules.specs.Linked.{link-leads}
 use Rattle.program_rules.specs.Meaning.{Means, means-end, means-strip, means-drop, means-bind, means-constant, means-integer, means-value, means-nil, means-list, means-multiset, means-join, means-tuple}

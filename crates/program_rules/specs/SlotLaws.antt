@@ -9,7 +9,8 @@ use lib.Dec.{eqb, ltb}
 use lib.ListN.{length, getD, set, length-set}
 use lib.Seq.{getD-set-same, getD-set-other}
 use lib.IntN.{ℤ, pos}
-use Rattle.program_rules.specs.Lines.{Line, line, endLine, elseLine, fiLine, cutLine, reservedLine, reservedLines, leafLine, Waiting, slotOf, fromBy, closeLine, linesOf}
+use Rattle.tables.specs.declared.line.Line.{Line}
+use Rattle.program_rules.specs.Lines.{line, endLine, elseLine, fiLine, cutLine, reservedLine, reservedLines, leafLine, Waiting, slotOf, fromBy, closeLine, linesOf}
 use Rattle.program_rules.specs.Link.{opsOf}
 use Rattle.program_rules.specs.Made.{Reserving, reserving-none, reserving, Made, made-end, made-skip, made-divided, made-leaf, made-leaf-two, after-end, after-close, after-else, after-part, made}
 use Rattle.program_rules.specs.Slots.{width, slotted, Own, slotAt, slotsIn, over}

@@ -6,7 +6,7 @@ use mathlib.Core.Bool.{cond}
 use mathlib.Core.List.{List, [], _∷_}
 use lib.ListN.{getD, set}
 use lib.Dec.{eqb, ltb}
-use Rattle.program_rules.specs.Lines.{Columns, columns}
+use Rattle.tables.specs.Line.{Columns, named}
 use Rattle.program_rules.specs.Link.{opsIn}
 
 -- From this line on so many have a slot, one after the other, `left` being those that an earlier tuple's line leaves.
@@ -21,8 +21,8 @@ slotted pc next left (o ∷ os) arg =
     cond (ltb 0 (width o left)) (slotted (suc pc) (suc next) (width o left - 1) os (set arg pc next)) (slotted (suc pc) next (width o left) os arg)
 
 unfoldable pub numbered : (lines : ℕ) → Columns → Columns
-unfolding slotted
-numbered n t = columns (t .op) (t .from) (slotted 0 16 0 (opsIn (t .op) 0 n) (t .arg)) (t .mat) (t .con)
+unfolding slotted named
+numbered n t = named (slotted 0 16 0 (opsIn (t .op) 0 n) (t .arg)) t
 
 -- A slot's number is that of no other line.
 pub record Own (arg : List ℕ) (pc : ℕ) : Type 0 where

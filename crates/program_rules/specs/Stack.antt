@@ -6,7 +6,8 @@ use lib.ListN.{getD, set}
 use lib.Dec.{eqb, ltb}
 use lib.IntN.{ℤ}
 use Rattle.matchers.specs.Places.{matcherEnd}
-use Rattle.program_rules.specs.Lines.{Line, Waiting, waits, closeLine}
+use Rattle.tables.specs.declared.line.Line.{Line}
+use Rattle.program_rules.specs.Lines.{Waiting, waits, closeLine}
 
 -- One array for each number of a part that waits; the entry 0 is no part's.
 pub record Stack : Type 0 where

@@ -22,7 +22,9 @@ use Rattle.program_rules.specs.Points.{Point, point, elsePlace, endPlace, cutti
 use Rattle.program_rules.specs.Points.{Follows, strips, drops, binds, tests, splits, aparts, keeps, chooses, denies, cuts, elses, closes, reserves, ends, after-end}
 use Rattle.program_rules.specs.Length.{instrs}
 use Rattle.program_rules.specs.Program.{followOf, pointAt, program}
-use Rattle.program_rules.specs.Lines.{Line, endLine, Columns}
+use Rattle.tables.specs.declared.line.Line.{Line}
+use Rattle.tables.specs.Line.{Columns}
+use Rattle.program_rules.specs.Lines.{endLine}
 use Rattle.program_rules.specs.Meaning.{Means, means-end, means-strip, means-drop, means-bind, means-constant, means-integer, means-value, means-nil, means-list, means-multiset, means-join, means-tuple, means-keep, means-choice, means-deny, means-cut, means-other, means-close}
 use Rattle.program_rules.specs.Accepted.{follows, last-beyond}
 use Rattle.program_rules.specs.Columns.{lineIn, Holds}
@@ -181,7 +183,7 @@ module _ (pc : ℕ) where
 
 -- ---- All lines.
 
-module _ (ms ps : List ℤ) (r : Rule) (w : WellFormed ms ps r) (vars : ℕ) (t : Columns) (to : List ℕ) (holds : Holds ms r vars t to) where
+module _ (ms ps : List ℤ) (r : Rule) (w : WellFormed ms ps r) (vars : ℕ) (t : Columns) (holds : Holds ms r vars t) where
   at : ℕ → Point
   at pc = pointAt (r .matcher) (r .pattern) pc
 
@@ -215,10 +217,10 @@ module _ (ms ps : List ℤ) (r : Rule) (w : WellFormed ms ps r) (vars : ℕ) (t 
       go (yes l) s = ap (λ b. cond (eqb (getD (t .op) pc 0) 0) true (cond (lineFails (getD (t .op) pc 0)) false b)) (rw (add-one pc) (s l)) ∙ sym (line pc l)
 
 -- What the scan tells of the lines of a rule that is accepted.
-pub plain-is : (ms ps : List ℤ) (r : Rule) → ruleOf ms ps ≡ accepted r → (vars : ℕ) (t : Columns) (to : List ℕ) → Holds ms r vars t to
+pub plain-is : (ms ps : List ℤ) (r : Rule) → ruleOf ms ps ≡ accepted r → (vars : ℕ) (t : Columns) → Holds ms r vars t
     → noneFrom (t .op) 0 entries ≡ alwaysTrue (r .pattern)
 unfolding alwaysTrue at last pointAt tagsAt tagsLater
-plain-is ms ps r a vars t to h =
+plain-is ms ps r a vars t h =
     let w = rule-accepted ms ps r .0 a in
     let l = h .last in
-    scan ms ps r w vars t to h entries 0 (omega arith) (omega arith) ∙ ap noneFails (append-nil (tags (r .pattern)))
+    scan ms ps r w vars t h entries 0 (omega arith) (omega arith) ∙ ap noneFails (append-nil (tags (r .pattern)))

@@ -1,8 +1,11 @@
 // Review's count, from the lines of a rule's program.
+use tables::line::Lines;
+use tables::line::op_at;
 use words::ENTRIES;
 ghost use mathlib.Core.Path.{_≡_};
 ghost use Prim.Native.Nat.{_≤_, _<_, _+_, _-_};
 ghost use Rattle.words.specs.Words.{entries};
+ghost use Rattle.tables.specs.Line.{columnsOf};
 ghost use Rattle.review_count.specs.Tally.{stepOf, factorOf, nextOf, reservedAfter, turnOf, laidOf, takenOf, lastOf, wholeSum, wholeProduct, within};
 ghost use Rattle.review_count.specs.Pile.{topIn, depthBy};
 
@@ -23,7 +26,7 @@ pub enum Turn {
 }
 
 // What a line adds to the count.
-fn step(o: u8, earlier: u64) -> u64
+fn step(o: u16, earlier: u64) -> u64
     ensures { λ r. ⌜ r ≡ stepOf o earlier ⌝ }
 {
     match o {
@@ -42,7 +45,7 @@ fn left(taken: u16, cap: u64) -> u64
 }
 
 // The factor of a line, so many conses being taken from the collection there.
-fn factor(o: u8, taken: u16, cap: u64) -> u64
+fn factor(o: u16, taken: u16, cap: u64) -> u64
     requires { ⌜ cap ≤ 64 ⌝ }
     ensures { λ r. ⌜ r ≡ factorOf cap taken o ⌝ }
 {
@@ -54,7 +57,7 @@ fn factor(o: u8, taken: u16, cap: u64) -> u64
 }
 
 // The product of the factors before the next line, `last` being the product that was laid aside with what was taken last.
-fn product(o: u8, earlier: u64, taken: u16, last: u64, cap: u64) -> u64
+fn product(o: u16, earlier: u64, taken: u16, last: u64, cap: u64) -> u64
     requires { ⌜ cap ≤ 64 ⌝ ∗ ⌜ earlier + last ≤ 281474976710656 ⌝ }
     ensures { λ r. ⌜ r ≡ nextOf cap o earlier taken last ⌝ }
 {
@@ -67,7 +70,7 @@ fn product(o: u8, earlier: u64, taken: u16, last: u64, cap: u64) -> u64
 }
 
 // How many places after a line are reserved for a tuple's parts.
-fn reserved_after(o: u8) -> u8
+fn reserved_after(o: u16) -> u8
     ensures { λ r. ⌜ r ≡ reservedAfter o ⌝ }
 {
     match o {
@@ -78,7 +81,7 @@ fn reserved_after(o: u8) -> u8
 }
 
 // What a line does with what waits.
-fn turn_of(o: u8) -> Turn
+fn turn_of(o: u16) -> Turn
     ensures { λ r. ⌜ r ≡ turnOf o ⌝ }
 {
     match o {
@@ -172,9 +175,9 @@ fn depth_after(t: Turn, depth: usize) -> usize
 
 // The count for a largest collection of `cap` elements. The sum never falls, so the first sum that is too big decides. `kept` and `takens` are what waits:
 // the product before the line that laid it aside, and how many conses are taken from its collection.
-pub fn tallied(op: &[u8; ENTRIES], cap: u64) -> Tally
+pub fn tallied(lines: &Lines, cap: u64) -> Tally
     requires { ⌜ cap ≤ 64 ⌝ }
-    ensures { λ r. ⌜ r ≡ within (wholeSum cap (now (op .entry))) (wholeProduct cap (now (op .entry))) ⌝ }
+    ensures { λ r. ⌜ r ≡ within (wholeSum cap (columnsOf (now (lines .entry)) .op)) (wholeProduct cap (columnsOf (now (lines .entry)) .op)) ⌝ }
 {
     let mut kept = [0u64; ENTRIES];
     let mut takens = [0u16; ENTRIES];
@@ -186,7 +189,7 @@ pub fn tallied(op: &[u8; ENTRIES], cap: u64) -> Tally
     let mut skip: u8 = 0;
     let mut pc: usize = 0;
     while pc < ENTRIES {
-        let o = op[pc];
+        let o = op_at(lines, pc);
         pc += 1;
         if 0 < skip {
             skip -= 1;

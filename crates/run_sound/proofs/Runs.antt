@@ -113,8 +113,8 @@ lines-all op arg slots s j u r q n c e z l d k f = alike f
         (c .after j i (e .sound (upheld u z)) (let a = eqb-false i j y in let b = ltb-false i j v in omega arith)
         ∙ sym (c .after j (entries - 1) (e .sound (upheld u z)) (let a = eqb-false i j y in let b = ltb-false i j v in omega arith))) op s p
 
-pub end-is : (n : ℕ) → Decides (eqb n 0) (n ≡ 0)
-end-is n = record { sound = λ e. eqb-true n 0 e; whole = λ e. eq-eqb n 0 e }
+pub end-is : (o n : ℕ) → o ≡ n → Decides (eqb o 0) (n ≡ 0)
+end-is o n i = record { sound = λ e. sym i ∙ eqb-true o 0 e; whole = λ e. eq-eqb o 0 (i ∙ e) }
 
 pub ruleset lines-rules = (end-is, lines-first, lines-inside, lines-not, lines-next, lines-all, needs)
 

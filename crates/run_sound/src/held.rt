@@ -61,7 +61,7 @@ pub fn are_bound(s: &[i32], b: [Binding; 16]) -> bool
 }
 
 // Whether a line with this instruction, at j, is one whose next choice can be taken from this value and what is left of it.
-pub fn is_frame(o: u8, s: &[i32], j: usize, at: usize, m: u64, c: u64) -> bool
+pub fn is_frame(o: u16, s: &[i32], j: usize, at: usize, m: u64, c: u64) -> bool
     ensures { λ r. ⌜ Decides r (Frame o (now (s .entry)) j at m c) ⌝ }
 {
     if ENTRIES <= j {

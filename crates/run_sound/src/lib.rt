@@ -7,11 +7,12 @@ use held::is_held;
 use lines::are_lines;
 use lines::is_open;
 use search_step::State;
-use tables::slot::Numbers;
+use tables::line::Lines;
 use tables::slot::Slots;
 use value_rows::Binding;
 use words::ENTRIES;
 ghost use mathlib.Core.Path.{_≡_};
+ghost use Rattle.tables.specs.Line.{columnsOf};
 ghost use Rattle.tables.specs.Slot.{viewOf};
 ghost use Rattle.run_sound.specs.Tested.{Decides};
 ghost use Rattle.run_sound.specs.Sound.{Numbered, Closes, Sound};
@@ -22,12 +23,11 @@ pub fn is_sound(
     b: [Binding; 16],
     room: usize,
     s: &[i32],
-    op: &[u8; ENTRIES],
-    arg: &Numbers,
+    lines: &Lines,
     slots: &Slots,
 ) -> bool
-    requires { ⌜ Numbered (now arg) (now slots) ⌝ ∗ ⌜ Closes (now op) (now arg) ⌝ }
-    ensures { λ r. ⌜ Decides r (Sound (now (op .entry)) (now (s .entry)) (viewOf (now (arg .entry)) (now (slots .entry))) x b room) ⌝ }
+    requires { ⌜ Numbered (columnsOf (now lines) .arg) (now slots) ⌝ ∗ ⌜ Closes (columnsOf (now lines) .op) (columnsOf (now lines) .arg) ⌝ }
+    ensures { λ r. ⌜ Decides r (Sound (columnsOf (now (lines .entry)) .op) (now (s .entry)) (viewOf (columnsOf (now (lines .entry)) .arg) (now (slots .entry))) x b room) ⌝ }
 {
     if ENTRIES <= x.pc {
         return false;
@@ -41,11 +41,11 @@ pub fn is_sound(
     if !is_held(s, x.at, x.marks) {
         return false;
     }
-    if !is_open(x.top, s, op, arg, slots) {
+    if !is_open(x.top, s, lines, slots) {
         return false;
     }
     if !are_bound(s, b) {
         return false;
     }
-    are_lines(s, op, arg, slots)
+    are_lines(s, lines, slots)
 }

@@ -16,11 +16,12 @@ use Rattle.forms.specs.Faults.{Sane, match-ran}
 use Rattle.words.specs.Words.{entries}
 use Rattle.program_rules.specs.Closed.{closed-is}
 use Rattle.program_rules.specs.Length.{instrs}
-use Rattle.program_rules.specs.Lines.{Line, columns}
+use Rattle.tables.specs.declared.line.Line.{Line}
+use Rattle.tables.specs.Line.{Columns}
 use Rattle.program_rules.specs.Columns.{lineIn, Holds}
 use Rattle.value_places.specs.Places.{Target}
 use Rattle.value_places.proofs.Accepted.{read-target, read-tag}
-use Rattle.search.specs.Run.{env}
+use Rattle.search.specs.Run.{envOf}
 use Rattle.search.specs.Valid.{Fine}
 use Rattle.search.specs.Searched.{Searched}
 
@@ -31,7 +32,10 @@ module _ (ms ps ts : List ℤ) (r : Rule) (v : Value) (sane : Sane ms ps ts r v)
   pub accepted-some : 0 < length ts
   accepted-some = read-tag ts v (sane .target .target) .inside
 
-module _ (ms ts : List ℤ) (r : Rule) (n : ℕ) (op from to arg mat : List ℕ) (con : List ℤ) (form : Form) (holds : Holds ms r n (columns op from arg mat con) to) where
+module _ (ms ts : List ℤ) (r : Rule) (n : ℕ) (t : Columns) (form : Form) (holds : Holds ms r n t) where
+  abbrev op : List ℕ
+  op = t .op
+
   -- A line that is no end is one of the program's.
   among : (i : ℕ) → (getD op i 0 ≡ 0 → ⊥) → i ≤ 639
   unfolding lineIn
@@ -46,7 +50,7 @@ module _ (ms ts : List ℤ) (r : Rule) (n : ℕ) (op from to arg mat : List ℕ)
   parts-fit i zero b e = let h = among i (λ z. omega arith) in omega arith
   parts-fit i (suc k) b e = among (i + suc k) (λ z. let h : getD op (i + suc k) 0 ≡ 1 = holds .reserved i (suc k) (omega arith) (omega arith) (omega arith) in omega arith)
 
-  pub accepted-fine : Fine (env op from to arg mat con ms ts n form)
+  pub accepted-fine : Fine (envOf t ms ts n form)
   unfolding lineIn
   accepted-fine = record {
     last = ap (λ (l : Line). l .op) (holds .after (entries - 1) (let h = holds .last in omega arith));
@@ -56,12 +60,13 @@ module _ (ms ts : List ℤ) (r : Rule) (n : ℕ) (op from to arg mat : List ℕ)
     few = holds .few;
     parts = λ i h l z. let k = parts-fit i (getD op i 0 - 11) (omega arith) (omega arith) in omega arith;
     reserved = holds .reserved;
+    constants = λ i h. let l = holds .long in omega arith;
     slot = λ i. let n = holds .number i in omega arith;
     alone = λ i h a b. record { only = (holds .own i (omega arith) (omega arith)) .only };
     each = λ i h a b k c. record { only = (holds .part i k (omega arith) (omega arith)) .only };
   }
 
   pub accepted-match : (ps : List ℤ) (v : Value) → Sane ms ps ts r v → (budget : ℕ) (room : List ℤ) (out : Matched)
-      → Searched (env op from to arg mat con ms ts n form) budget room out → out ≡ matchIn form ms ps ts budget room
+      → Searched (envOf t ms ts n form) budget room out → out ≡ matchIn form ms ps ts budget room
   accepted-match ps v sane budget room out s =
       s .as-defined r v (sane .rule .fitting .0) holds (sane .rule .fitting .1) (pattern-read ps (r .pattern) .0 (sane .rule .pattern) .2) (closed-is (r .pattern) true 0 0 (sane .rule .numbered .0) (sane .rule .numbered .1)) (sane .target .target) (sane .target .fit) ∙ sym (match-ran form ms ps ts budget room r v sane)

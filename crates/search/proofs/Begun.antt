@@ -8,7 +8,7 @@ use lib.Pow.{pow-pos}
 use lib.IntN.{ℤ}
 use Rattle.rules.specs.Fit.{fits}
 use Rattle.words.specs.Words.{entries}
-use Rattle.program_rules.specs.Lines.{Line}
+use Rattle.tables.specs.declared.line.Line.{Line}
 use Rattle.program_rules.specs.Columns.{lineIn}
 use Rattle.value_places.specs.Places.{Target, Tag, marksAt}
 use Rattle.value_places.specs.Held.{Held, wholeAt}

@@ -92,45 +92,47 @@ pub record Asked (e : Env) (r : Run) (q : Bool) (b : List Binding) : Type 0 wher
   pub ask : q ≡ asked e r
   pub binds : b ≡ when (eqb (getD (e .op) (r .state .pc) 0) 3) (set (r .binds) (getD (e .arg) (r .state .pc) 0) (record { at = r .state .at; marks = r .state .marks })) (r .binds)
 
-module _ (e : Env) (x : State) (t : Tables) (b : List Binding) (room : List ℤ) (q : Bool) (b′ : List Binding) where
-  not-asked : (getD (e .op) (x .pc) 0 ≡ 5 → ⊥) → (getD (e .op) (x .pc) 0 ≡ 6 → ⊥) → asked e (run x t b room) ≡ false
+-- The line's instruction is o.
+module _ (e : Env) (x : State) (t : Tables) (b : List Binding) (room : List ℤ) (q : Bool) (b′ : List Binding) (o : ℕ) (i : o ≡ getD (e .op) (x .pc) 0) where
+  not-asked : (o ≡ 5 → ⊥) → (o ≡ 6 → ⊥) → asked e (run x t b room) ≡ false
   unfolding asked askOf when
-  not-asked n m = rw (ne-eqb (getD (e .op) (x .pc) 0) 5 n, ne-eqb (getD (e .op) (x .pc) 0) 6 m)
+  not-asked n m = rw (ne-eqb (getD (e .op) (x .pc) 0) 5 (λ z. n (i ∙ z)), ne-eqb (getD (e .op) (x .pc) 0) 6 (λ z. m (i ∙ z)))
 
-  pub asked-3 : (v : ℕ) → getD (e .op) (x .pc) 0 ≡ 3 → v ≡ getD (e .arg) (x .pc) 0 → b′ ≡ set b v (record { at = x .at; marks = x .marks }) → q ≡ false
+  pub asked-3 : (v : ℕ) → o ≡ 3 → v ≡ getD (e .arg) (x .pc) 0 → b′ ≡ set b v (record { at = x .at; marks = x .marks }) → q ≡ false
       → Asked e (run x t b room) q b′
   unfolding when
   asked-3 v z a p f = record {
     ask = f ∙ sym (not-asked (λ y. omega arith) (λ y. omega arith));
-    binds = p ∙ rw (a, eq-eqb _ _ z);
+    binds = p ∙ rw (a, eq-eqb (getD (e .op) (x .pc) 0) 3 (sym i ∙ z));
   }
 
-  asked-n : (getD (e .op) (x .pc) 0 ≡ 3 → ⊥) → (getD (e .op) (x .pc) 0 ≡ 5 → ⊥) → (getD (e .op) (x .pc) 0 ≡ 6 → ⊥) → b′ ≡ b → q ≡ false → Asked e (run x t b room) q b′
+  asked-n : (o ≡ 3 → ⊥) → (o ≡ 5 → ⊥) → (o ≡ 6 → ⊥) → b′ ≡ b → q ≡ false → Asked e (run x t b room) q b′
   unfolding when
-  asked-n n m k p f = record { ask = f ∙ sym (not-asked m k); binds = p ∙ rw (ne-eqb _ _ n) }
+  asked-n n m k p f = record { ask = f ∙ sym (not-asked m k); binds = p ∙ rw (ne-eqb (getD (e .op) (x .pc) 0) 3 (λ z. n (i ∙ z))) }
 
   -- Instructions below 3; 4; from 7 on.
-  pub asked-below : getD (e .op) (x .pc) 0 ≤ 2 → b′ ≡ b → q ≡ false → Asked e (run x t b room) q b′
+  pub asked-below : o ≤ 2 → b′ ≡ b → q ≡ false → Asked e (run x t b room) q b′
   asked-below l = asked-n (λ y. omega arith) (λ y. omega arith) (λ y. omega arith)
 
-  pub asked-4 : getD (e .op) (x .pc) 0 < 5 → (getD (e .op) (x .pc) 0 ≡ 3 → ⊥) → b′ ≡ b → q ≡ false → Asked e (run x t b room) q b′
+  pub asked-4 : o < 5 → (o ≡ 3 → ⊥) → b′ ≡ b → q ≡ false → Asked e (run x t b room) q b′
   asked-4 l n = asked-n n (λ y. omega arith) (λ y. omega arith)
 
-  pub asked-above : 7 ≤ getD (e .op) (x .pc) 0 → b′ ≡ b → q ≡ false → Asked e (run x t b room) q b′
+  pub asked-above : 7 ≤ o → b′ ≡ b → q ≡ false → Asked e (run x t b room) q b′
   asked-above l = asked-n (λ y. omega arith) (λ y. omega arith) (λ y. omega arith)
 
-  pub asked-5 : (v : ℕ) (r : Bool) (c : ℤ) → getD (e .op) (x .pc) 0 ≡ 5 → v ≡ getD (e .arg) (x .pc) 0 → b′ ≡ b → q ≡ r → c ≡ getD (e .con) (x .pc) (pos 0)
+  pub asked-5 : (v : ℕ) (r : Bool) (c : ℤ) → o ≡ 5 → v ≡ getD (e .arg) (x .pc) 0 → b′ ≡ b → q ≡ r → c ≡ getD (e .con) (x .pc) (pos 0)
       → r ≡ isSum (e .words) (getD b v nothing .at) c (x .at) → Asked e (run x t b room) q b′
   unfolding asked askOf boundAt when
-  asked-5 v r c z a p f d h = record { ask = f ∙ h ∙ rw (d, a, eq-eqb _ 5 z); binds = p ∙ rw (ne-eqb (getD (e .op) (x .pc) 0) 3 (λ y. omega arith)) }
+  asked-5 v r c z a p f d h =
+      record { ask = f ∙ h ∙ rw (d, a, eq-eqb (getD (e .op) (x .pc) 0) 5 (sym i ∙ z)); binds = p ∙ rw (ne-eqb (getD (e .op) (x .pc) 0) 3 (λ y. omega arith)) }
 
-  pub asked-6 : (v i : ℕ) (r : Bool) → (getD (e .op) (x .pc) 0 ≡ 5 → ⊥) → 5 ≤ getD (e .op) (x .pc) 0 → getD (e .op) (x .pc) 0 < 7 → v ≡ getD (e .arg) (x .pc) 0
-      → i ≡ getD (e .mat) (x .pc) 0 → b′ ≡ b → q ≡ r → r ≡ equalAt (e .matcher) i (e .words) (getD b v nothing .at) (getD b v nothing .marks) (x .at) (x .marks)
+  pub asked-6 : (v k : ℕ) (r : Bool) → (o ≡ 5 → ⊥) → 5 ≤ o → o < 7 → v ≡ getD (e .arg) (x .pc) 0
+      → k ≡ getD (e .mat) (x .pc) 0 → b′ ≡ b → q ≡ r → r ≡ equalAt (e .matcher) k (e .words) (getD b v nothing .at) (getD b v nothing .marks) (x .at) (x .marks)
       → Asked e (run x t b room) q b′
   unfolding asked askOf boundAt when
-  asked-6 v i r m k l a d p f h =
+  asked-6 v k r m j l a d p f h =
       let z : getD (e .op) (x .pc) 0 ≡ 6 = omega arith in
-      record { ask = f ∙ h ∙ rw (d, a, ne-eqb _ 5 m, eq-eqb _ 6 z); binds = p ∙ rw (ne-eqb (getD (e .op) (x .pc) 0) 3 (λ y. omega arith)) }
+      record { ask = f ∙ h ∙ rw (d, a, ne-eqb (getD (e .op) (x .pc) 0) 5 (λ y. m (i ∙ y)), eq-eqb (getD (e .op) (x .pc) 0) 6 z); binds = p ∙ rw (ne-eqb (getD (e .op) (x .pc) 0) 3 (λ y. omega arith)) }
 
 -- ---- A turn.
 
@@ -213,9 +215,10 @@ module _ (e : Env) (x : State) (t : Tables) (b : List Binding) (room : List ℤ)
 
   -- What a row and a step ask.
   module _ (fine : Fine e) (g : Target (e .words)) (v : Valid e (run x t b room)) (l : x .steps + 1 < 2 ^ 64) where
-    pub turn-steps : (slots : List ℕ) → t ≡ viewOf (e .arg) slots → Steps (e .words) (e .op) (e .from) (e .arg) slots x
+    pub turn-steps : (slots : List ℕ) → t ≡ viewOf (e .arg) slots → Steps (e .words) (e .op) (e .from) (e .arg) (e .con) slots x
     turn-steps slots w = record {
       place = v .place;
+      constant = fine .constants (x .pc) (v .place);
       next = fine .slots (x .pc) (v .place);
       held = v .held;
       word = second (e .words) (x .at) g (v .held .tag);
@@ -304,14 +307,11 @@ module _ (e : Env) (x : State) (t : Tables) (b : List Binding) (room : List ℤ)
   pub ready-place : x .pc < entries
   ready-place = h .valid .place
 
-  pub ready-mul : Fits w64 (x .pc * 4)
-  ready-mul = let l = h .valid .place in record { fits = omega arith }
+  pub ready-constant : x .pc < length (e .con)
+  ready-constant = h .fine .constants (x .pc) (h .valid .place)
 
-  pub ready-mul-2 : Fits w64 (x .pc * 2)
-  ready-mul-2 = let l = h .valid .place in record { fits = omega arith }
-
-  -- The variable that the line names.
-  module _ (v : ℕ) (n : v ≡ getD (e .arg) (x .pc) 0) (low : 2 < getD (e .op) (x .pc) 0) (high : getD (e .op) (x .pc) 0 < 7) where
+  -- The variable that the line names, whose instruction is o.
+  module _ (o : ℕ) (i : o ≡ getD (e .op) (x .pc) 0) (low : 2 < o) (high : o < 7) (v : ℕ) (n : v ≡ getD (e .arg) (x .pc) 0) where
     pub ready-number : v < 16
     ready-number = rw n (h .fine .numbers (x .pc) (h .valid .place) (omega arith) (omega arith))
 

@@ -16,7 +16,7 @@ use Rattle.rules.specs.Forms.{words}
 use Rattle.rules.specs.Rows.{Form, told, row}
 use Rattle.program_rules.specs.Points.{Instr, bind, end}
 use Rattle.program_rules.specs.Meaning.{Means, means-end, means-strip, means-drop, means-bind, means-constant, means-integer, means-value, means-nil, means-list, means-multiset, means-join, means-tuple, means-keep, means-choice, means-deny, means-cut, means-other, means-close}
-use Rattle.program_rules.specs.Lines.{Line}
+use Rattle.tables.specs.declared.line.Line.{Line}
 use Rattle.search_machine.specs.Held.{Data}
 use Rattle.search_machine.specs.Engine.{Conf, back, exec, settle}
 use Rattle.search_machine.specs.Drive.{Engine, rowFrom, passed, wrote, filled, rowDone, result, advance, turn}

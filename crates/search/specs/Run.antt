@@ -12,7 +12,9 @@ use Rattle.value_places.specs.Held.{put}
 use Rattle.value_rows.specs.Row.{bound, nothing}
 use Rattle.value_equality.specs.Equality.{equalAt, isSum}
 use Rattle.value_rows.specs.declared.Binding.{Binding}
-use Rattle.program_rules.specs.Lines.{Line, line}
+use Rattle.tables.specs.declared.line.Line.{Line}
+use Rattle.tables.specs.Line.{Columns}
+use Rattle.program_rules.specs.Lines.{line}
 use Rattle.search_step.specs.declared.State.{State}
 use Rattle.search_atom.specs.Leaves.{when}
 use Rattle.tables.specs.Slot.{Tables}
@@ -35,6 +37,10 @@ pub record Env : Type 0 where
 
 abbrev pub env : (op from to arg mat : List ℕ) → (con matcher words : List ℤ) → (vars : ℕ) → Form → Env
 env op from to arg mat con mt s n form = record { op = op; from = from; to = to; arg = arg; mat = mat; con = con; matcher = mt; words = s; vars = n; form = form }
+
+-- The program as the table of lines has it.
+abbrev pub envOf : Columns → (matcher words : List ℤ) → (vars : ℕ) → Form → Env
+envOf t mt s n form = env (t .op) (t .from) (t .to) (t .arg) (t .mat) (t .con) mt s n form
 
 pub record Run : Type 0 where
   pub state : State

@@ -13,7 +13,7 @@ use Rattle.rules.specs.Services.{Rule, Matched, carriedOut}
 use Rattle.forms.specs.Written.{Widthsᵖ}
 use Rattle.words.specs.Words.{entries}
 use Rattle.program_rules.specs.Closed.{Closed}
-use Rattle.program_rules.specs.Lines.{columns}
+use Rattle.tables.specs.Line.{columns}
 use Rattle.program_rules.specs.Columns.{Holds}
 use Rattle.value_places.specs.Held.{wholeAt}
 use Rattle.value_rows.specs.Row.{nothing}
@@ -34,6 +34,6 @@ begun e room = run (opening 0 (wholeAt (e .words) 0)) (tables (zeros entries) (z
 
 pub record Searched (e : Env) (budget : ℕ) (room : List ℤ) (out : Matched) : Type 0 where
   pub is : out ≡ told (runOf e budget (begun e room))
-  pub as-defined : (r : Rule) (v : Value) (ks : List Matcher) → Holds (e .matcher) r (e .vars) (columns (e .op) (e .from) (e .arg) (e .mat) (e .con)) (e .to)
+  pub as-defined : (r : Rule) (v : Value) (ks : List Matcher) → Holds (e .matcher) r (e .vars) (columns (e .op) (e .from) (e .arg) (e .mat) (e .con) (e .to))
       → fits (r .pattern) (r .matcher) 0 [] ≡ ok ks → Widthsᵖ (r .pattern) → Closed (r .pattern) → readTarget (e .words) ≡ ok v → fitsValue (r .matcher) v 0 ≡ ok tt
       → out ≡ carriedOut (search.run (e .form) budget (start (r .matcher) (r .pattern) v ∷ []) (length room)) room

@@ -25,6 +25,7 @@ pub record Fine (e : Env) : Type 0 where
   pub few : e .vars ≤ 16
   pub parts : (i : ℕ) → i < entries → 10 < getD (e .op) i 0 → getD (e .op) i 0 < 14 → i + (getD (e .op) i 0 - 10) < entries
   pub reserved : (i k : ℕ) → 0 < k → 11 + k ≤ getD (e .op) i 0 → getD (e .op) i 0 ≤ 13 → getD (e .op) (i + k) 0 ≡ 1
+  pub constants : (i : ℕ) → i < entries → i < length (e .con)
   pub slot : (i : ℕ) → getD (e .arg) i 0 < slotCount
   pub alone : (i : ℕ) → i < entries → 7 < getD (e .op) i 0 → getD (e .op) i 0 < 17 → Alone (e .arg) i
   pub each : (i : ℕ) → i < entries → 10 < getD (e .op) i 0 → getD (e .op) i 0 < 14 → (k : ℕ) → k < getD (e .op) i 0 - 10 → Alone (e .arg) (i + k)

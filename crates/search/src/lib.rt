@@ -3,7 +3,11 @@ pub mod taking;
 
 use search_choice::settle;
 use search_step::State;
-use tables::slot::Numbers;
+use tables::line::Lines;
+use tables::line::arg_at;
+use tables::line::con_at;
+use tables::line::mat_at;
+use tables::line::op_at;
 use tables::slot::Slots;
 use tables::slot::no_slots;
 use taking::filled;
@@ -16,17 +20,14 @@ use value_places::places::whole;
 use value_rows::Binding;
 use value_rows::put_entry;
 use value_rows::row_size;
-use words::ENTRIES;
-use words::casts::byte_index;
-use words::casts::half_index;
 ghost use mathlib.Core.Path.{_≡_};
 ghost use Prim.Native.Nat.{_-_, _<_};
 ghost use lib.ListN.{length};
-ghost use Rattle.program_rules.specs.Lines.{columns};
 ghost use Rattle.value_places.specs.Places.{Target};
 ghost use Rattle.value_rows.specs.Row.{formBy};
+ghost use Rattle.tables.specs.Line.{columnsOf};
 ghost use Rattle.tables.specs.Slot.{viewOf};
-ghost use Rattle.search.specs.Run.{env, run, runOf, answerOf, matched};
+ghost use Rattle.search.specs.Run.{envOf, run, runOf, answerOf, matched};
 ghost use Rattle.search.specs.Valid.{Given, Fine, Valid};
 ghost use Rattle.search.specs.Searched.{Searched};
 
@@ -47,17 +48,12 @@ pub fn advance(
     ends: &[u16; 512],
     base: &[u16; 512],
     places: &[u16; 512],
-    op: &[u8; ENTRIES],
-    from: &[u16; ENTRIES],
-    to: &[u16; ENTRIES],
-    arg: &Numbers,
-    mat: &[u8; ENTRIES],
-    con: &[i32; ENTRIES],
+    lines: &Lines,
     slots: &mut Slots,
     room: &mut [i32],
 ) -> Found
-    requires { ⌜ Given (now s) (now ends) (now base) (now places) ⌝ ∗ ⌜ Fine (env (now op) (now from) (now to) (now arg) (now mat) (now con) (now mt) (now s) n (formBy origins)) ⌝ ∗ ⌜ Valid (env (now op) (now from) (now to) (now arg) (now mat) (now con) (now mt) (now s) n (formBy origins)) (run first (viewOf (now arg) (now slots)) given (now room)) ⌝ }
-    ensures { λ r. ⌜ run (r .state) (viewOf (now (arg .entry)) (now (slots .exit))) (r .binds) (now (room .exit)) ≡ runOf (env (now (op .entry)) (now (from .entry)) (now (to .entry)) (now (arg .entry)) (now (mat .entry)) (now (con .entry)) (now (mt .entry)) (now (s .entry)) n (formBy origins)) (budget - first .steps) (run first (viewOf (now (arg .entry)) (now (slots .entry))) given (now (room .entry))) ⌝ }
+    requires { ⌜ Given (now s) (now ends) (now base) (now places) ⌝ ∗ ⌜ Fine (envOf (columnsOf (now lines)) (now mt) (now s) n (formBy origins)) ⌝ ∗ ⌜ Valid (envOf (columnsOf (now lines)) (now mt) (now s) n (formBy origins)) (run first (viewOf (columnsOf (now lines) .arg) (now slots)) given (now room)) ⌝ }
+    ensures { λ r. ⌜ run (r .state) (viewOf (columnsOf (now (lines .entry)) .arg) (now (slots .exit))) (r .binds) (now (room .exit)) ≡ runOf (envOf (columnsOf (now (lines .entry))) (now (mt .entry)) (now (s .entry)) n (formBy origins)) (budget - first .steps) (run first (viewOf (columnsOf (now (lines .entry)) .arg) (now (slots .entry))) given (now (room .entry))) ⌝ }
 {
     let mut x = first;
     let mut b = given;
@@ -69,26 +65,26 @@ pub fn advance(
         let pc = x.pc;
         let at = x.at;
         let m = x.marks;
-        let o = op[pc];
+        let o = op_at(lines, pc);
         let mut q = false;
         if 2 < o {
             if o == 5 {
-                let v = half_index(arg[pc]);
+                let v = arg_at(lines, pc);
                 let y = b[v];
                 let g = y.at;
-                let c = con[pc];
+                let c = con_at(lines, pc);
                 q = is_sum(s, g, c, at);
             } else if o < 5 {
                 if o == 3 {
-                    let v = half_index(arg[pc]);
+                    let v = arg_at(lines, pc);
                     b[v] = Binding { at: at, marks: m };
                 }
             } else if o < 7 {
-                let v = half_index(arg[pc]);
+                let v = arg_at(lines, pc);
                 let y = b[v];
                 let g = y.at;
                 let k = y.marks;
-                let i = byte_index(mat[pc]);
+                let i = mat_at(lines, pc);
                 q = equal(mt, i, s, base, places, g, k, at, m);
             }
         }
@@ -113,9 +109,9 @@ pub fn advance(
                 x = wrote(x, e);
             }
         } else {
-            x = x.step(q, s, base, places, op, from, to, con, arg, slots);
+            x = x.step(q, s, base, places, lines, slots);
         }
-        x = settle(x, s, base, places, op, from, to, arg, slots);
+        x = settle(x, s, base, places, lines, slots);
     }
     Found { state: x, binds: b }
 }
@@ -147,16 +143,11 @@ pub fn search(
     origins: bool,
     mt: &[i32],
     s: &[i32],
-    op: &[u8; ENTRIES],
-    from: &[u16; ENTRIES],
-    to: &[u16; ENTRIES],
-    arg: &Numbers,
-    mat: &[u8; ENTRIES],
-    con: &[i32; ENTRIES],
+    lines: &Lines,
     room: &mut [i32],
 ) -> Report
-    requires { ⌜ Target (now s) ⌝ ∗ ⌜ 0 < length (now s) ⌝ ∗ ⌜ Fine (env (now op) (now from) (now to) (now arg) (now mat) (now con) (now mt) (now s) n (formBy origins)) ⌝ }
-    ensures { λ r. ⌜ Searched (env (now (op .entry)) (now (from .entry)) (now (to .entry)) (now (arg .entry)) (now (mat .entry)) (now (con .entry)) (now (mt .entry)) (now (s .entry)) n (formBy origins)) budget (now (room .entry)) (matched (r .answer) (r .rows) (r .steps) (r .words) (now (room .exit))) ⌝ }
+    requires { ⌜ Target (now s) ⌝ ∗ ⌜ 0 < length (now s) ⌝ ∗ ⌜ Fine (envOf (columnsOf (now lines)) (now mt) (now s) n (formBy origins)) ⌝ }
+    ensures { λ r. ⌜ Searched (envOf (columnsOf (now (lines .entry))) (now (mt .entry)) (now (s .entry)) n (formBy origins)) budget (now (room .entry)) (matched (r .answer) (r .rows) (r .steps) (r .words) (now (room .exit))) ⌝ }
 {
     let mut ends = [0u16; 512];
     let mut base = [0u16; 512];
@@ -186,12 +177,7 @@ pub fn search(
         &ends,
         &base,
         &places,
-        op,
-        from,
-        to,
-        arg,
-        mat,
-        con,
+        lines,
         &mut slots,
         room,
     );

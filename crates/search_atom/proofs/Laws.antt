@@ -11,6 +11,10 @@ use lib.Dec.{eqb, ltb}
 use lib.IntN.{ℤ}
 use lib.Count.{trailingZeros}
 use Rattle.words.specs.Words.{entries}
+use mir.Syntax.{w32}
+use lib.Signed.{mag}
+use mir.Val.{hbits, ofZ}
+use Rattle.rules.specs.Numbers.{same}
 use Rattle.words.proofs.Same.{same-bits}
 use Rattle.words.proofs.marks.Places.{low-lt}
 use Rattle.value_places.specs.Places.{Target, Tag, countAt, elementAt}
@@ -54,7 +58,10 @@ pub ruleset cases = (when-eq, when-ne, when-lt, when-le, when-true, when-false, 
 
 -- ---- Words.
 
-pub ruleset word-rules = (same-bits, needs)
+pub same-named : (x y z : ℤ) → y ≡ z → mag x < 2 ^ hbits w32 → mag y < 2 ^ hbits w32 → eqb (ofZ w32 x) (ofZ w32 y) ≡ same x z
+same-named x y z e f g = same-bits x y f g ∙ ap (same x) e
+
+pub ruleset word-rules = (same-named, needs)
 
 -- ---- Choices.
 

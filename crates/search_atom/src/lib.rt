@@ -1,12 +1,12 @@
 // Leaves of a step: what the first atom's test says, and the choices of a cons or a join.
 pub mod tuples;
 
-use tables::slot::Numbers;
+use tables::line::Lines;
+use tables::line::con_at;
+use tables::line::from_at;
 use tables::slot::Slots;
 use tables::slot::low_at;
 use tables::slot::put_left;
-use value_places::places::wide;
-use words::ENTRIES;
 use words::marks::Parts;
 use words::marks::longer;
 use words::marks::lowest;
@@ -19,23 +19,24 @@ ghost use lib.IntN.{pos};
 ghost use Rattle.rules.specs.Numbers.{same};
 ghost use Rattle.words.specs.Words.{entries};
 ghost use Rattle.search_atom.specs.Leaves.{noneOf, passesOf, opensOf, longerOf, topBy, leftIn, slotBy};
+ghost use Rattle.tables.specs.Line.{columnsOf};
 ghost use Rattle.tables.specs.Slot.{viewOf, Slotted, Alone};
 
 // Whether a word of the target is an instruction's constant.
-fn is_constant(s: &[i32], at: usize, con: &[i32; ENTRIES], pc: usize) -> bool
-    requires { ⌜ at + 1 < length (now s) ⌝ ∗ ⌜ pc < entries ⌝ }
-    ensures { λ r. ⌜ r ≡ same (getD (now (s .entry)) (at + 1) (pos 0)) (getD (now (con .entry)) pc (pos 0)) ⌝ }
+fn is_constant(s: &[i32], at: usize, lines: &Lines, pc: usize) -> bool
+    requires { ⌜ at + 1 < length (now s) ⌝ ∗ ⌜ pc < entries ⌝ ∗ ⌜ pc < length (columnsOf (now lines) .con) ⌝ }
+    ensures { λ r. ⌜ r ≡ same (getD (now (s .entry)) (at + 1) (pos 0)) (getD (columnsOf (now (lines .entry)) .con) pc (pos 0)) ⌝ }
 {
-    s[at + 1] == con[pc]
+    s[at + 1] == con_at(lines, pc)
 }
 
 // Whether the atom's test holds.
-pub fn passes(o: u8, q: bool, s: &[i32], at: usize, m: u64, con: &[i32; ENTRIES], pc: usize) -> bool
-    requires { ⌜ at + 1 < length (now s) ⌝ ∗ ⌜ pc < entries ⌝ }
-    ensures { λ r. ⌜ r ≡ passesOf o q (now (s .entry)) at m (getD (now (con .entry)) pc (pos 0)) ⌝ }
+pub fn passes(o: u16, q: bool, s: &[i32], at: usize, m: u64, lines: &Lines, pc: usize) -> bool
+    requires { ⌜ at + 1 < length (now s) ⌝ ∗ ⌜ pc < entries ⌝ ∗ ⌜ pc < length (columnsOf (now lines) .con) ⌝ }
+    ensures { λ r. ⌜ r ≡ passesOf o q (now (s .entry)) at m (getD (columnsOf (now (lines .entry)) .con) pc (pos 0)) ⌝ }
 {
     if o == 4 {
-        return is_constant(s, at, con, pc);
+        return is_constant(s, at, lines, pc);
     }
     if o == 5 {
         return q;
@@ -50,7 +51,7 @@ pub fn passes(o: u8, q: bool, s: &[i32], at: usize, m: u64, con: &[i32; ENTRIES]
 }
 
 // Whether a cons has nothing to choose from.
-pub fn nothing(o: u8, m: u64) -> bool
+pub fn nothing(o: u16, m: u64) -> bool
     ensures { λ r. ⌜ r ≡ noneOf o m ⌝ }
 {
     if o == 10 {
@@ -60,7 +61,7 @@ pub fn nothing(o: u8, m: u64) -> bool
 }
 
 // The choices that a frame is opened with.
-pub fn opens(o: u8, m: u64) -> u64
+pub fn opens(o: u16, m: u64) -> u64
     requires { ⌜ noneOf o m ≡ false ⌝ }
     ensures { λ r. ⌜ r ≡ opensOf o m ⌝ }
 {
@@ -87,24 +88,24 @@ pub fn longer_front(c: u64, b: u64) -> u64
 }
 
 // What is left to choose from at a line: with nothing left the frame is no longer open. The last open frame then.
-pub fn leave(top: usize, more: u64, pc: usize, arg: &Numbers, slots: &mut Slots) -> usize
-    requires { ⌜ Slotted (now arg) (now slots) pc ⌝ ∗ ⌜ Alone (now arg) pc ⌝ }
-    ensures { λ r. ⌜ r ≡ topBy more pc (viewOf (now (arg .entry)) (now (slots .entry)) .lows) top ⌝ ∗ ⌜ viewOf (now (arg .entry)) (now (slots .exit)) ≡ leftIn more pc (viewOf (now (arg .entry)) (now (slots .entry))) ⌝ }
+pub fn leave(top: usize, more: u64, pc: usize, lines: &Lines, slots: &mut Slots) -> usize
+    requires { ⌜ Slotted (columnsOf (now lines) .arg) (now slots) pc ⌝ ∗ ⌜ Alone (columnsOf (now lines) .arg) pc ⌝ }
+    ensures { λ r. ⌜ r ≡ topBy more pc (viewOf (columnsOf (now (lines .entry)) .arg) (now (slots .entry)) .lows) top ⌝ ∗ ⌜ viewOf (columnsOf (now (lines .entry)) .arg) (now (slots .exit)) ≡ leftIn more pc (viewOf (columnsOf (now (lines .entry)) .arg) (now (slots .entry))) ⌝ }
 {
     if more == 0 {
-        return low_at(slots, arg, pc);
+        return low_at(slots, lines, pc);
     }
-    put_left(slots, arg, pc, more);
+    put_left(slots, lines, pc, more);
     top
 }
 
 // The slot of the value with which a frame's choice goes on: an or's own, and of a not that of what waits behind it.
-pub fn slot_of(o: u8, j: usize, from: &[u16; ENTRIES]) -> usize
+pub fn slot_of(o: u16, j: usize, lines: &Lines) -> usize
     requires { ⌜ j < entries ⌝ }
-    ensures { λ r. ⌜ r ≡ slotBy o j (now (from .entry)) ⌝ }
+    ensures { λ r. ⌜ r ≡ slotBy o j (columnsOf (now (lines .entry)) .from) ⌝ }
 {
     if o == 15 {
         return j;
     }
-    wide(from[j])
+    from_at(lines, j)
 }

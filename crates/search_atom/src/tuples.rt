@@ -1,6 +1,6 @@
 // A tuple's parts: the first is next, the others wait in slots.
+use tables::line::Lines;
 use tables::slot::Held;
-use tables::slot::Numbers;
 use tables::slot::Slots;
 use tables::slot::put_held;
 use value_places::places::count_at;
@@ -8,13 +8,14 @@ use value_places::places::element;
 use value_places::places::whole;
 ghost use mathlib.Core.Path.{_≡_};
 ghost use Prim.Native.Nat.{_+_, _-_, _<_, _≤_};
+ghost use Rattle.tables.specs.Line.{columnsOf};
 ghost use Rattle.tables.specs.Slot.{viewOf, Slotted, Alone, putHeld};
 ghost use Rattle.value_places.specs.Places.{countAt, elementAt, Target, Tag};
 ghost use Rattle.value_places.specs.Tables.{Places};
 ghost use Rattle.search_atom.specs.Leaves.{isWide, partHeld, partsIn, Parts};
 
 // How many parts wait at an instruction: of two to four parts, all but the first.
-pub fn later(o: u8) -> usize
+pub fn later(o: u16) -> usize
     requires { ⌜ 10 < o ⌝ }
     ensures { λ r. ⌜ r ≡ o - 10 ⌝ }
 {
@@ -39,15 +40,15 @@ fn put_part(
     at: usize,
     i: u32,
     pc: usize,
-    arg: &Numbers,
+    lines: &Lines,
     slots: &mut Slots,
 )
-    requires { ⌜ Target (now s) ⌝ ∗ ⌜ Places (now s) (now base) (now places) ⌝ ∗ ⌜ Tag (now s) at × (i < countAt (now s) at) ⌝ ∗ ⌜ Slotted (now arg) (now slots) pc ⌝ ∗ ⌜ Alone (now arg) pc ⌝ }
-    ensures { λ r. ⌜ viewOf (now (arg .entry)) (now (slots .exit)) ≡ putHeld pc (partHeld (now (s .entry)) at i) (viewOf (now (arg .entry)) (now (slots .entry))) ⌝ }
+    requires { ⌜ Target (now s) ⌝ ∗ ⌜ Places (now s) (now base) (now places) ⌝ ∗ ⌜ Tag (now s) at × (i < countAt (now s) at) ⌝ ∗ ⌜ Slotted (columnsOf (now lines) .arg) (now slots) pc ⌝ ∗ ⌜ Alone (columnsOf (now lines) .arg) pc ⌝ }
+    ensures { λ r. ⌜ viewOf (columnsOf (now (lines .entry)) .arg) (now (slots .exit)) ≡ putHeld pc (partHeld (now (s .entry)) at i) (viewOf (columnsOf (now (lines .entry)) .arg) (now (slots .entry))) ⌝ }
 {
     let e = element(s, base, places, at, i);
     let m = whole(s, e);
-    put_held(slots, arg, pc, Held { at: e, marks: m });
+    put_held(slots, lines, pc, Held { at: e, marks: m });
 }
 
 // The n parts after the first, one to three, wait at the lines from one on.
@@ -58,19 +59,19 @@ pub fn keep(
     at: usize,
     from: usize,
     n: usize,
-    arg: &Numbers,
+    lines: &Lines,
     slots: &mut Slots,
 )
-    requires { ⌜ Target (now s) ⌝ ∗ ⌜ Places (now s) (now base) (now places) ⌝ ∗ ⌜ Tag (now s) at ⌝ ∗ ⌜ (n < countAt (now s) at) × (0 < n) × (n < 4) ⌝ ∗ ⌜ Parts (now arg) (now slots) from n ⌝ }
-    ensures { λ r. ⌜ viewOf (now (arg .entry)) (now (slots .exit)) ≡ partsIn (now (s .entry)) at from n (viewOf (now (arg .entry)) (now (slots .entry))) ⌝ }
+    requires { ⌜ Target (now s) ⌝ ∗ ⌜ Places (now s) (now base) (now places) ⌝ ∗ ⌜ Tag (now s) at ⌝ ∗ ⌜ (n < countAt (now s) at) × (0 < n) × (n < 4) ⌝ ∗ ⌜ Parts (columnsOf (now lines) .arg) (now slots) from n ⌝ }
+    ensures { λ r. ⌜ viewOf (columnsOf (now (lines .entry)) .arg) (now (slots .exit)) ≡ partsIn (now (s .entry)) at from n (viewOf (columnsOf (now (lines .entry)) .arg) (now (slots .entry))) ⌝ }
 {
-    put_part(s, base, places, at, 1, from, arg, slots);
+    put_part(s, base, places, at, 1, from, lines, slots);
     if n < 2 {
         return;
     }
-    put_part(s, base, places, at, 2, from + 1, arg, slots);
+    put_part(s, base, places, at, 2, from + 1, lines, slots);
     if n < 3 {
         return;
     }
-    put_part(s, base, places, at, 3, from + 2, arg, slots);
+    put_part(s, base, places, at, 3, from + 2, lines, slots);
 }

@@ -1,5 +1,5 @@
 -- The laws that the next choice of the last open frame asks for. Assumes nothing.
-use mathlib.Core.Path.{_≡_, ap, _∙_}
+use mathlib.Core.Path.{_≡_, refl, sym, ap, _∙_}
 use mathlib.Core.Bool.{Bool, true, false}
 use mathlib.Core.List.{List}
 use Prim.Native.Nat.{ℕ, _+_, _-_, _*_, _^_, _<_, _≤_}
@@ -21,7 +21,7 @@ use Rattle.value_places.proofs.Held.{marks-count, held-64}
 use Rattle.search_atom.specs.Leaves.{when, topBy, nowLeft, leftIn, longerOf, slotBy}
 use Rattle.search_atom.proofs.Laws.{when-eq, when-ne, when-lt, when-le}
 use Rattle.search_step.specs.declared.State.{State}
-use Rattle.search_step.specs.Steps.{turned, moved, topped}
+use Rattle.search_step.specs.Steps.{Turned, turned, moved, lived, topped}
 use Rattle.search_step.proofs.Laws.{low-there, cases}
 use Rattle.search_choice.specs.Choices.{topLeft, joinOf, joinBy, consOf, consBy, resumedBy, resumedAt, resumeOf, choiceOf, pickOf, Joins, Conses, Named, Picks, PicksIf}
 
@@ -110,13 +110,13 @@ module _ (op : List ℕ) (s : List ℤ) (top : ℕ) (ats wholes lefts : List ℕ
   pub pick-place : top - 1 < entries
   pick-place = (p .frame n) .place
 
-  pub pick-join : getD op (top - 1) 0 ≡ 10 → Joins wholes lefts (top - 1)
-  pick-join e =
+  pub pick-join : (o : ℕ) → o ≡ getD op (top - 1) 0 → o ≡ 10 → Joins wholes lefts (top - 1)
+  pick-join o i e =
       let f = p .frame n in
-      record { place = f .place; within = f .within e; word = held-64 s (getD ats (top - 1) 0) (getD wholes (top - 1) 0) g (f .held (omega arith)) }
+      record { place = f .place; within = f .within (sym i ∙ e); word = held-64 s (getD ats (top - 1) 0) (getD wholes (top - 1) 0) g (f .held (omega arith)) }
 
-  pub pick-cons : getD op (top - 1) 0 ≤ 9 → Conses s ats lefts (top - 1)
-  pick-cons e = let f = p .frame n in record { place = f .place; tag = f .held (omega arith) .tag; some = f .some (omega arith); there = f .there (omega arith) }
+  pub pick-cons : (o : ℕ) → o ≡ getD op (top - 1) 0 → o ≤ 9 → Conses s ats lefts (top - 1)
+  pick-cons o i e = let f = p .frame n in record { place = f .place; tag = f .held (omega arith) .tag; some = f .some (omega arith); there = f .there (omega arith) }
 
   pub pick-slot : (from arg t : List ℕ) → Named op from arg t → Slotted arg t (top - 1)
   pick-slot from arg t h = record { place = pick-place; slot = h .slot (top - 1); long = h .long }
@@ -127,27 +127,33 @@ module _ (op : List ℕ) (s : List ℤ) (top : ℕ) (ats wholes lefts : List ℕ
   pub pick-alone : (from arg t : List ℕ) → Named op from arg t → Alone arg (top - 1)
   pick-alone from arg t h = let f = p .frame n in h .alone (top - 1) (f .place) (f .splits) (f .chooses)
 
-module _ (op from to : List ℕ) (s : List ℤ) (x y : State) (n : x .top ≡ 0 → ⊥) (t u : Tables) where
-  pub picked-join : 9 < getD op (x .top - 1) 0 → getD op (x .top - 1) 0 ≡ 10 → turned y u ≡ joinOf (x .top - 1) x t → turned y u ≡ pickOf op from to s x t
-  unfolding pickOf choiceOf
-  picked-join h z e = when-ne _ _ _ (x .top) 0 n (when-lt _ _ _ 9 (getD op (x .top - 1) 0) h (when-eq _ _ _ (getD op (x .top - 1) 0) 10 z e))
+-- By the instruction o of the frame's line.
+module _ (op from to : List ℕ) (s : List ℤ) (x y : State) (n : x .top ≡ 0 → ⊥) (o : ℕ) (i : o ≡ getD op (x .top - 1) 0) (t : Tables) where
+  by-op : (z : Turned) → z ≡ choiceOf o (x .top - 1) from to s x t → z ≡ pickOf op from to s x t
+  unfolding pickOf
+  by-op z e = when-ne _ _ _ (x .top) 0 n (e ∙ ap (λ (k : ℕ). choiceOf k (x .top - 1) from to s x t) i)
 
-  pub picked-cons : getD op (x .top - 1) 0 ≤ 9 → turned y u ≡ consOf s (x .top - 1) x t → turned y u ≡ pickOf op from to s x t
-  unfolding pickOf choiceOf
-  picked-cons h e = when-ne _ _ _ (x .top) 0 n (when-le _ _ _ 9 (getD op (x .top - 1) 0) h e)
+  pub picked-join : (u : Tables) → 9 < o → o ≡ 10 → turned y u ≡ joinOf (x .top - 1) x t → turned y u ≡ pickOf op from to s x t
+  unfolding choiceOf
+  picked-join u h z e = by-op _ (when-lt _ _ _ 9 o h (when-eq _ _ _ o 10 z e))
 
-pub picked-other : (op from to : List ℕ) (s : List ℤ) (x y : State) (n : x .top ≡ 0 → ⊥) (t : Tables)
-    → 9 < getD op (x .top - 1) 0 → (getD op (x .top - 1) 0 ≡ 10 → ⊥) → y ≡ resumedAt (getD op (x .top - 1) 0) (x .top - 1) from to (t .ats) (t .lows) (t .backs) x
-    → turned y t ≡ pickOf op from to s x t
-unfolding pickOf choiceOf resumeOf
-picked-other op from to s x y n t h z e =
-    when-ne _ _ _ (x .top) 0 n (when-lt _ _ _ 9 (getD op (x .top - 1) 0) h (when-ne _ _ _ (getD op (x .top - 1) 0) 10 z (rw e)))
+  pub picked-cons : (u : Tables) → o ≤ 9 → turned y u ≡ consOf s (x .top - 1) x t → turned y u ≡ pickOf op from to s x t
+  unfolding choiceOf
+  picked-cons u h e = by-op _ (when-le _ _ _ 9 o h e)
+
+  pub picked-other : 9 < o → (o ≡ 10 → ⊥) → y ≡ resumedAt o (x .top - 1) from to (t .ats) (t .lows) (t .backs) x → turned y t ≡ pickOf op from to s x t
+  unfolding choiceOf resumeOf
+  picked-other h z e = by-op _ (when-lt _ _ _ 9 o h (when-ne _ _ _ o 10 z (rw e)))
+
+pub pick-none : (op from to : List ℕ) (s : List ℤ) (x : State) (t : Tables) → x .top ≡ 0 → turned (lived x 0) t ≡ pickOf op from to s x t
+unfolding pickOf
+pick-none op from to s x t z = when-eq _ _ _ (x .top) 0 z refl
 
 pub ruleset cons-rules = (cons-there, cons-64, cons-at, cons-some, cons-tag, long-back, cons-is, needs)
 
 pub ruleset join-rules = (join-within, join-word, long-back, join-is, needs)
 
-pub ruleset pick-rules = (pick-place, pick-join, pick-cons, pick-slot, pick-next, pick-alone, picked-join, picked-cons, picked-other, cases)
+pub ruleset pick-rules = (pick-none, pick-place, pick-join, pick-cons, pick-slot, pick-next, pick-alone, picked-join, picked-cons, picked-other, cases)
 
 pub settle-picks : (live : ℕ) (op : List ℕ) (s : List ℤ) (top : ℕ) (ats wholes lefts : List ℕ) → PicksIf live op s top ats wholes lefts → live ≡ 2
     → Picks op s top ats wholes lefts

@@ -7,7 +7,7 @@ use native.Mathlib.Omega.{arith}
 use borrow.Author.Needs.{needs}
 use borrow.Author.Tests.{eqb-true}
 use lib.ListN.{length, getD, set}
-use lib.IntN.{ℤ}
+use lib.IntN.{ℤ, pos}
 use lib.Count.{trailingZeros}
 use lib.Pow.{pow-mono}
 use Rattle.words.specs.Words.{entries}
@@ -20,11 +20,11 @@ use Rattle.value_places.specs.Places.{Target, Tag, countAt, marksAt, elementAt}
 use Rattle.value_places.specs.Held.{Held, wholeAt}
 use Rattle.value_places.proofs.Elements.{element-tag}
 use Rattle.value_places.proofs.Held.{marks-count}
-use Rattle.search_atom.specs.Leaves.{when, noneOf, opensOf, isWide, partMarks, partsIn, Parts}
+use Rattle.search_atom.specs.Leaves.{when, passesOf, noneOf, opensOf, isWide, partMarks, partsIn, Parts}
 use Rattle.search_atom.proofs.Laws.{when-eq, when-ne, when-lt, when-le, when-true, when-false, flag-false}
 use Rattle.search_step.specs.declared.State.{State}
-use Rattle.search_step.specs.Steps.{turned, counted, moved, lived, topped, dropped, pushed, pushedIn, splitOf, headOf, headBy, headIn}
-use Rattle.search_step.specs.Steps.{apartAt, apartAts, apartBacks, apartOf, keptAt, keptIn, framedAt, framedIn, cutTo, sidesOf, divideOf, Owns, Steps, Divides, Aparts, Sides}
+use Rattle.search_step.specs.Steps.{Turned, turned, counted, moved, lived, topped, dropped, pushed, pushedIn, splitOf, headOf, headBy, headIn}
+use Rattle.search_step.specs.Steps.{apartAt, apartAts, apartBacks, apartOf, keptAt, keptIn, framedAt, framedIn, cutTo, sidesOf, divideOf, stepBy, stepOf, Owns, Steps, Divides, Aparts, Sides}
 
 pub turned-at : (r r′ : State) (t : Tables) → r ≡ r′ → turned r t ≡ turned r′ t
 turned-at r r′ t e = ap (λ x. turned x t) e
@@ -237,12 +237,35 @@ module _ (s : List ℤ) (o : ℕ) (from arg slots : List ℕ) (x : State) (d : D
 
 pub ruleset divide-rules = (divide-apart, divide-sides, divide-head, divide-split, apart-asks, sides-asks, divide-slot, divide-alone, cases)
 
-module _ (s : List ℤ) (op from arg slots : List ℕ) (x : State) (h : Steps s op from arg slots x) where
-  pub step-divides : 7 < getD op (x .pc) 0 → Divides s (getD op (x .pc) 0) from arg slots (counted x)
+module _ (s : List ℤ) (op from arg : List ℕ) (con : List ℤ) (slots : List ℕ) (x : State) (h : Steps s op from arg con slots x) where
+  pub step-divides : (o : ℕ) → o ≡ getD op (x .pc) 0 → 7 < o → Divides s o from arg slots (counted x)
   unfolding counted
-  step-divides l = record { above = l; place = h .place; next = h .next; held = h .held; owns = h .owns }
+  step-divides o e l = record { above = l; place = h .place; next = h .next; held = h .held; owns = rw e (h .owns) }
 
   pub step-next : Slotted arg slots (getD from (x .pc) 0)
   step-next = own-slot (getD op (x .pc) 0) arg slots (x .pc) (h .owns) (getD from (x .pc) 0) (h .next)
 
-pub ruleset step-rules = (step-divides, step-next, cases)
+-- By the instruction o of the line.
+module _ (op from to : List ℕ) (con s : List ℤ) (q : Bool) (x : State) (o : ℕ) (e : o ≡ getD op (x .pc) 0) where
+  by-op : (z : Turned) (t : Tables) → z ≡ stepBy o from to con s q (counted x) t → z ≡ stepOf op from to con s q x t
+  unfolding stepOf
+  by-op z t p = p ∙ ap (λ (k : ℕ). stepBy k from to con s q (counted x) t) e
+
+  pub step-strip : (t : Tables) → o ≡ 1 → turned (moved (counted x) (x .pc + 1) (x .at) (x .marks)) t ≡ stepOf op from to con s q x t
+  unfolding stepBy counted
+  step-strip t z = by-op _ t (when-eq _ _ _ o 1 z refl)
+
+  pub step-divided : (r : State) (t u : Tables) → (o ≡ 1 → ⊥) → 7 < o → turned r u ≡ divideOf s o from (counted x) t → turned r u ≡ stepOf op from to con s q x t
+  unfolding stepBy
+  step-divided r t u n l p = by-op _ t (when-ne _ _ _ o 1 n (when-lt _ _ _ 7 o l p))
+
+  module _ (n : o ≡ 1 → ⊥) (l : o ≤ 7) (b : Bool) (k : b ≡ passesOf o q s (x .at) (x .marks) (getD con (x .pc) (pos 0))) where
+    pub step-dropped : (r : State) (t : Tables) → b ≡ true → r ≡ dropped from to (t .ats) (t .backs) (counted x) → turned r t ≡ stepOf op from to con s q x t
+    unfolding stepBy counted
+    step-dropped r t j p = by-op _ t (when-ne _ _ _ o 1 n (when-le _ _ _ 7 o l (when-true _ _ _ b _ k j (rw p))))
+
+    pub step-fails : (t : Tables) → b ≡ false → turned (lived (counted x) 2) t ≡ stepOf op from to con s q x t
+    unfolding stepBy counted
+    step-fails t j = by-op _ t (when-ne _ _ _ o 1 n (when-le _ _ _ 7 o l (when-false _ _ _ b _ k j refl)))
+
+pub ruleset step-rules = (step-divides, step-next, step-strip, step-divided, step-dropped, step-fails, needs)

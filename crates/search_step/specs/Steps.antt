@@ -142,8 +142,9 @@ pub record Owns (o : ℕ) (arg slots : List ℕ) (pc : ℕ) : Type 0 where
   pub parts : 10 < o → o < 14 → (k : ℕ) → k < o - 10 → Alone arg (pc + k)
 
 -- The line is there, and that of the next value; the step can be counted; the value's tag has a word after it.
-pub record Steps (s : List ℤ) (op from arg slots : List ℕ) (x : State) : Type 0 where
+pub record Steps (s : List ℤ) (op from arg : List ℕ) (con : List ℤ) (slots : List ℕ) (x : State) : Type 0 where
   pub place : x .pc < entries
+  pub constant : x .pc < length con
   pub next : getD from (x .pc) 0 < entries
   pub held : Held s (x .at) (x .marks)
   pub word : x .at + 1 < length s

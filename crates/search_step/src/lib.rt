@@ -7,16 +7,17 @@ use search_atom::passes;
 use search_atom::tuples::is_wide;
 use search_atom::tuples::keep;
 use search_atom::tuples::later;
+use tables::line::Lines;
+use tables::line::from_at;
+use tables::line::op_at;
+use tables::line::to_at;
 use tables::slot::Frame;
-use tables::slot::Numbers;
 use tables::slot::Slots;
 use tables::slot::held_at;
 use tables::slot::put_back;
 use tables::slot::put_frame;
 use value_places::places::element;
 use value_places::places::whole;
-use value_places::places::wide;
-use words::ENTRIES;
 use words::marks::lowest;
 use words::marks::one;
 use words::marks::rest;
@@ -24,6 +25,7 @@ ghost use mathlib.Core.Path.{_≡_};
 ghost use Prim.Native.Nat.{_-_, _<_};
 ghost use lib.ListN.{getD};
 ghost use Rattle.words.specs.Words.{entries};
+ghost use Rattle.tables.specs.Line.{columnsOf};
 ghost use Rattle.tables.specs.Slot.{viewOf, Slotted, Alone};
 ghost use Rattle.value_places.specs.Places.{Target};
 ghost use Rattle.value_places.specs.Tables.{Places};
@@ -45,20 +47,14 @@ pub struct State {
 
 impl State {
     // The atom is dropped: the next one in prefix order, whose value waits in a slot.
-    fn drop(
-        mut self,
-        from: &[u16; ENTRIES],
-        to: &[u16; ENTRIES],
-        arg: &Numbers,
-        slots: &Slots,
-    ) -> State
-        requires { ⌜ self .pc < entries ⌝ ∗ ⌜ Slotted (now arg) (now slots) (getD (now from) (self .pc) 0) ⌝ }
-        ensures { λ r. ⌜ r ≡ dropped (now (from .entry)) (now (to .entry)) ((viewOf (now (arg .entry)) (now (slots .entry))) .ats) ((viewOf (now (arg .entry)) (now (slots .entry))) .backs) self ⌝ }
+    fn drop(mut self, lines: &Lines, slots: &Slots) -> State
+        requires { ⌜ self .pc < entries ⌝ ∗ ⌜ Slotted (columnsOf (now lines) .arg) (now slots) (getD (columnsOf (now lines) .from) (self .pc) 0) ⌝ }
+        ensures { λ r. ⌜ r ≡ dropped (columnsOf (now (lines .entry)) .from) (columnsOf (now (lines .entry)) .to) ((viewOf (columnsOf (now (lines .entry)) .arg) (now (slots .entry))) .ats) ((viewOf (columnsOf (now (lines .entry)) .arg) (now (slots .entry))) .backs) self ⌝ }
     {
         let pc = self.pc;
-        let f = wide(from[pc]);
-        let h = held_at(slots, arg, f);
-        self.pc = wide(to[pc]);
+        let f = from_at(lines, pc);
+        let h = held_at(slots, lines, f);
+        self.pc = to_at(lines, pc);
         self.at = h.at;
         self.marks = h.marks;
         self.live = 1;
@@ -66,9 +62,9 @@ impl State {
     }
 
     // A frame is opened at pc.
-    fn push(mut self, choices: u64, arg: &Numbers, slots: &mut Slots) -> State
-        requires { ⌜ Slotted (now arg) (now slots) (self .pc) ⌝ ∗ ⌜ Alone (now arg) (self .pc) ⌝ }
-        ensures { λ r. ⌜ r ≡ pushed self ⌝ ∗ ⌜ (viewOf (now (arg .entry)) (now (slots .exit))) ≡ pushedIn choices self (viewOf (now (arg .entry)) (now (slots .entry))) ⌝ }
+    fn push(mut self, choices: u64, lines: &Lines, slots: &mut Slots) -> State
+        requires { ⌜ Slotted (columnsOf (now lines) .arg) (now slots) (self .pc) ⌝ ∗ ⌜ Alone (columnsOf (now lines) .arg) (self .pc) ⌝ }
+        ensures { λ r. ⌜ r ≡ pushed self ⌝ ∗ ⌜ (viewOf (columnsOf (now (lines .entry)) .arg) (now (slots .exit))) ≡ pushedIn choices self (viewOf (columnsOf (now (lines .entry)) .arg) (now (slots .entry))) ⌝ }
     {
         let pc = self.pc;
         let top = self.top;
@@ -77,16 +73,16 @@ impl State {
             whole: self.marks,
             left: choices,
         };
-        put_frame(slots, arg, pc, f, top);
+        put_frame(slots, lines, pc, f, top);
         self.top = pc + 1;
         self.live = 2;
         self
     }
 
     // A cons or a join: the frame is opened, unless there is no choice.
-    fn split(mut self, o: u8, arg: &Numbers, slots: &mut Slots) -> State
-        requires { ⌜ Slotted (now arg) (now slots) (self .pc) ⌝ ∗ ⌜ Alone (now arg) (self .pc) ⌝ }
-        ensures { λ r. ⌜ turned r (viewOf (now (arg .entry)) (now (slots .exit))) ≡ splitOf o self (viewOf (now (arg .entry)) (now (slots .entry))) ⌝ }
+    fn split(mut self, o: u16, lines: &Lines, slots: &mut Slots) -> State
+        requires { ⌜ Slotted (columnsOf (now lines) .arg) (now slots) (self .pc) ⌝ ∗ ⌜ Alone (columnsOf (now lines) .arg) (self .pc) ⌝ }
+        ensures { λ r. ⌜ turned r (viewOf (columnsOf (now (lines .entry)) .arg) (now (slots .exit))) ≡ splitOf o self (viewOf (columnsOf (now (lines .entry)) .arg) (now (slots .entry))) ⌝ }
     {
         let m = self.marks;
         let no = nothing(o, m);
@@ -95,7 +91,7 @@ impl State {
             return self;
         }
         let c = opens(o, m);
-        self.push(c, arg, slots)
+        self.push(c, lines, slots)
     }
 
     // A list's cons: its one choice is taken at once, and the frame is left as one that is no longer open.
@@ -104,11 +100,11 @@ impl State {
         s: &[i32],
         base: &[u16; 512],
         places: &[u16; 512],
-        arg: &Numbers,
+        lines: &Lines,
         slots: &mut Slots,
     ) -> State
-        requires { ⌜ Target (now s) ⌝ ∗ ⌜ Places (now s) (now base) (now places) ⌝ ∗ ⌜ Held (now s) (self .at) (self .marks) ⌝ ∗ ⌜ Slotted (now arg) (now slots) (self .pc) ⌝ ∗ ⌜ Alone (now arg) (self .pc) ⌝ }
-        ensures { λ r. ⌜ turned r (viewOf (now (arg .entry)) (now (slots .exit))) ≡ headOf (now (s .entry)) self (viewOf (now (arg .entry)) (now (slots .entry))) ⌝ }
+        requires { ⌜ Target (now s) ⌝ ∗ ⌜ Places (now s) (now base) (now places) ⌝ ∗ ⌜ Held (now s) (self .at) (self .marks) ⌝ ∗ ⌜ Slotted (columnsOf (now lines) .arg) (now slots) (self .pc) ⌝ ∗ ⌜ Alone (columnsOf (now lines) .arg) (self .pc) ⌝ }
+        ensures { λ r. ⌜ turned r (viewOf (columnsOf (now (lines .entry)) .arg) (now (slots .exit))) ≡ headOf (now (s .entry)) self (viewOf (columnsOf (now (lines .entry)) .arg) (now (slots .entry))) ⌝ }
     {
         let m = self.marks;
         if m == 0 {
@@ -123,8 +119,8 @@ impl State {
             whole: m,
             left: one(k),
         };
-        put_frame(slots, arg, pc, f, self.top);
-        put_back(slots, arg, pc, rest(m));
+        put_frame(slots, lines, pc, f, self.top);
+        put_back(slots, lines, pc, rest(m));
         let e = element(s, base, places, at, k);
         self.pc = pc + 1;
         self.at = e;
@@ -136,22 +132,22 @@ impl State {
     // A tuple: the first part is next, the others wait.
     fn apart(
         mut self,
-        o: u8,
+        o: u16,
         s: &[i32],
         base: &[u16; 512],
         places: &[u16; 512],
-        arg: &Numbers,
+        lines: &Lines,
         slots: &mut Slots,
     ) -> State
-        requires { ⌜ Target (now s) ⌝ ∗ ⌜ Places (now s) (now base) (now places) ⌝ ∗ ⌜ Aparts (now s) o (now arg) (now slots) self ⌝ }
-        ensures { λ r. ⌜ turned r (viewOf (now (arg .entry)) (now (slots .exit))) ≡ apartOf (now (s .entry)) (o - 10) self (viewOf (now (arg .entry)) (now (slots .entry))) ⌝ }
+        requires { ⌜ Target (now s) ⌝ ∗ ⌜ Places (now s) (now base) (now places) ⌝ ∗ ⌜ Aparts (now s) o (columnsOf (now lines) .arg) (now slots) self ⌝ }
+        ensures { λ r. ⌜ turned r (viewOf (columnsOf (now (lines .entry)) .arg) (now (slots .exit))) ≡ apartOf (now (s .entry)) (o - 10) self (viewOf (columnsOf (now (lines .entry)) .arg) (now (slots .entry))) ⌝ }
     {
         let n = later(o);
         let at = self.at;
         let fits = is_wide(s, at, n);
         if fits {
             let from = self.pc;
-            keep(s, base, places, at, from, n, arg, slots);
+            keep(s, base, places, at, from, n, lines, slots);
             let first = element(s, base, places, at, 0);
             self.pc = from + n;
             self.at = first;
@@ -166,27 +162,26 @@ impl State {
     // A cons, a join, a tuple; and, or, not.
     fn divide(
         self,
-        o: u8,
+        o: u16,
         s: &[i32],
         base: &[u16; 512],
         places: &[u16; 512],
-        from: &[u16; ENTRIES],
-        arg: &Numbers,
+        lines: &Lines,
         slots: &mut Slots,
     ) -> State
-        requires { ⌜ Target (now s) ⌝ ∗ ⌜ Places (now s) (now base) (now places) ⌝ ∗ ⌜ Divides (now s) o (now from) (now arg) (now slots) self ⌝ }
-        ensures { λ r. ⌜ turned r (viewOf (now (arg .entry)) (now (slots .exit))) ≡ divideOf (now (s .entry)) o (now (from .entry)) self (viewOf (now (arg .entry)) (now (slots .entry))) ⌝ }
+        requires { ⌜ Target (now s) ⌝ ∗ ⌜ Places (now s) (now base) (now places) ⌝ ∗ ⌜ Divides (now s) o (columnsOf (now lines) .from) (columnsOf (now lines) .arg) (now slots) self ⌝ }
+        ensures { λ r. ⌜ turned r (viewOf (columnsOf (now (lines .entry)) .arg) (now (slots .exit))) ≡ divideOf (now (s .entry)) o (columnsOf (now (lines .entry)) .from) self (viewOf (columnsOf (now (lines .entry)) .arg) (now (slots .entry))) ⌝ }
     {
         if 10 < o {
             if o < 14 {
-                return self.apart(o, s, base, places, arg, slots);
+                return self.apart(o, s, base, places, lines, slots);
             }
-            return self.sides(o, from, arg, slots);
+            return self.sides(o, lines, slots);
         }
         if o == 8 {
-            return self.head(s, base, places, arg, slots);
+            return self.head(s, base, places, lines, slots);
         }
-        self.split(o, arg, slots)
+        self.split(o, lines, slots)
     }
 
     // Takes up a state that has an atom left; q: what the atom's tag 3 asks is equal.
@@ -196,18 +191,14 @@ impl State {
         s: &[i32],
         base: &[u16; 512],
         places: &[u16; 512],
-        op: &[u8; ENTRIES],
-        from: &[u16; ENTRIES],
-        to: &[u16; ENTRIES],
-        con: &[i32; ENTRIES],
-        arg: &Numbers,
+        lines: &Lines,
         slots: &mut Slots,
     ) -> State
-        requires { ⌜ Target (now s) ⌝ ∗ ⌜ Places (now s) (now base) (now places) ⌝ ∗ ⌜ Steps (now s) (now op) (now from) (now arg) (now slots) self ⌝ }
-        ensures { λ r. ⌜ turned r (viewOf (now (arg .entry)) (now (slots .exit))) ≡ stepOf (now (op .entry)) (now (from .entry)) (now (to .entry)) (now (con .entry)) (now (s .entry)) q self (viewOf (now (arg .entry)) (now (slots .entry))) ⌝ }
+        requires { ⌜ Target (now s) ⌝ ∗ ⌜ Places (now s) (now base) (now places) ⌝ ∗ ⌜ Steps (now s) (columnsOf (now lines) .op) (columnsOf (now lines) .from) (columnsOf (now lines) .arg) (columnsOf (now lines) .con) (now slots) self ⌝ }
+        ensures { λ r. ⌜ turned r (viewOf (columnsOf (now (lines .entry)) .arg) (now (slots .exit))) ≡ stepOf (columnsOf (now (lines .entry)) .op) (columnsOf (now (lines .entry)) .from) (columnsOf (now (lines .entry)) .to) (columnsOf (now (lines .entry)) .con) (now (s .entry)) q self (viewOf (columnsOf (now (lines .entry)) .arg) (now (slots .entry))) ⌝ }
     {
         let pc = self.pc;
-        let o = op[pc];
+        let o = op_at(lines, pc);
         self.steps = self.steps + 1;
         if o == 1 {
             self.pc = pc + 1;
@@ -215,13 +206,13 @@ impl State {
             return self;
         }
         if 7 < o {
-            return self.divide(o, s, base, places, from, arg, slots);
+            return self.divide(o, s, base, places, lines, slots);
         }
         let at = self.at;
         let m = self.marks;
-        let ok = passes(o, q, s, at, m, con, pc);
+        let ok = passes(o, q, s, at, m, lines, pc);
         if ok {
-            return self.drop(from, to, arg, slots);
+            return self.drop(lines, slots);
         }
         self.live = 2;
         self

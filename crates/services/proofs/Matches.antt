@@ -4,8 +4,8 @@ use native.Mathlib.Omega.{arith}
 use mathlib.Core.Path.{_≡_, refl, sym, ap, _∙_}
 use mathlib.Core.Bool.{true, false}
 use mathlib.Core.List.{List}
-use lib.ListN.{length, replicate}
-use lib.IntN.{ℤ, pos}
+use lib.ListN.{length}
+use lib.IntN.{ℤ}
 use Rattle.rules.specs.Forms.{Matcher, Value}
 use Rattle.rules.specs.Reading.{Verdict, ok, fault, readMatcher}
 use Rattle.rules.specs.Services.{Judged, accepted, refused, test, Rule, ruleOf, targetOf, causeIn, turnedAway, matchTarget, matchRule, matchIn, match, matchWith}
@@ -14,13 +14,14 @@ use Rattle.rules.specs.Services as paper
 use Rattle.forms.specs.Faults.{rule-accepted, Sane, sane-exactly}
 use Rattle.words.specs.Words.{entries}
 use Rattle.program_rules.specs.Accepted.{matcher-short, pattern-short}
-use Rattle.program_rules.specs.Lines.{columns, linesOf, laid}
-use Rattle.program_rules.specs.Link.{opsIn, bindingsIn, tosBy, placed}
+use Rattle.tables.specs.Line.{columnsOf, noLines}
+use Rattle.program_rules.specs.Lines.{linesOf, laid}
+use Rattle.program_rules.specs.Link.{opsIn, bindingsIn, linkedIn}
 use Rattle.program_rules.specs.Slots.{numbered}
 use Rattle.program_rules.specs.Columns.{Holds, compiled-zeros}
 use Rattle.value_places.specs.Places.{Target}
 use Rattle.value_rows.specs.Row.{formBy}
-use Rattle.search.specs.Run.{env}
+use Rattle.search.specs.Run.{envOf}
 use Rattle.search.specs.Valid.{Fine}
 use Rattle.search.specs.Searched.{Searched}
 use Rattle.search.proofs.Accepted.{accepted-target, accepted-some, accepted-fine, accepted-match}
@@ -108,17 +109,18 @@ pub ready-some : (ms ps ts : List ℤ) → Ready ms ps ts → 0 < length ts
 ready-some ms ps ts g = accepted-some ms ps ts (g .rule) (g .value) (ready-sane g)
 
 -- The compiled rule, in arrays that held zeros.
-module _ (ms ps ts : List ℤ) (n : ℕ) (op from to arg mat : List ℕ) (con : List ℤ) (form : Form) (g : Ready ms ps ts) (vars : n ≡ bindingsIn (opsIn op 0 (length (linesOf ms ps))))
-    (is : columns op from arg mat con ≡ numbered (length (linesOf ms ps)) (laid 0 (linesOf ms ps) (columns (replicate entries 0) (replicate entries 0) (replicate entries 0) (replicate entries 0) (replicate entries (pos 0)))))
-    (tos : to ≡ placed 0 (tosBy (opsIn op 0 (length (linesOf ms ps)))) (replicate entries 0)) where
-  holds : Holds ms (g .rule) n (columns op from arg mat con) to
-  holds = compiled-zeros ms ps (g .rule) (g .rule-is) n (columns op from arg mat con) to vars is tos
+module _ (ms ps ts : List ℤ) (n : ℕ) (none lines : List ℕ) (form : Form) (g : Ready ms ps ts) (zeros : none ≡ noLines)
+    (vars : n ≡ bindingsIn (opsIn (columnsOf lines .op) 0 (length (linesOf ms ps))))
+    (is : columnsOf lines ≡ linkedIn (length (linesOf ms ps)) (numbered (length (linesOf ms ps)) (laid 0 (linesOf ms ps) (columnsOf none)))) where
+  holds : Holds ms (g .rule) n (columnsOf lines)
+  holds = compiled-zeros ms ps (g .rule) (g .rule-is) n (columnsOf lines) vars
+      (is ∙ ap (λ k. linkedIn (length (linesOf ms ps)) (numbered (length (linesOf ms ps)) (laid 0 (linesOf ms ps) (columnsOf k)))) zeros)
 
-  pub ready-fine : Fine (env op from to arg mat con ms ts n form)
-  ready-fine = accepted-fine ms ts (g .rule) n op from to arg mat con form holds
+  pub ready-fine : Fine (envOf (columnsOf lines) ms ts n form)
+  ready-fine = accepted-fine ms ts (g .rule) n (columnsOf lines) form holds
 
-  pub ready-match : (budget : ℕ) (room : List ℤ) (out : paper.Matched) → Searched (env op from to arg mat con ms ts n form) budget room out → out ≡ matchIn form ms ps ts budget room
-  ready-match budget room out s = accepted-match ms ts (g .rule) n op from to arg mat con form holds ps (g .value) (ready-sane g) budget room out s
+  pub ready-match : (budget : ℕ) (room : List ℤ) (out : paper.Matched) → Searched (envOf (columnsOf lines) ms ts n form) budget room out → out ≡ matchIn form ms ps ts budget room
+  ready-match budget room out s = accepted-match ms ts (g .rule) n (columnsOf lines) form holds ps (g .value) (ready-sane g) budget room out s
 
 -- ---- The form that the caller picks.
 

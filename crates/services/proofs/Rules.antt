@@ -6,7 +6,7 @@ use mathlib.Core.Path.{_≡_, refl, sym, ap, _∙_}
 use mathlib.Core.Bool.{Bool, true, false, cond}
 use mathlib.Core.List.{List}
 use lib.Dec.{ltb, leb}
-use lib.ListN.{length, replicate}
+use lib.ListN.{length}
 use lib.IntN.{ℤ, pos, negsuc}
 use borrow.Author.Needs.{needs}
 use borrow.Author.Tests.{lt-ltb, le-ltb}
@@ -18,8 +18,9 @@ use Rattle.forms.specs.Tests.{leb-true, leb-false}
 use Rattle.words.specs.Words.{tagZ}
 use Rattle.words.specs.Words.{entries}
 use Rattle.program_rules.specs.Accepted.{matcher-short, pattern-short}
-use Rattle.program_rules.specs.Lines.{columns, linesOf, laid}
-use Rattle.program_rules.specs.Link.{tosBy, opsIn, bindingsIn, placed}
+use Rattle.tables.specs.Line.{Columns, columnsOf, noLines}
+use Rattle.program_rules.specs.Lines.{linesOf, laid}
+use Rattle.program_rules.specs.Link.{opsIn, bindingsIn, linkedIn}
 use Rattle.program_rules.specs.Slots.{numbered}
 use Rattle.program_rules.specs.Columns.{Holds, compiled-zeros}
 use Rattle.review_count.specs.Scan.{noneFrom}
@@ -168,52 +169,51 @@ rows-capped-by (pos n) r ops f g = go (decLe n 64)
 by-pattern : (cap : ℤ) (r : Rule) → Bool → paper.Reviewed
 by-pattern cap r b = elim b [ true ↦ declined 11 0 | false ↦ capped cap r ]
 
-module _ (ms ps : List ℤ) (op from arg mat : List ℕ) (con : List ℤ) (s : Sound (ruleOf ms ps))
-    (e : columns op from arg mat con ≡ numbered (length (linesOf ms ps)) (laid 0 (linesOf ms ps) (columns (replicate entries 0) (replicate entries 0) (replicate entries 0) (replicate entries 0) (replicate entries (pos 0))))) where
-  -- The numbers of the compiler that review does not use.
+module _ (ms ps : List ℤ) (T : Columns) (lines : List ℕ) (s : Sound (ruleOf ms ps)) (none : lines ≡ noLines)
+    (e : T ≡ linkedIn (length (linesOf ms ps)) (numbered (length (linesOf ms ps)) (laid 0 (linesOf ms ps) (columnsOf lines)))) where
+  -- The number of the compiler that review does not use.
   vars : ℕ
-  vars = bindingsIn (opsIn op 0 (length (linesOf ms ps)))
+  vars = bindingsIn (opsIn (T .op) 0 (length (linesOf ms ps)))
 
-  tos : List ℕ
-  tos = placed 0 (tosBy (opsIn op 0 (length (linesOf ms ps)))) (replicate entries 0)
-
-  held : Holds ms (sound-is s .0) vars (columns op from arg mat con) tos
-  unfolding vars tos
-  held = compiled-zeros ms ps (sound-is s .0) (sound-is s .1) vars (columns op from arg mat con) tos refl e refl
+  held : Holds ms (sound-is s .0) vars T
+  unfolding vars
+  held =
+      compiled-zeros ms ps (sound-is s .0) (sound-is s .1) vars T refl
+      (e ∙ ap (λ x. linkedIn (length (linesOf ms ps)) (numbered (length (linesOf ms ps)) (laid 0 (linesOf ms ps) (columnsOf x)))) none)
 
   rule-of : (cap : ℤ) → by-pattern cap (sound-is s .0) (alwaysTrue (sound-is s .0 .pattern)) ≡ reviewRule cap (ruleOf ms ps)
   unfolding reviewRule unlessAlwaysTrue by-pattern
   rule-of cap = ap (reviewRule cap) (sym (sound-is s .1))
 
-  told : (cap : ℤ) (b : Bool) → b ≡ noneFrom op 0 entries → by-pattern cap (sound-is s .0) b ≡ reviewRule cap (ruleOf ms ps)
-  told cap b q = ap (by-pattern cap (sound-is s .0)) (q ∙ plain-is ms ps (sound-is s .0) (sound-is s .1) vars (columns op from arg mat con) tos held) ∙ rule-of cap
+  told : (cap : ℤ) (b : Bool) → b ≡ noneFrom (T .op) 0 entries → by-pattern cap (sound-is s .0) b ≡ reviewRule cap (ruleOf ms ps)
+  told cap b q = ap (by-pattern cap (sound-is s .0)) (q ∙ plain-is ms ps (sound-is s .0) (sound-is s .1) vars T held) ∙ rule-of cap
 
-  pub always-given : (cap : ℤ) (b : Bool) → b ≡ noneFrom op 0 entries → b ≡ true → declined 11 0 ≡ reviewRule cap (ruleOf ms ps)
+  pub always-given : (cap : ℤ) (b : Bool) → b ≡ noneFrom (T .op) 0 entries → b ≡ true → declined 11 0 ≡ reviewRule cap (ruleOf ms ps)
   unfolding by-pattern
   always-given cap b q t = ap (by-pattern cap (sound-is s .0)) (sym t) ∙ told cap b q
 
-  pub counted-given : (z cap : ℤ) (b : Bool) (x : paper.Reviewed) → b ≡ noneFrom op 0 entries → b ≡ false → x ≡ countedBy z op → z ≡ cap → x ≡ reviewRule cap (ruleOf ms ps)
+  pub counted-given : (z cap : ℤ) (b : Bool) (x : paper.Reviewed) → b ≡ noneFrom (T .op) 0 entries → b ≡ false → x ≡ countedBy z (T .op) → z ≡ cap → x ≡ reviewRule cap (ruleOf ms ps)
   unfolding by-pattern
   counted-given z cap b x q t h k =
-      h ∙ ap (λ y. countedBy y op) k ∙ capped-by cap (sound-is s .0) op (λ m. counted-is ms ps (sound-is s .0) vars (columns op from arg mat con) tos m (sound-is s .1) held)
+      h ∙ ap (λ y. countedBy y (T .op)) k ∙ capped-by cap (sound-is s .0) (T .op) (λ m. counted-is ms ps (sound-is s .0) vars T m (sound-is s .1) held)
       ∙ ap (by-pattern cap (sound-is s .0)) (sym t) ∙ told cap b q
 
   rows-rule-of : (cap : ℤ) → cond (alwaysTrue (sound-is s .0 .pattern)) 0 (rowsCapped cap (sound-is s .0)) ≡ rowsReviewed cap (ruleOf ms ps)
   unfolding rowsReviewed rowsUnlessAlways
   rows-rule-of cap = ap (rowsReviewed cap) (sym (sound-is s .1))
 
-  rows-of : (cap : ℤ) (b : Bool) → b ≡ noneFrom op 0 entries → cond b 0 (rowsCapped cap (sound-is s .0)) ≡ rowsReviewed cap (ruleOf ms ps)
+  rows-of : (cap : ℤ) (b : Bool) → b ≡ noneFrom (T .op) 0 entries → cond b 0 (rowsCapped cap (sound-is s .0)) ≡ rowsReviewed cap (ruleOf ms ps)
   rows-of cap b q =
-      ap (λ x. cond x 0 (rowsCapped cap (sound-is s .0))) (q ∙ plain-is ms ps (sound-is s .0) (sound-is s .1) vars (columns op from arg mat con) tos held) ∙ rows-rule-of cap
+      ap (λ x. cond x 0 (rowsCapped cap (sound-is s .0))) (q ∙ plain-is ms ps (sound-is s .0) (sound-is s .1) vars T held) ∙ rows-rule-of cap
 
-  pub always-rows : (cap : ℤ) (b : Bool) → b ≡ noneFrom op 0 entries → b ≡ true → 0 ≡ rowsReviewed cap (ruleOf ms ps)
+  pub always-rows : (cap : ℤ) (b : Bool) → b ≡ noneFrom (T .op) 0 entries → b ≡ true → 0 ≡ rowsReviewed cap (ruleOf ms ps)
   always-rows cap b q t = ap (λ x. cond x 0 (rowsCapped cap (sound-is s .0))) (sym t) ∙ rows-of cap b q
 
-  pub counted-rows : (z cap : ℤ) (b : Bool) (x : ℕ) → b ≡ noneFrom op 0 entries → b ≡ false → x ≡ rowsBy z op → z ≡ cap → x ≡ rowsReviewed cap (ruleOf ms ps)
+  pub counted-rows : (z cap : ℤ) (b : Bool) (x : ℕ) → b ≡ noneFrom (T .op) 0 entries → b ≡ false → x ≡ rowsBy z (T .op) → z ≡ cap → x ≡ rowsReviewed cap (ruleOf ms ps)
   counted-rows z cap b x q t h k =
-      h ∙ ap (λ y. rowsBy y op) k
-      ∙ rows-capped-by cap (sound-is s .0) op (λ m. counted-is ms ps (sound-is s .0) vars (columns op from arg mat con) tos m (sound-is s .1) held)
-      (λ m. multiplied-is ms ps (sound-is s .0) vars (columns op from arg mat con) tos m (sound-is s .1) held)
+      h ∙ ap (λ y. rowsBy y (T .op)) k
+      ∙ rows-capped-by cap (sound-is s .0) (T .op) (λ m. counted-is ms ps (sound-is s .0) vars T m (sound-is s .1) held)
+      (λ m. multiplied-is ms ps (sound-is s .0) vars T m (sound-is s .1) held)
       ∙ ap (λ x. cond x 0 (rowsCapped cap (sound-is s .0))) (sym t) ∙ rows-of cap b q
 
 -- ---- Tests 1 to 4.

@@ -1,11 +1,11 @@
 // The service match: a rule's rows on a target, written into a lent room.
 use program::compile;
 use search::search;
+use tables::line::no_lines;
 use tests::Judgement;
 use tests::TargetJudgement;
 use tests::rule_refused;
 use tests::target_refused;
-use words::ENTRIES;
 ghost use mathlib.Core.Path.{_≡_};
 ghost use Rattle.rules.specs.Services.{matchIn, match, matchWith};
 ghost use Rattle.value_rows.specs.Row.{formBy};
@@ -49,36 +49,9 @@ fn carry_out(
     requires { ⌜ Ready (now matcher) (now pattern) (now target) ⌝ }
     ensures { λ r. ⌜ told r (now (room .exit)) ≡ matchIn (formBy origins) (now (matcher .entry)) (now (pattern .entry)) (now (target .entry)) budget (now (room .entry)) ⌝ }
 {
-    let mut op = [0u8; ENTRIES];
-    let mut from = [0u16; ENTRIES];
-    let mut arg = [0u16; ENTRIES];
-    let mut mat = [0u8; ENTRIES];
-    let mut con = [0i32; ENTRIES];
-    let mut to = [0u16; ENTRIES];
-    let n = compile(
-        matcher,
-        pattern,
-        &mut op,
-        &mut from,
-        &mut arg,
-        &mut mat,
-        &mut con,
-        &mut to,
-    );
-    let r = search(
-        budget,
-        n,
-        origins,
-        matcher,
-        target,
-        &op,
-        &from,
-        &to,
-        &arg,
-        &mat,
-        &con,
-        room,
-    );
+    let mut lines = no_lines();
+    let n = compile(matcher, pattern, &mut lines);
+    let r = search(budget, n, origins, matcher, target, &lines, room);
     Matched {
         answer: r.answer,
         place: 0,

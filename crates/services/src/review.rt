@@ -3,13 +3,15 @@ use program::compile;
 use review_count::always::always_true;
 use review_count::count::Tally;
 use review_count::count::tallied;
+use tables::line::Lines;
+use tables::line::no_lines;
 use tests::Judgement;
 use tests::rule_refused;
-use words::ENTRIES;
 use words::casts::wide;
 use words::tag_of;
 ghost use mathlib.Core.Path.{_≡_};
 ghost use Rattle.rules.specs.Services.{ruleOf, reviewRule, review};
+ghost use Rattle.tables.specs.Line.{columnsOf};
 ghost use Rattle.room_rules.specs.Rooms.{rowsReviewed};
 ghost use Rattle.services.specs.Reviews.{Sound, countedBy, rowsBy, reviewed};
 
@@ -28,9 +30,9 @@ pub const TOO_BIG: u32 = 10;
 pub const ALWAYS_TRUE: u32 = 11;
 
 // Tests 9 and 10, over the lines of a rule's program.
-fn counted(op: &[u8; ENTRIES], cap: i32) -> Reviewed
-    ensures { λ r. ⌜ reviewed r ≡ countedBy cap (now (op .entry)) ⌝ }
-    ensures { λ r. ⌜ r .rows ≡ rowsBy cap (now (op .entry)) ⌝ }
+fn counted(lines: &Lines, cap: i32) -> Reviewed
+    ensures { λ r. ⌜ reviewed r ≡ countedBy cap (columnsOf (now (lines .entry)) .op) ⌝ }
+    ensures { λ r. ⌜ r .rows ≡ rowsBy cap (columnsOf (now (lines .entry)) .op) ⌝ }
 {
     let most = tag_of(cap);
     if 64 < most {
@@ -41,7 +43,7 @@ fn counted(op: &[u8; ENTRIES], cap: i32) -> Reviewed
             rows: 0,
         };
     }
-    match tallied(op, wide(most)) {
+    match tallied(lines, wide(most)) {
         Tally::Count(n, f) => Reviewed {
             answer: 0,
             place: 0,
@@ -63,23 +65,9 @@ fn of_rule(matcher: &[i32], pattern: &[i32], cap: i32) -> Reviewed
     ensures { λ r. ⌜ reviewed r ≡ reviewRule cap (ruleOf (now (matcher .entry)) (now (pattern .entry))) ⌝ }
     ensures { λ r. ⌜ r .rows ≡ rowsReviewed cap (ruleOf (now (matcher .entry)) (now (pattern .entry))) ⌝ }
 {
-    let mut op = [0u8; ENTRIES];
-    let mut from = [0u16; ENTRIES];
-    let mut arg = [0u16; ENTRIES];
-    let mut mat = [0u8; ENTRIES];
-    let mut con = [0i32; ENTRIES];
-    let mut to = [0u16; ENTRIES];
-    compile(
-        matcher,
-        pattern,
-        &mut op,
-        &mut from,
-        &mut arg,
-        &mut mat,
-        &mut con,
-        &mut to,
-    );
-    if always_true(&op) {
+    let mut lines = no_lines();
+    compile(matcher, pattern, &mut lines);
+    if always_true(&lines) {
         return Reviewed {
             answer: ALWAYS_TRUE,
             place: 0,
@@ -87,7 +75,7 @@ fn of_rule(matcher: &[i32], pattern: &[i32], cap: i32) -> Reviewed
             rows: 0,
         };
     }
-    counted(&op, cap)
+    counted(&lines, cap)
 }
 
 // Review, for every input.

@@ -10,7 +10,7 @@ use mir.Val.{toZ, ofZ, Fits, SFits}
 use Rattle.words.specs.Words.{entries}
 use Rattle.tables.specs.declared.line.Line.{Line}
 use Rattle.tables.specs.Line.{columnsOf, halves, written}
-use Rattle.tables.specs.LineLaws.{op-at, arg-at, mat-at, from-at, to-at, con-at, to-put, numbersPut, constantPut, halves-of, line-put}
+use Rattle.tables.specs.LineLaws.{op-at, arg-at, mat-at, from-at, to-at, con-at, to-put, arg-named, numbersPut, constantPut, halves-of, line-put}
 
 pub arg-read : (t : List ℕ) (pc r : ℕ) → pc < entries → r ≡ getD t (entries + pc) 0 → r ≡ getD (columnsOf t .arg) pc 0
 arg-read t pc r h e = e ∙ arg-at t pc h
@@ -32,4 +32,4 @@ pub line-is-put : (t : List ℕ) (pc b : ℕ) (x : Line) → pc < entries → SF
     → columnsOf (constantPut (numbersPut t pc (x .op) (x .arg) (x .mat) (x .from)) pc (b % 65536) (b / 65536 % 65536)) ≡ written pc x (columnsOf t)
 line-is-put t pc b x h f g e = line-put t pc (b % 65536) (b / 65536 % 65536) x h (halves-of (x .con) b f g e)
 
-pub ruleset read-rules = (op-at, arg-read, mat-read, from-read, to-read, con-read, to-put, line-is-put, needs)
+pub ruleset read-rules = (op-at, arg-read, mat-read, from-read, to-read, con-read, to-put, arg-named, line-is-put, needs)

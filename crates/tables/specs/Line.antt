@@ -28,6 +28,10 @@ written pc l t =
 unfoldable pub aimed : (to : List ℕ) → Columns → Columns
 aimed n t = columns (t .op) (t .from) (t .arg) (t .mat) (t .con) n
 
+-- Other numbers in `arg`.
+unfoldable pub named : (arg : List ℕ) → Columns → Columns
+named a t = columns (t .op) (t .from) a (t .mat) (t .con) (t .to)
+
 -- ---- The sections of the list: op, arg, mat, from, to; then the constants, each in two halves of its bits, the low one first.
 
 unfoldable pub section : (c : ℕ) → List ℕ → List ℕ

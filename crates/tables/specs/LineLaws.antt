@@ -11,7 +11,7 @@ use mir.Val.{toZ, ofZ, Fits, SFits}
 use mir.Facts.{toZ-ofZ}
 use Rattle.words.specs.Words.{entries}
 use Rattle.tables.specs.declared.line.Line.{Line}
-use Rattle.tables.specs.Line.{columns, section, halves, constants, columnsOf, written, aimed, noLines}
+use Rattle.tables.specs.Line.{columns, section, halves, constants, columnsOf, written, aimed, named, noLines}
 
 -- ---- A section.
 
@@ -103,6 +103,18 @@ to-put t pc v h =
       section-before 3 t (4 * entries + pc) v (omega arith),
       section-put 4 t pc v h,
       drop-set-lt (5 * entries) t (4 * entries + pc) v (omega arith),
+    )
+
+pub arg-named : (t : List ℕ) (pc v : ℕ) → pc < entries → columnsOf (set t (entries + pc) v) ≡ named (set (columnsOf t .arg) pc v) (columnsOf t)
+unfolding columnsOf named
+arg-named t pc v h =
+    rw (
+      section-before 0 t (entries + pc) v (omega arith),
+      section-put 1 t pc v h,
+      section-after 2 t (entries + pc) v (omega arith),
+      section-after 3 t (entries + pc) v (omega arith),
+      section-after 4 t (entries + pc) v (omega arith),
+      drop-set-lt (5 * entries) t (entries + pc) v (omega arith),
     )
 
 -- The four numbers of a line that stand in sections, put one after the other.

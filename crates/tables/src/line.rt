@@ -7,7 +7,7 @@ ghost use Prim.Native.Nat.{_<_};
 ghost use lib.ListN.{length, getD, set};
 ghost use lib.IntN.{pos};
 ghost use Rattle.words.specs.Words.{entries};
-ghost use Rattle.tables.specs.Line.{columnsOf, written, aimed, noLines, halves};
+ghost use Rattle.tables.specs.Line.{columnsOf, written, aimed, named, noLines, halves};
 
 // Where the sections start; the instructions' at 0.
 const ARGS: usize = ENTRIES;
@@ -122,4 +122,12 @@ pub fn put_to(lines: &mut Lines, pc: usize, to: u16)
     ensures { λ r. ⌜ columnsOf (now (lines .exit)) ≡ aimed (set (columnsOf (now (lines .entry)) .to) pc to) (columnsOf (now (lines .entry))) ⌝ }
 {
     lines[TOS + pc] = to;
+}
+
+// The number of a line's slot.
+pub fn put_arg(lines: &mut Lines, pc: usize, arg: u16)
+    requires { ⌜ pc < entries ⌝ }
+    ensures { λ r. ⌜ columnsOf (now (lines .exit)) ≡ named (set (columnsOf (now (lines .entry)) .arg) pc arg) (columnsOf (now (lines .entry))) ⌝ }
+{
+    lines[ARGS + pc] = arg;
 }

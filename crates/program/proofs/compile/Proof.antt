@@ -10,4 +10,4 @@ compile-spec =
     (λ c κs. search both-rules)
     (λ c κs. search both-rules)
     (λ c κs. search both-rules)
-    (λ c. ((search both-rules), (search both-rules, search both-rules))))
+    (λ c. (search both-rules, search both-rules)))

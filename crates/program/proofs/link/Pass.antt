@@ -13,8 +13,9 @@ use lib.Seq.{getD-set-same, getD-set-other, set-comm}
 use mir.Syntax.{w64}
 use mir.Val.{Fits}
 use Rattle.words.specs.Words.{entries}
+use Rattle.tables.specs.Line.{Columns, aimed}
 use Rattle.program_rules.specs.Lines.{binding}
-use Rattle.program_rules.specs.Link.{keeps, takes, top, under, toBy, landBy, keptBy, Linked, linkedBy, linkFrom, placed, tosBy, opsIn, bindingsIn}
+use Rattle.program_rules.specs.Link.{keeps, takes, top, under, toBy, landBy, keptBy, Linked, linkedBy, linkFrom, placed, tosBy, opsIn, bindingsIn, linkedIn}
 use Rattle.program_rules.specs.Pile.{Pile, pile, keptAt, lower, placeBy, toAt, landAt, piled}
 
 -- ---- One line.
@@ -169,7 +170,7 @@ rest-end : (op : List ℕ) (last pc : ℕ) → suc last ≤ pc → opsIn op pc (
 unfolding opsIn
 rest-end op last pc h = let z : suc last - pc ≡ 0 = omega arith in rw z
 
-pub linking-start : (op : List ℕ) (last pc : ℕ) (to k : List ℕ) → pc ≡ last + 1 → length k ≡ 651 → getD k 0 0 ≡ 0 → Linking op last to to k 0 0 pc pc
+linking-start : (op : List ℕ) (last pc : ℕ) (to k : List ℕ) → pc ≡ last + 1 → length k ≡ 651 → getD k 0 0 ≡ 0 → Linking op last to to k 0 0 pc pc
 unfolding rest linkFrom keptAt placed bindingsIn
 linking-start op last pc to k e l b =
     let z = rest-end op last pc (omega arith) in
@@ -221,19 +222,19 @@ module _ (op : List ℕ) (last : ℕ) (to₀ to k : List ℕ) (depth n pc land :
   linking-reach : pc ≤ suc last
   linking-reach = let a = L .deep in omega arith
 
-  pub linking-index : pc - 1 < entries
+  linking-index : pc - 1 < entries
   linking-index = let a = linking-reach in omega arith
 
-  pub linking-short-pc : pc - 1 < 2 ^ 16
+  linking-short-pc : pc - 1 < 2 ^ 16
   linking-short-pc = let a = linking-reach in omega arith
 
-  pub linking-depth : depth < 651
+  linking-depth : depth < 651
   linking-depth = let a = L .deep in omega arith
 
-  pub linking-room : depth < entries
+  linking-room : depth < entries
   linking-room = let a = L .deep in omega arith
 
-  pub linking-count : n < 1000
+  linking-count : n < 1000
   linking-count = let a = L .some in omega arith
 
   module _ (o x d land' n' : ℕ) (k' : List ℕ) (e : o ≡ getD op (pc - 1) 0) (f : x ≡ getD k depth 0)
@@ -279,23 +280,84 @@ module _ (op : List ℕ) (last : ℕ) (to₀ to k : List ℕ) (depth n pc land :
     linking-again t r = linking-next t (r ∙ rw top-is)
 
   -- A line below 15 keeps no place and takes none.
-  pub linking-plain : (o n' : ℕ) → o ≡ getD op (pc - 1) 0 → o < 15 → n' ≡ n + binding o → Linking op last to₀ (set to (pc - 1) land) k depth n' (pc - 1) (pc - 1)
+  linking-plain : (o n' : ℕ) → o ≡ getD op (pc - 1) 0 → o < 15 → n' ≡ n + binding o → Linking op last to₀ (set to (pc - 1) land) k depth n' (pc - 1) (pc - 1)
   unfolding piled landAt toAt lower
   linking-plain o n' e l z =
       linking-again o (getD k depth 0) depth (pc - 1) n' k e refl (rw (keeps-plain o l, takes-plain o l)) (rw (ne-eqb o 18 (λ q. omega arith), ne-eqb o 19 (λ q. omega arith))) z
       land (rw (takes-plain o l))
 
-  pub linking-sides : (o x t d land' : ℕ) (k' : List ℕ) → o ≡ getD op (pc - 1) 0 → 15 ≤ o → x ≡ getD k depth 0 → t ≡ toAt o land x
+  linking-sides : (o x t d land' : ℕ) (k' : List ℕ) → o ≡ getD op (pc - 1) 0 → 15 ≤ o → x ≡ getD k depth 0 → t ≡ toAt o land x
       → pile k' d ≡ piled o (pc - 1) land (pile k depth) → land' ≡ landAt o (pc - 1) land x → Linking op last to₀ (set to (pc - 1) t) k' d n (pc - 1) land'
   linking-sides o x t d land' k' e l f r w v = linking-again o x d land' n k' e f w v (count-other n o (λ q. omega arith)) t r
 
 module _ (op : List ℕ) (last : ℕ) (to₀ to k : List ℕ) (depth n pc land : ℕ) (L : Linking op last to₀ to k depth n pc land) (h : pc ≤ 0) where
-  pub linking-vars : n ≡ bindingsIn (opsIn op 0 (suc last))
+  linking-vars : n ≡ bindingsIn (opsIn op 0 (suc last))
   linking-vars = let z : pc ≡ 0 = omega arith in let y : suc last - 0 ≡ suc last = omega arith in L .count ∙ rw (z, y)
 
-  pub linking-placed : to ≡ placed 0 (tosBy (opsIn op 0 (suc last))) to₀
+  linking-placed : to ≡ placed 0 (tosBy (opsIn op 0 (suc last))) to₀
   unfolding rest tosBy
   linking-placed = let z : pc ≡ 0 = omega arith in let y : suc last - 0 ≡ suc last = omega arith in L .placed-are ∙ rw (z, y)
+
+-- ---- In the table: only the places change.
+
+pub record Passing (last : ℕ) (t₀ t : Columns) (k : List ℕ) (depth n pc land : ℕ) : Type 0 where
+  pub linking : Linking (t₀ .op) last (t₀ .to) (t .to) k depth n pc land
+  pub same : t ≡ aimed (t .to) t₀
+
+pub passing-start : (last pc : ℕ) (t : Columns) (k : List ℕ) → pc ≡ last + 1 → length k ≡ 651 → getD k 0 0 ≡ 0 → Passing last t t k 0 0 pc pc
+unfolding aimed
+passing-start last pc t k e l b = record { linking = linking-start (t .op) last pc (t .to) k e l b; same = refl }
+
+module _ (last : ℕ) (t₀ t : Columns) (k : List ℕ) (depth n pc land : ℕ) (P : Passing last t₀ t k depth n pc land) (low : last < entries) (h : 0 < pc) where
+  L : Linking (t₀ .op) last (t₀ .to) (t .to) k depth n pc land
+  L = P .linking
+
+  pub passing-index : pc - 1 < entries
+  passing-index = linking-index (t₀ .op) last (t₀ .to) (t .to) k depth n pc land L low h
+
+  pub passing-short : pc - 1 < 2 ^ 16
+  passing-short = linking-short-pc (t₀ .op) last (t₀ .to) (t .to) k depth n pc land L low h
+
+  pub passing-depth : depth < 651
+  passing-depth = linking-depth (t₀ .op) last (t₀ .to) (t .to) k depth n pc land L low h
+
+  pub passing-room : depth < entries
+  passing-room = linking-room (t₀ .op) last (t₀ .to) (t .to) k depth n pc land L low h
+
+  pub passing-count : n < 1000
+  passing-count = linking-count (t₀ .op) last (t₀ .to) (t .to) k depth n pc land L low h
+
+  op-was : (o : ℕ) → o ≡ getD (t .op) (pc - 1) 0 → o ≡ getD (t₀ .op) (pc - 1) 0
+  unfolding aimed
+  op-was o e = e ∙ ap (λ (u : Columns). getD (u .op) (pc - 1) 0) (P .same)
+
+  -- One place put.
+  put-same : (x : ℕ) (u : Columns) → u ≡ aimed (set (t .to) (pc - 1) x) t → (u .to ≡ set (t .to) (pc - 1) x) × (u ≡ aimed (u .to) t₀)
+  unfolding aimed
+  put-same x u e =
+      let f : u .to ≡ set (t .to) (pc - 1) x = ap (λ (w : Columns). w .to) e in
+      (f, e ∙ ap (aimed (set (t .to) (pc - 1) x)) (P .same) ∙ ap (λ w. aimed w t₀) (sym f))
+
+  pub passing-plain : (o n' : ℕ) (u : Columns) → o ≡ getD (t .op) (pc - 1) 0 → o < 15 → n' ≡ n + binding o → u ≡ aimed (set (t .to) (pc - 1) land) t
+      → Passing last t₀ u k depth n' (pc - 1) (pc - 1)
+  passing-plain o n' u e l z g =
+      let f = put-same land u g in
+      record { linking = rw (f .0) (linking-plain (t₀ .op) last (t₀ .to) (t .to) k depth n pc land L low h o n' (op-was o e) l z); same = f .1 }
+
+  pub passing-sides : (o x y d land' : ℕ) (k' : List ℕ) (u : Columns) → o ≡ getD (t .op) (pc - 1) 0 → 15 ≤ o → x ≡ getD k depth 0 → y ≡ toAt o land x
+      → u ≡ aimed (set (t .to) (pc - 1) y) t → pile k' d ≡ piled o (pc - 1) land (pile k depth) → land' ≡ landAt o (pc - 1) land x
+      → Passing last t₀ u k' d n (pc - 1) land'
+  passing-sides o x y d land' k' u e l f r g w v =
+      let i = put-same y u g in
+      record { linking = rw (i .0) (linking-sides (t₀ .op) last (t₀ .to) (t .to) k depth n pc land L low h o x y d land' k' (op-was o e) l f r w v); same = i .1 }
+
+module _ (last : ℕ) (t₀ t : Columns) (k : List ℕ) (depth n pc land : ℕ) (P : Passing last t₀ t k depth n pc land) (h : pc ≤ 0) where
+  pub passing-vars : n ≡ bindingsIn (opsIn (t₀ .op) 0 (suc last))
+  passing-vars = linking-vars (t₀ .op) last (t₀ .to) (t .to) k depth n pc land (P .linking) h
+
+  pub passing-linked : t ≡ linkedIn (suc last) t₀
+  unfolding linkedIn
+  passing-linked = P .same ∙ ap (λ x. aimed x t₀) (linking-placed (t₀ .op) last (t₀ .to) (t .to) k depth n pc land (P .linking) h)
 
 pub linking-less : (pc : ℕ) → 0 < pc → pc - 1 < pc
 linking-less pc h = omega arith
@@ -306,4 +368,4 @@ linking-fits last h = record { fits = omega arith }
 pub linking-short : (last : ℕ) → last < entries → last + 1 < 2 ^ 16
 linking-short last h = omega arith
 
-pub ruleset linking-rules = (linking-start, linking-index, linking-depth, linking-room, linking-count, linking-short-pc, linking-plain, linking-sides, linking-vars, linking-placed, linking-fits, linking-short, linking-less, needs)
+pub ruleset linking-rules = (passing-index, passing-short, passing-depth, passing-room, passing-count, passing-plain, passing-sides, passing-vars, passing-linked, linking-fits, linking-short, linking-less, needs)

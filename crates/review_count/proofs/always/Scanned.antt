@@ -41,15 +41,19 @@ module _ (n : Bool) (pc : ℕ) (op : List ℕ) (i : n ≡ noneFrom op pc (entrie
   unfolding noneFrom
   out h = let z : entries - pc ≡ 0 = omega arith in sym (i ∙ rw z)
 
-  pub at-end : pc < entries → getD op pc 0 ≡ 0 → true ≡ n
-  at-end h q = sym (i ∙ line pc op h ∙ rw (eq-eqb (getD op pc 0) 0 q))
+  module _ (o : ℕ) (y : o ≡ getD op pc 0) where
+    here : pc < entries → n ≡ cond (eqb o 0) true (cond (lineFails o) false (noneFrom op (pc + 1) (entries - (pc + 1))))
+    here h = i ∙ rw (← y) at (line pc op h)
 
-  module _ (b : Bool) (e : b ≡ lineFails (getD op pc 0)) where
-    pub fails : pc < entries → (getD op pc 0 ≡ 0 → ⊥) → b ≡ true → false ≡ n
-    fails h q t = let f : lineFails (getD op pc 0) ≡ true = sym e ∙ t in sym (i ∙ line pc op h ∙ rw (ne-eqb (getD op pc 0) 0 q, f))
+    pub at-end : pc < entries → o ≡ 0 → true ≡ n
+    at-end h q = sym (here h ∙ rw (eq-eqb o 0 q))
 
-    pub turn : pc < entries → (getD op pc 0 ≡ 0 → ⊥) → b ≡ false → n ≡ noneFrom op (pc + 1) (entries - (pc + 1))
-    turn h q t = let f : lineFails (getD op pc 0) ≡ false = sym e ∙ t in i ∙ line pc op h ∙ rw (ne-eqb (getD op pc 0) 0 q, f)
+    module _ (b : Bool) (e : b ≡ lineFails o) where
+      pub fails : pc < entries → (o ≡ 0 → ⊥) → b ≡ true → false ≡ n
+      fails h q t = let f : lineFails o ≡ true = sym e ∙ t in sym (here h ∙ rw (ne-eqb o 0 q, f))
+
+      pub turn : pc < entries → (o ≡ 0 → ⊥) → b ≡ false → n ≡ noneFrom op (pc + 1) (entries - (pc + 1))
+      turn h q t = let f : lineFails o ≡ false = sym e ∙ t in here h ∙ rw (ne-eqb o 0 q, f)
 
 pub ruleset line-rules = (fails-not, fails-inside, fails-below, fails-above, needs)
 

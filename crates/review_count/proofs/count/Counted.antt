@@ -14,7 +14,8 @@ use Rattle.program_rules.specs.Points.{Instr, Point}
 use Rattle.program_rules.specs.Program.{instrOf, pointAt, program}
 use Rattle.program_rules.specs.Length.{instrs, toCome}
 use Rattle.program_rules.specs.Walk.{in-range}
-use Rattle.program_rules.specs.Lines.{Line, Columns}
+use Rattle.tables.specs.declared.line.Line.{Line}
+use Rattle.tables.specs.Line.{Columns}
 use Rattle.program_rules.specs.Meaning.{Means, means-end, means-strip, means-drop, means-bind, means-constant, means-integer, means-value, means-nil, means-list, means-multiset, means-join, means-tuple}
 use Rattle.program_rules.specs.Meaning.{means-keep, means-choice, means-deny, means-cut, means-other, means-close}
 use Rattle.program_rules.specs.Numbered.{Numbered, numbered-at}
@@ -51,10 +52,10 @@ last-ends : (pc : ℕ) (P : Point) → Numbered P → toCome P ≡ 1 → numberB
 unfolding instrOf numberBy
 last-ends pc P n h = let f = one-finish P n h in rw (f .1)
 
-pub counted-is : (ms ps : List ℤ) (r : Rule) (vars : ℕ) (t : Columns) (to : List ℕ) (most : ℕ) → ruleOf ms ps ≡ accepted r → Holds ms r vars t to
+pub counted-is : (ms ps : List ℤ) (r : Rule) (vars : ℕ) (t : Columns) (most : ℕ) → ruleOf ms ps ≡ accepted r → Holds ms r vars t
     → wholeSum most (t .op) ≡ formula most (r .pattern) (r .matcher)
 unfolding wholeSum formula pointAt countAt countLater program lineIn
-counted-is ms ps r vars t to most a h =
+counted-is ms ps r vars t most a h =
     let w = rule-accepted ms ps r .0 a in
     let m = r .matcher in
     let p = r .pattern in
@@ -65,10 +66,10 @@ counted-is ms ps r vars t to most a h =
     (λ pc l. number-means (h .means pc l)) entries 0 0 (along 1 0 0 []) (omega arith) (omega arith) none-point
     ∙ ap (λ x. summed most 0 p m 1 + x) (one-mul (factor most 0 p m))
 
-pub multiplied-is : (ms ps : List ℤ) (r : Rule) (vars : ℕ) (t : Columns) (to : List ℕ) (most : ℕ) → ruleOf ms ps ≡ accepted r → Holds ms r vars t to
+pub multiplied-is : (ms ps : List ℤ) (r : Rule) (vars : ℕ) (t : Columns) (most : ℕ) → ruleOf ms ps ≡ accepted r → Holds ms r vars t
     → wholeProduct most (t .op) ≡ factor most 0 (r .pattern) (r .matcher)
 unfolding wholeProduct pointAt productAt productLater program lineIn
-multiplied-is ms ps r vars t to most a h =
+multiplied-is ms ps r vars t most a h =
     let w = rule-accepted ms ps r .0 a in
     let m = r .matcher in
     let p = r .pattern in

@@ -159,20 +159,20 @@ module _ {n f most d t e l g k pc : ℕ} {op kept takens : List ℕ} (i : Here n
       let m : n < 2 ^ 32 = omega (arith, i .small) in
       rw (lt-ltb n (2 ^ 32) m, g, q)
 
-  module _ (z : k ≤ 0) (h : pc < entries) (s : ℕ) (x : s ≡ stepOf (getD op pc 0) e) where
+  module _ (z : k ≤ 0) (h : pc < entries) (o : ℕ) (y : o ≡ getD op pc 0) (s : ℕ) (x : s ≡ stepOf o e) where
     whole : n
-        ≡ t + (s + cond (eqb (getD op pc 0) 0) 0 (sumFrom most op (onward most (getD op pc 0) (along e g l (waitingAt kept takens d))) (reservedAfter (getD op pc 0)) (pc + 1) (entries - (pc + 1))))
+        ≡ t + (s + cond (eqb o 0) 0 (sumFrom most op (onward most o (along e g l (waitingAt kept takens d))) (reservedAfter o) (pc + 1) (entries - (pc + 1))))
     whole =
         let none : k ≡ 0 = omega arith in
         let j : n ≡ t + sumFrom most op (along e g l (waitingAt kept takens d)) 0 pc (entries - pc) = rw none at (i .sum) in
-        let a = line most pc op h e g l (waitingAt kept takens d) in
+        let a = rw (← y) at (line most pc op h e g l (waitingAt kept takens d)) in
         omega arith
 
-    factors : f ≡ cond (eqb (getD op pc 0) 0) e (productFrom most op (onward most (getD op pc 0) (along e g l (waitingAt kept takens d))) (reservedAfter (getD op pc 0)) (pc + 1) (entries - (pc + 1)))
+    factors : f ≡ cond (eqb o 0) e (productFrom most op (onward most o (along e g l (waitingAt kept takens d))) (reservedAfter o) (pc + 1) (entries - (pc + 1)))
     factors =
         let none : k ≡ 0 = omega arith in
         let j : f ≡ productFrom most op (along e g l (waitingAt kept takens d)) 0 pc (entries - pc) = rw none at (i .product) in
-        j ∙ product-line most pc op h e g l (waitingAt kept takens d)
+        j ∙ rw (← y) at (product-line most pc op h e g l (waitingAt kept takens d))
 
     pub too-big : 4294967295 < t + s → TooBig ≡ within n f
     unfolding within
@@ -180,21 +180,20 @@ module _ {n f most d t e l g k pc : ℕ} {op kept takens : List ℕ} (i : Here n
         let m : 2 ^ 32 ≤ n = omega (arith, whole) in
         rw (le-ltb n (2 ^ 32) m)
 
-    pub at-end : getD op pc 0 ≡ 0 → t + s ≤ 4294967295 → Count (t + s) e ≡ within n f
+    pub at-end : o ≡ 0 → t + s ≤ 4294967295 → Count (t + s) e ≡ within n f
     unfolding within
     at-end q b =
-        let w : n ≡ t + (s + 0) = rw (eq-eqb (getD op pc 0) 0 q) at whole in
-        let v : f ≡ e = rw (eq-eqb (getD op pc 0) 0 q) at factors in
+        let w : n ≡ t + (s + 0) = rw (eq-eqb o 0 q) at whole in
+        let v : f ≡ e = rw (eq-eqb o 0 q) at factors in
         let g : n ≡ t + s = omega arith in
         let m : n < 2 ^ 32 = omega arith in
         rw (lt-ltb n (2 ^ 32) m, g, v)
 
-    pub turn : most ≤ 64 → (getD op pc 0 ≡ 0 → ⊥) → t + s ≤ 4294967295 → (r : Turn) (u e' l' g' d' k' : ℕ) → r ≡ turnOf (getD op pc 0) → u ≡ laidOf r g
-        → e' ≡ nextOf most (getD op pc 0) e g l → l' ≡ lastOf r (topIn (set kept d e) d) → g' ≡ takenOf r g (topIn (set takens d u) d) → d' ≡ depthBy r d
-        → k' ≡ reservedAfter (getD op pc 0) → Here n f most op (set kept d e) (set takens d u) d' (t + s) e' l' g' k' (pc + 1)
+    pub turn : most ≤ 64 → (o ≡ 0 → ⊥) → t + s ≤ 4294967295 → (r : Turn) (u e' l' g' d' k' : ℕ) → r ≡ turnOf o → u ≡ laidOf r g
+        → e' ≡ nextOf most o e g l → l' ≡ lastOf r (topIn (set kept d e) d) → g' ≡ takenOf r g (topIn (set takens d u) d) → d' ≡ depthBy r d
+        → k' ≡ reservedAfter o → Here n f most op (set kept d e) (set takens d u) d' (t + s) e' l' g' k' (pc + 1)
     unfolding onward
     turn b q small r u e' l' g' d' k' er eu ee el eg ed ek =
-        let o = getD op pc 0 in
         let w = waitingAt kept takens d in
         let st : waitingAt (set kept d e) (set takens d u) d' ≡ (onward most o (along e g l w)) .waiting =
         rw (ed, waits-after r kept takens d e u (omega (arith, i .shallow, i .long)) (omega (arith, i .shallow, i .wide)), eu, er) in
@@ -202,12 +201,12 @@ module _ {n f most d t e l g k pc : ℕ} {op kept takens : List ℕ} (i : Here n
         let ge : g' ≡ (onward most o (along e g l w)) .taken = rw (eg, top-above takens d u, er, ← top-taken kept takens d) in
         let v : n ≡ t + (s + sumFrom most op (onward most o (along e g l w)) (reservedAfter o) (pc + 1) (entries - (pc + 1))) = rw (ne-eqb o 0 q) at whole in
         let later : f ≡ productFrom most op (onward most o (along e g l w)) (reservedAfter o) (pc + 1) (entries - (pc + 1)) = rw (ne-eqb o 0 q) at factors in
-        let y = grows most e g l (laidOf (turnOf o) g) w b o (omega arith) in
+        let grown = grows most e g l (laidOf (turnOf o) g) w b o (omega arith) in
         record {
           sum = rw (st, le, ge, ee, ek) (omega (arith, v));
           product = rw (st, le, ge, ee, ek) later;
           small = small;
-          room = rw (st, le, ee) (omega (arith, y, i .room));
+          room = rw (st, le, ee) (omega (arith, grown, i .room));
           number = rw ge (omega (arith, taken-le (turnOf o) pc g w (i .number) (i .numbers)));
           numbers = rw st (waiting-le (turnOf o) pc e g w (i .number) (i .numbers));
           shallow = omega (arith, depth-le r d, i .shallow);

@@ -1,57 +1,60 @@
 -- `search::advance` meets its contract: at the loop's head the whole run is what is left of it from here. The measure is the steps left. In the inner loop
 -- what is left of the row is still to be written. Assumes nothing.
 use Prim.Native.Nat.{ℕ, _+_, _-_, _<_, _≤_}
-use mathlib.Core.Path.{_≡_, refl, ap, _∙_}
+use mathlib.Core.Path.{_≡_, refl, sym, ap, _∙_}
 use mathlib.Core.Logic.{⊎-elim}
 use native.Mathlib.Omega.{arith}
 use borrow.Author.Needs.{needs}
+use mir.Syntax.{w32}
+use mir.Val.{SFits}
+use mir.Facts.{toZ-ofZ}
 use lib.ListN.{length}
 use Rattle.rules.specs.Rows.{row}
 use Rattle.value_places.specs.Held.{put}
 use Rattle.value_rows.specs.Row.{formBy, bound, boundFrom}
+use Rattle.tables.specs.Line.{columnsOf}
 use Rattle.tables.specs.Slot.{viewOf}
-use Rattle.search.specs.Run.{Env, env, Run, run, settled, takeOf, runOf}
+use Rattle.search.specs.Run.{Env, envOf, Run, run, settled, takeOf, runOf}
 use Rattle.search.specs.Valid.{Rows}
 use Rattle.value_rows.proofs.Row.{targets-fit, target-fits, row-held, row-16, row-mul, row-room, row-turn, row-turn-size, row-out, row-out-size, row-start-size, row-start-room}
 use Rattle.value_rows.proofs.Room.{length-put}
-use Rattle.search.proofs.Laws.{Sized, sized-asked, sized-ample, turned-path, Here, here-start, here-end, here-spent, here-next, next-less, Asked, asked-3, asked-4, asked-5, asked-6, asked-below, asked-above, took-full, took-wrote, Taken, taken-is, taken-step, turn-row, turn-steps, settled-by, Ready, ready, ready-place, ready-mul, ready-mul-2, ready-number, ready-number-mul, ready-bound, ready-sum, fine-named}
+use Rattle.search.proofs.Laws.{Sized, sized-asked, sized-ample, turned-path, Here, here-start, here-end, here-spent, here-next, next-less, Asked, asked-3, asked-4, asked-5, asked-6, asked-below, asked-above, took-full, took-wrote, Taken, taken-is, taken-step, turn-row, turn-steps, settled-by, Ready, ready, ready-place, ready-constant, ready-number, ready-number-mul, ready-bound, ready-sum, fine-named}
 use Rattle.search.proofs.advance.Statement.{statement}
 use Rattle.search.proofs.advance.Tie as tie
 use Rattle.value_equality.proofs.equal.Reads as equal-reads
 use Rattle.value_equality.proofs.is_sum.Reads as is-sum-reads
 use Rattle.value_rows.proofs.put_entry.Reads as put-entry-reads
 use Rattle.value_rows.proofs.row_size.Reads as row-size-reads
-use Rattle.words.proofs.casts.byte_index.Reads as byte-index-reads
-use Rattle.words.proofs.casts.half_index.Reads as half-index-reads
 use Rattle.search.proofs.taking.filled.Reads as filled-reads
 use Rattle.search.proofs.taking.wrote.Reads as wrote-reads
 use Rattle.search_step.proofs.State.step.Reads as step-reads
 use Rattle.search_choice.proofs.settle.Reads as settle-reads
 
 abbrev Inv-loop2 : tie.InvT-loop2
-Inv-loop2 budget n origins mt s ends base places op from to arg mat con slots room₀ x b steps pc at m o q e₀ free size v₀ room e v =
+Inv-loop2 budget n origins mt s ends base places lines slots room₀ x b steps pc at m o q e₀ free size v₀ room e v =
     (v ≤ n) × (length room ≡ length room₀) × (e₀ + length (row (formBy origins) (bound s b n)) ≤ length room) × (e₀ + length (row (formBy origins) (bound s b n)) ≡ e + length (row (formBy origins) (boundFrom s b v n)))
     × (put room₀ e₀ (row (formBy origins) (bound s b n)) ≡ put room e (row (formBy origins) (boundFrom s b v n)))
 
 abbrev μ-loop2 : tie.MeasureT-loop2
-μ-loop2 budget n origins mt s ends base places op from to arg mat con slots room₀ x b steps pc at m o q e₀ free size v₀ room e v = n - v
+μ-loop2 budget n origins mt s ends base places lines slots room₀ x b steps pc at m o q e₀ free size v₀ room e v = n - v
 
 abbrev Inv-loop : tie.InvT-loop
-Inv-loop budget n origins mt s ends base places op from to arg mat con slots₀ room₀ x₀ b₀ slots room x b =
-    Here (env op from to arg mat con mt s n (formBy origins)) (runOf (env op from to arg mat con mt s n (formBy origins)) (budget - x₀ .steps) (run x₀ (viewOf arg slots₀) b₀ room₀)) budget room₀
-    (run x (viewOf arg slots) b room)
+Inv-loop budget n origins mt s ends base places lines slots₀ room₀ x₀ b₀ slots room x b =
+    Here (envOf (columnsOf lines) mt s n (formBy origins)) (runOf (envOf (columnsOf lines) mt s n (formBy origins)) (budget - x₀ .steps) (run x₀ (viewOf (columnsOf lines .arg) slots₀) b₀ room₀)) budget room₀
+    (run x (viewOf (columnsOf lines .arg) slots) b room)
 
 abbrev μ-loop : tie.MeasureT-loop
-μ-loop budget n origins mt s ends base places op from to arg mat con slots₀ room₀ x₀ b₀ slots room x b = budget - x .steps
+μ-loop budget n origins mt s ends base places lines slots₀ room₀ x₀ b₀ slots room x b = budget - x .steps
 
 -- The program and the run at the loop's head.
 abbrev program : tie.At-loop Inv-loop2 μ-loop2 Inv-loop μ-loop → Env
 program c =
-    env (c .before .args .op .now) (c .before .args .from .now) (c .before .args .to .now) (c .before .args .arg .now) (c .before .args .mat .now) (c .before .args .con .now) (c .before .args .mt .now)
+    envOf (columnsOf (c .before .args .lines .now))
+    (c .before .args .mt .now)
     (c .before .args .s .now) (c .before .args .n) (formBy (c .before .args .origins))
 
 abbrev current : tie.At-loop Inv-loop2 μ-loop2 Inv-loop μ-loop → Run
-current c = run (c .loop .x) (viewOf (c .before .args .arg .now) (c .loop .slots)) (c .loop .b) (c .loop .room)
+current c = run (c .loop .x) (viewOf (columnsOf (c .before .args .lines .now) .arg) (c .loop .slots)) (c .loop .b) (c .loop .room)
 
 -- A state stands, and the budget is not used up.
 stands : (c : tie.Else2 Inv-loop2 μ-loop2 Inv-loop μ-loop) → Ready (program (c .before .before .before)) (current (c .before .before .before))
@@ -61,18 +64,20 @@ stands c =
 
 -- Where the branches before a step meet.
 joined : (c : tie.Joined3 Inv-loop2 μ-loop2 Inv-loop μ-loop) → Asked (program (c .before .before .before .before .before)) (current (c .before .before .before .before .before)) (c .if3 .q) (c .if3 .b)
-joined c = ⊎-elim
-    (λ w. asked-5 _ _ _ _ _ _ _ _ _ _ (w .1 .taken) (w .3 .ensures) (w .7) (w .8) (search needs) (w .6 .ensures))
-    (⊎-elim (λ w. asked-3 _ _ _ _ _ _ _ _ (w .3 .taken) (w .5 .ensures) (w .6) (w .7))
-    (⊎-elim (λ w. asked-4 _ _ _ _ _ _ _ (w .2 .taken) (w .3 .left) (w .4) (w .5))
-    (⊎-elim (λ w. asked-6 _ _ _ _ _ _ _ _ _ _ (w .1 .left) (w .2 .left) (w .3 .taken) (w .5 .ensures) (w .8 .ensures) (w .10) (w .11) (w .9 .ensures))
-    (⊎-elim (λ w. asked-above _ _ _ _ _ _ _ (w .3 .left) (w .4) (w .5))
-    (λ w. asked-below _ _ _ _ _ _ _ (w .0 .left) (w .1) (w .2))))))
+joined c =
+    let p = c .before .op-at .ensures in
+    ⊎-elim
+    (λ w. asked-5 _ _ _ _ _ _ _ _ p _ _ _ (w .1 .taken) (w .2 .ensures) (w .6) (w .7) (let k : SFits w32 (w .4 .result) = search needs in toZ-ofZ k ∙ w .4 .ensures) (w .5 .ensures))
+    (⊎-elim (λ w. asked-3 _ _ _ _ _ _ _ _ p _ (w .3 .taken) (w .4 .ensures) (w .5) (w .6))
+    (⊎-elim (λ w. asked-4 _ _ _ _ _ _ _ _ p (w .2 .taken) (w .3 .left) (w .4) (w .5))
+    (⊎-elim (λ w. asked-6 _ _ _ _ _ _ _ _ p _ _ _ (w .1 .left) (w .2 .left) (w .3 .taken) (w .4 .ensures) (w .6 .ensures) (w .8) (w .9) (w .7 .ensures))
+    (⊎-elim (λ w. asked-above _ _ _ _ _ _ _ _ p (w .3 .left) (w .4) (w .5))
+    (λ w. asked-below _ _ _ _ _ _ _ _ p (w .0 .left) (w .1) (w .2))))))
     (c .if3 .came)
 
 -- At a state with no atom left: its row can be written, and what is known of its size.
 rows : (c : tie.Then8 Inv-loop2 μ-loop2 Inv-loop μ-loop) → Rows (c .before .before .before .before .before .before .before .args .s .now) (c .before .if3 .b) (c .before .before .before .before .before .before .before .args .n) (c .before .before .before .before .before .before .loop .x) (c .before .before .before .before .before .before .loop .room)
-rows c = let h = stands (c .before .before .before) in turn-row _ _ _ _ _ _ _ (joined (c .before)) (h .fine) (h .target) (h .valid) (h .count) (c .if8 .taken)
+rows c = let h = stands (c .before .before .before) in turn-row _ _ _ _ _ _ _ (joined (c .before)) (h .fine) (h .target) (h .valid) (h .count) (sym (c .before .before .op-at .ensures) ∙ c .if8 .taken)
 
 sized : (c : tie.Joined9 Inv-loop2 μ-loop2 Inv-loop μ-loop) → Sized (formBy (c .before .before .before .before .before .before .before .before .args .origins)) (c .before .before .before .before .before .before .before .before .args .s .now) (c .before .before .if3 .b) (c .before .before .before .before .before .before .before .before .args .n) (length (c .before .before .before .before .before .before .before .loop .room) - c .before .before .before .before .before .before .before .loop .x .words) (c .if9 .size)
 sized c = ⊎-elim
@@ -83,19 +88,19 @@ sized c = ⊎-elim
 -- Where a row and a step meet: the state is taken up.
 met : (c : tie.Joined8 Inv-loop2 μ-loop2 Inv-loop μ-loop)
     → Taken (program (c .before .before .before .before .before .before)) (current (c .before .before .before .before .before .before)) (c .if8 .x)
-    (viewOf (c .before .before .before .before .before .before .before .args .arg .now) (c .if8 .slots)) (c .before .if3 .b) (c .if8 .room)
-met c = let h = stands (c .before .before .before) in ⊎-elim
+    (viewOf (columnsOf (c .before .before .before .before .before .before .before .args .lines .now) .arg) (c .if8 .slots)) (c .before .if3 .b) (c .if8 .room)
+met c = let h = stands (c .before .before .before) in let p = c .before .before .op-at .ensures in ⊎-elim
     (λ w. let z = sized (record { before = record { before = c .before; if8 = w .0 }; if9 = w .1 }) in
     taken-is _ _ _ _ _ _ _ (joined (c .before)) (h .fine) (h .target) (h .valid) (h .count) (h .live) _ _ _
-    (took-full _ _ _ _ _ _ _ (joined (c .before)) _ _ _ (w .0 .taken) (z .short (w .2 .taken)) (w .6 ∙ w .3 .ensures) (ap (viewOf _) (w .4)) (w .5)))
+    (took-full _ _ _ _ _ _ _ (joined (c .before)) _ _ _ (sym p ∙ w .0 .taken) (z .short (w .2 .taken)) (w .6 ∙ w .3 .ensures) (ap (viewOf _) (w .4)) (w .5)))
     (⊎-elim
     (λ w. let z = sized (record { before = record { before = c .before; if8 = w .0 }; if9 = w .1 }) in
     let k = rows (record { before = c .before; if8 = w .0 }) .bound in
     let i = w .3 .inv in
     taken-is _ _ _ _ _ _ _ (joined (c .before)) (h .fine) (h .target) (h .valid) (h .count) (h .live) _ _ _
-    (took-wrote _ _ _ _ _ _ _ (joined (c .before)) _ _ _ _ (w .0 .taken) (z .fits (w .2 .left)) (w .8 ∙ w .5 .ensures)
+    (took-wrote _ _ _ _ _ _ _ (joined (c .before)) _ _ _ _ (sym p ∙ w .0 .taken) (z .fits (w .2 .left)) (w .8 ∙ w .5 .ensures)
     (row-out-size _ _ _ _ _ _ _ k (i .3) (w .4 .left)) (ap (viewOf _) (w .6)) (w .7 ∙ row-out _ _ _ _ _ _ _ _ k (i .4) (w .4 .left))))
-    (λ w. taken-step _ _ _ _ _ _ _ (joined (c .before)) (h .fine) (h .target) (h .valid) (h .count) (h .live) _ _ _ (w .0 .left)
+    (λ w. taken-step _ _ _ _ _ _ _ (joined (c .before)) (h .fine) (h .target) (h .valid) (h .count) (h .live) _ _ _ (λ z. w .0 .left (p ∙ z))
     (turned-path (w .5) (ap (viewOf _) (w .3)) ∙ w .2 .ensures) (w .4)))
     (c .if8 .came)
 
@@ -108,73 +113,49 @@ same-length c = c .before .before .before .loop .inv .long
 returns : tie.Need-returns Inv-loop2 μ-loop2 Inv-loop μ-loop
 returns c = here-spent _ _ _ _ _ (c .before .before .before .loop .inv) (c .if2 .taken)
 
-element-copy-out-o : tie.Need-element-copy-out-o Inv-loop2 μ-loop2 Inv-loop μ-loop
-element-copy-out-o c = ready-place _ _ _ _ _ (stands c)
+op-at-requires : tie.Need-op-at-requires Inv-loop2 μ-loop2 Inv-loop μ-loop
+op-at-requires c κs = ready-place _ _ _ _ _ (stands c)
 
-mul-half-index : tie.Need-mul-half-index Inv-loop2 μ-loop2 Inv-loop μ-loop
-mul-half-index c = ready-mul-2 _ _ _ _ _ (stands (c .before .before .before))
-
-element-copy-out-half-index : tie.Need-element-copy-out-half-index Inv-loop2 μ-loop2 Inv-loop μ-loop
-element-copy-out-half-index c = ready-place _ _ _ _ _ (stands (c .before .before .before))
-
-half-index-requires : tie.Need-half-index-requires Inv-loop2 μ-loop2 Inv-loop μ-loop
-half-index-requires c κs = search needs
+arg-at-requires : tie.Need-arg-at-requires Inv-loop2 μ-loop2 Inv-loop μ-loop
+arg-at-requires c κs = ready-place _ _ _ _ _ (stands (c .before .before .before))
 
 mul-y : tie.Need-mul-y Inv-loop2 μ-loop2 Inv-loop μ-loop
-mul-y c = ready-number-mul _ _ _ _ _ (stands (c .before .before .before .before .before)) _ (c .half-index .ensures) (omega (arith, c .before .before .if4 .taken)) (omega (arith, c .before .before .if4 .taken))
+mul-y c = ready-number-mul _ _ _ _ _ (stands (c .before .before .before .before)) _ (c .before .before .before .op-at .ensures) (omega (arith, c .before .if4 .taken)) (omega (arith, c .before .if4 .taken)) _ (c .arg-at .ensures)
 
 array-copy-out-y : tie.Need-array-copy-out-y Inv-loop2 μ-loop2 Inv-loop μ-loop
-array-copy-out-y c = ready-number _ _ _ _ _ (stands (c .before .before .before .before .before)) _ (c .half-index .ensures) (omega (arith, c .before .before .if4 .taken)) (omega (arith, c .before .before .if4 .taken))
+array-copy-out-y c = ready-number _ _ _ _ _ (stands (c .before .before .before .before)) _ (c .before .before .before .op-at .ensures) (omega (arith, c .before .if4 .taken)) (omega (arith, c .before .if4 .taken)) _ (c .arg-at .ensures)
 
-mul-c : tie.Need-mul-c Inv-loop2 μ-loop2 Inv-loop μ-loop
-mul-c c = ready-mul _ _ _ _ _ (stands (c .before .before .before .before .before .before))
-
-element-copy-out-c : tie.Need-element-copy-out-c Inv-loop2 μ-loop2 Inv-loop μ-loop
-element-copy-out-c c = ready-place _ _ _ _ _ (stands (c .before .before .before .before .before .before))
+con-at-requires : tie.Need-con-at-requires Inv-loop2 μ-loop2 Inv-loop μ-loop
+con-at-requires c κs = (ready-place _ _ _ _ _ (stands (c .before .before .before .before .before)), ready-constant _ _ _ _ _ (stands (c .before .before .before .before .before)))
 
 is-sum-requires : tie.Need-is-sum-requires Inv-loop2 μ-loop2 Inv-loop μ-loop
-is-sum-requires c κs = ready-sum _ _ _ _ _ (stands (c .before .before .before .before .before .before .before)) _ (c .before .before .half-index .ensures) (omega (arith, c .before .before .before .before .if4 .taken)) (omega (arith, c .before .before .before .before .if4 .taken))
+is-sum-requires c κs = ready-sum _ _ _ _ _ (stands (c .before .before .before .before .before .before)) _ (c .before .before .before .before .before .op-at .ensures) (omega (arith, c .before .before .before .if4 .taken)) (omega (arith, c .before .before .before .if4 .taken)) _ (c .before .before .arg-at .ensures)
 
-mul-half-index-2 : tie.Need-mul-half-index-2 Inv-loop2 μ-loop2 Inv-loop μ-loop
-mul-half-index-2 c = ready-mul-2 _ _ _ _ _ (stands (c .before .before .before .before .before))
-
-element-copy-out-half-index-2 : tie.Need-element-copy-out-half-index-2 Inv-loop2 μ-loop2 Inv-loop μ-loop
-element-copy-out-half-index-2 c = ready-place _ _ _ _ _ (stands (c .before .before .before .before .before))
-
-half-index-requires-2 : tie.Need-half-index-requires-2 Inv-loop2 μ-loop2 Inv-loop μ-loop
-half-index-requires-2 c κs = search needs
+arg-at-requires-2 : tie.Need-arg-at-requires-2 Inv-loop2 μ-loop2 Inv-loop μ-loop
+arg-at-requires-2 c κs = ready-place _ _ _ _ _ (stands (c .before .before .before .before .before))
 
 mul-b : tie.Need-mul-b Inv-loop2 μ-loop2 Inv-loop μ-loop
-mul-b c = ready-number-mul _ _ _ _ _ (stands (c .before .before .before .before .before .before .before)) _ (c .half-index2 .ensures) (omega (arith, c .before .before .if6 .taken)) (omega (arith, c .before .before .if6 .taken))
+mul-b c = ready-number-mul _ _ _ _ _ (stands (c .before .before .before .before .before .before)) _ (c .before .before .before .before .before .op-at .ensures) (omega (arith, c .before .if6 .taken)) (omega (arith, c .before .if6 .taken)) _ (c .arg-at2 .ensures)
 
 array-set-from-b : tie.Need-array-set-from-b Inv-loop2 μ-loop2 Inv-loop μ-loop
-array-set-from-b c = ready-number _ _ _ _ _ (stands (c .before .before .before .before .before .before .before)) _ (c .half-index2 .ensures) (omega (arith, c .before .before .if6 .taken)) (omega (arith, c .before .before .if6 .taken))
+array-set-from-b c = ready-number _ _ _ _ _ (stands (c .before .before .before .before .before .before)) _ (c .before .before .before .before .before .op-at .ensures) (omega (arith, c .before .if6 .taken)) (omega (arith, c .before .if6 .taken)) _ (c .arg-at2 .ensures)
 
-mul-half-index-3 : tie.Need-mul-half-index-3 Inv-loop2 μ-loop2 Inv-loop μ-loop
-mul-half-index-3 c = ready-mul-2 _ _ _ _ _ (stands (c .before .before .before .before .before))
-
-element-copy-out-half-index-3 : tie.Need-element-copy-out-half-index-3 Inv-loop2 μ-loop2 Inv-loop μ-loop
-element-copy-out-half-index-3 c = ready-place _ _ _ _ _ (stands (c .before .before .before .before .before))
-
-half-index-requires-3 : tie.Need-half-index-requires-3 Inv-loop2 μ-loop2 Inv-loop μ-loop
-half-index-requires-3 c κs = search needs
+arg-at-requires-3 : tie.Need-arg-at-requires-3 Inv-loop2 μ-loop2 Inv-loop μ-loop
+arg-at-requires-3 c κs = ready-place _ _ _ _ _ (stands (c .before .before .before .before .before))
 
 mul-y-2 : tie.Need-mul-y-2 Inv-loop2 μ-loop2 Inv-loop μ-loop
-mul-y-2 c = ready-number-mul _ _ _ _ _ (stands (c .before .before .before .before .before .before .before)) _ (c .half-index3 .ensures) (c .before .before .before .before .before .if3 .taken) (c .before .before .if7 .taken)
+mul-y-2 c = ready-number-mul _ _ _ _ _ (stands (c .before .before .before .before .before .before)) _ (c .before .before .before .before .before .op-at .ensures) (c .before .before .before .before .if3 .taken) (c .before .if7 .taken) _ (c .arg-at3 .ensures)
 
 array-copy-out-y-2 : tie.Need-array-copy-out-y-2 Inv-loop2 μ-loop2 Inv-loop μ-loop
-array-copy-out-y-2 c = ready-number _ _ _ _ _ (stands (c .before .before .before .before .before .before .before)) _ (c .half-index3 .ensures) (c .before .before .before .before .before .if3 .taken) (c .before .before .if7 .taken)
+array-copy-out-y-2 c = ready-number _ _ _ _ _ (stands (c .before .before .before .before .before .before)) _ (c .before .before .before .before .before .op-at .ensures) (c .before .before .before .before .if3 .taken) (c .before .if7 .taken) _ (c .arg-at3 .ensures)
 
-element-copy-out-byte-index : tie.Need-element-copy-out-byte-index Inv-loop2 μ-loop2 Inv-loop μ-loop
-element-copy-out-byte-index c = ready-place _ _ _ _ _ (stands (c .before .before .before .before .before .before .before .before))
-
-byte-index-requires : tie.Need-byte-index-requires Inv-loop2 μ-loop2 Inv-loop μ-loop
-byte-index-requires c κs = search needs
+mat-at-requires : tie.Need-mat-at-requires Inv-loop2 μ-loop2 Inv-loop μ-loop
+mat-at-requires c κs = ready-place _ _ _ _ _ (stands (c .before .before .before .before .before .before .before))
 
 equal-requires : tie.Need-equal-requires Inv-loop2 μ-loop2 Inv-loop μ-loop
 equal-requires c κs =
-    let h = stands (c .before .before .before .before .before .before .before .before .before .before) in
-    (h .target, (c .before .before .before .before .before .before .before .before .before .before .before .before .before .before .pre .0 .placed, (ready-bound _ _ _ _ _ h _ (c .before .before .before .half-index3 .ensures) (c .before .before .before .before .before .before .before .before .if3 .taken) (c .before .before .before .before .before .if7 .taken), h .valid .held)))
+    let h = stands (c .before .before .before .before .before .before .before .before) in
+    (h .target, (c .before .before .before .before .before .before .before .before .before .before .before .before .pre .0 .placed, (ready-bound _ _ _ _ _ h _ (c .before .before .before .before .before .before .before .op-at .ensures) (c .before .before .before .before .before .before .if3 .taken) (c .before .before .before .if7 .taken) _ (c .before .before .arg-at3 .ensures), h .valid .held)))
 
 sub-free : tie.Need-sub-free Inv-loop2 μ-loop2 Inv-loop μ-loop
 sub-free c = rows c .words
@@ -273,27 +254,19 @@ advance-spec =
     loop-holds
     same-length
     returns
-    element-copy-out-o
-    mul-half-index
-    element-copy-out-half-index
-    half-index-requires
+    op-at-requires
+    arg-at-requires
     mul-y
     array-copy-out-y
-    mul-c
-    element-copy-out-c
+    con-at-requires
     is-sum-requires
-    mul-half-index-2
-    element-copy-out-half-index-2
-    half-index-requires-2
+    arg-at-requires-2
     mul-b
     array-set-from-b
-    mul-half-index-3
-    element-copy-out-half-index-3
-    half-index-requires-3
+    arg-at-requires-3
     mul-y-2
     array-copy-out-y-2
-    element-copy-out-byte-index
-    byte-index-requires
+    mat-at-requires
     equal-requires
     sub-free
     add-if9

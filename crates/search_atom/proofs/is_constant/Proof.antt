@@ -10,6 +10,5 @@ is-constant-spec =
     (λ c. search word-rules)  -- add-result
     (λ c. search word-rules)  -- mul-result
     (λ c. search word-rules)  -- shared-slice-copy-out-result
-    (λ c. search word-rules)  -- mul-result-2
-    (λ c. search word-rules)  -- element-copy-out-result
-    (λ c. search word-rules))
+    (λ c κs. search word-rules)  -- con-at-requires
+    (λ c. search word-rules))  -- returns

@@ -2,14 +2,11 @@
 use Rattle.search_atom.proofs.Laws.{slot-rules}
 use Rattle.search_atom.proofs.slot_of.Statement.{statement}
 use Rattle.search_atom.proofs.slot_of.Tie as tie
-use Rattle.value_places.proofs.places.wide.Reads as wide-reads
 
 pub slot-of-spec : {M : Type 1} → statement M
 slot-of-spec =
     tie.close
     (tie.spec
     (λ c. search slot-rules)  -- returns
-    (λ c. search slot-rules)  -- mul-wide
-    (λ c. search slot-rules)  -- copy-wide
-    (λ c κs. search slot-rules)  -- wide-requires
-    (λ c. search slot-rules))
+    (λ c κs. search slot-rules)  -- from-at-requires
+    (λ c. search slot-rules))  -- returns-2

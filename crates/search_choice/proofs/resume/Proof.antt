@@ -11,8 +11,6 @@ resume-spec =
     (tie.spec
     (λ c κs. search resume-rules)  -- slot-of-requires
     (λ c κs. search resume-rules)  -- held-at-requires
-    (λ c. search resume-rules)  -- mul-wide
-    (λ c. search resume-rules)  -- element-copy-out-wide
-    (λ c κs. search resume-rules)  -- wide-requires
+    (λ c κs. search resume-rules)  -- to-at-requires
     (λ c κs. search resume-rules)  -- low-at-requires
     (λ c. search resume-rules))  -- returns

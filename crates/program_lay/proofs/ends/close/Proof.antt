@@ -1,15 +1,15 @@
 -- `program_lay::ends::close` meets its contract. Assumes nothing.
-use Rattle.program_rules.specs.Lines.{columns}
+use Rattle.tables.specs.Line.{columnsOf}
 use Rattle.program_lay.proofs.Closing.{closing-rules, Closing}
 use Rattle.program_lay.proofs.ends.close.Statement.{statement}
 use Rattle.program_lay.proofs.ends.close.Tie as tie
 
 abbrev Inv-loop : tie.InvT-loop
-Inv-loop depth pc slots behind op₀ from₀ arg₀ mat₀ con₀ d₀ q₀ op from arg mat con d q =
-    Closing depth pc slots behind (columns op₀ from₀ arg₀ mat₀ con₀) (columns op from arg mat con) d q
+Inv-loop depth pc slots behind lines₀ d₀ q₀ lines d q =
+    Closing depth pc slots behind (columnsOf lines₀) (columnsOf lines) d q
 
 abbrev μ-loop : tie.MeasureT-loop
-μ-loop depth pc slots behind op₀ from₀ arg₀ mat₀ con₀ d₀ q₀ op from arg mat con d q = d
+μ-loop depth pc slots behind lines₀ d₀ q₀ lines d q = d
 
 pub close-spec : {M : Type 1} → statement M
 close-spec =

@@ -1,6 +1,7 @@
 -- `run_sound::lines::are_lines` meets its contract: the lines before the next one are sound. Assumes nothing.
 use Prim.Native.Nat.{_-_}
 use Rattle.words.specs.Words.{entries}
+use Rattle.tables.specs.Line.{columnsOf}
 use Rattle.tables.specs.Slot.{viewOf}
 use Rattle.run_sound.proofs.Runs.{LinedTo, lines-next, lines-all, lines-rules}
 use borrow.Author.Needs.{needs}
@@ -8,10 +9,10 @@ use Rattle.run_sound.proofs.lines.are_lines.Statement.{statement}
 use Rattle.run_sound.proofs.lines.are_lines.Tie as tie
 
 abbrev Inv-loop : tie.InvT-loop
-Inv-loop s op arg slots j₀ j = LinedTo op s (viewOf arg slots) j
+Inv-loop s lines slots j₀ j = LinedTo (columnsOf lines .op) s (viewOf (columnsOf lines .arg) slots) j
 
 abbrev μ-loop : tie.MeasureT-loop
-μ-loop s op arg slots j₀ j = entries - j
+μ-loop s lines slots j₀ j = entries - j
 
 pub are-lines-spec : {M : Type 1} → statement M
 are-lines-spec = tie.close (tie.spec Inv-loop μ-loop

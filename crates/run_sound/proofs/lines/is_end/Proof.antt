@@ -5,5 +5,5 @@ use Rattle.run_sound.proofs.lines.is_end.Tie as tie
 
 pub is-end-spec : {M : Type 1} → statement M
 is-end-spec = tie.close (tie.spec
-    (λ c. search lines-rules)
+    (λ c κs. search lines-rules)
     (λ c. search lines-rules))

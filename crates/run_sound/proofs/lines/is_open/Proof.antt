@@ -8,7 +8,7 @@ is-open-spec = tie.close (tie.spec
     (λ c. search open-rules)
     (λ c. search open-rules)
     (λ c. search open-rules)
-    (λ c. search open-rules)
+    (λ c κs. search open-rules)
     (λ c κs. search open-rules)
     (λ c κs. search open-rules)
     (λ c. search open-rules))

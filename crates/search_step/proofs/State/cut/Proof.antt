@@ -1,5 +1,4 @@
 -- `search_step::State::cut` meets its contract. Assumes nothing.
-use mathlib.Core.Path.{refl}
 use Rattle.search_step.specs.Steps.{lived, topped}
 use Rattle.search_step.proofs.Laws.{cut-rules}
 use Rattle.search_step.proofs.State.cut.Statement.{statement}
@@ -10,8 +9,6 @@ unfolding lived topped
 cut-spec =
     tie.close
     (tie.spec
-    (λ c. search cut-rules)  -- mul-wide
-    (λ c. search cut-rules)  -- element-copy-out-wide
-    (λ c κs. search cut-rules)  -- wide-requires
+    (λ c κs. search cut-rules)  -- from-at-requires
     (λ c κs. search cut-rules)  -- low-at-requires
     (λ c. search cut-rules))  -- returns

@@ -1,5 +1,4 @@
 -- `search_step::State::drop` meets its contract. Assumes nothing.
-use mathlib.Core.Path.{refl}
 use Rattle.search_step.specs.Steps.{moved}
 use Rattle.search_step.proofs.Laws.{drop-rules}
 use Rattle.search_step.proofs.State.drop.Statement.{statement}
@@ -10,11 +9,7 @@ unfolding moved
 drop-spec =
     tie.close
     (tie.spec
-    (λ c. search drop-rules)  -- mul-wide
-    (λ c. search drop-rules)  -- element-copy-out-wide
-    (λ c κs. search drop-rules)  -- wide-requires
+    (λ c κs. search drop-rules)  -- from-at-requires
     (λ c κs. search drop-rules)  -- held-at-requires
-    (λ c. search drop-rules)  -- mul-wide-2
-    (λ c. search drop-rules)  -- element-copy-out-wide-2
-    (λ c κs. search drop-rules)  -- wide-requires-2
+    (λ c κs. search drop-rules)  -- to-at-requires
     (λ c. search drop-rules))  -- returns

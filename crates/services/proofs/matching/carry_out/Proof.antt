@@ -9,7 +9,8 @@ use Rattle.services.proofs.matching.carry_out.Tie as tie
 pub carry-out-spec : {M : Type 1} → statement M
 unfolding told matched
 carry-out-spec = tie.close (tie.spec
+    (λ c κs. search needs)
     (λ c κs. search (matcher-few, pattern-few, needs))
-    (λ c κs. search (ready-target, ready-some, ready-fine, needs))
+    (λ c κs. (search (ready-target, needs), (search (ready-some, needs), search (ready-fine, needs))))
     (λ c. search needs)
     (λ c. search (ready-match, needs)))

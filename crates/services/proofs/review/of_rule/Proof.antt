@@ -10,8 +10,9 @@ use Rattle.services.proofs.review.of_rule.Tie as tie
 pub of-rule-spec : {M : Type 1} → statement M
 unfolding reviewed declined
 of-rule-spec = tie.close (tie.spec
+    (λ c κs. search needs)
     (λ c κs. search (matcher-few, pattern-few, needs))
     (λ c κs. search needs)
     (λ c. search (always-given, always-rows, needs))
     (λ c κs. search needs)
-    (λ c. let k = toZ-ofZ (c .before .before .before .before .before .before .before .before .before .before .before .before .fits .cap) in search (counted-given, counted-rows, k, needs)))
+    (λ c. let k = toZ-ofZ (c .before .before .before .before .before .before .before .before .fits .cap) in search (counted-given, counted-rows, k, needs)))
