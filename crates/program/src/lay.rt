@@ -43,9 +43,8 @@ pub fn lay(m: &[i32], p: &[i32], lines: &mut Lines) -> usize
         if 7 < o {
             let e = reserved(p, at, o);
             let j = first_under(o, i);
-            let u = second_under(m, o, i);
             depth += 1;
-            under[depth] = u;
+            under[depth] = second_under(m, o, i);
             slots[depth] = slot_by(o, pc, f);
             behind[depth] = behind_by(o, e);
             pc = divide(o, e, from_by(o, f), i, pc, lines);
