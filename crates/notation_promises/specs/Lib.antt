@@ -5,3 +5,4 @@ pub mod Numbers
 pub mod Patterns
 pub mod Units
 pub mod Main
+pub mod Accepted

@@ -18,4 +18,5 @@ pub mod KeptUnits
 pub mod Kept
 pub mod Quoted
 pub mod Worked
+pub mod Published
 pub mod Main
