@@ -22,7 +22,7 @@ pub enum Per {
 }
 
 /// The deepest stack of a match call that is allowed, in bytes.
-pub const STACK_BAR: usize = 28_672;
+pub const STACK_BAR: usize = 28_928;
 
 /// The most instructions for a word of a book of 1,000 rules that is tested and listed, block by block.
 pub const LISTING_BAR: u64 = 40;
@@ -63,10 +63,10 @@ pub const CASES: [Case; 12] = [
         matcher: LIST, pattern: THREE_IN_A_ROW, target: || units(64, |k| k), budget: u32::MAX },
     Case { name: "T10", about: "twelve hands of six, as multisets", bar: 3275, per: Per::Step,
         matcher: HANDS, pattern: TWO_OF_A_RANK, target: || hands(12), budget: u32::MAX },
-    Case { name: "none", about: "budget 0 on 64 units, whole call", bar: 52_400, per: Per::Call,
+    Case { name: "none", about: "budget 0 on 64 units, whole call", bar: 52_700, per: Per::Call,
         matcher: MULTISET, pattern: TWO_OF_A_RANK, target: || units(64, |_| 7), budget: 0 },
     // with some twenty for the caller's own instructions, which differ from compiler to compiler
-    Case { name: "P1", about: "two of a rank, {2 8 2}, whole call", bar: 33_000, per: Per::Call,
+    Case { name: "P1", about: "two of a rank, {2 8 2}, whole call", bar: 33_200, per: Per::Call,
         matcher: MULTISET, pattern: TWO_OF_A_RANK, target: || vec![1, 3, 0, 2, 0, 8, 0, 2], budget: u32::MAX },
 ];
 
