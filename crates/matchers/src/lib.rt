@@ -1,4 +1,5 @@
 // Where the matchers stand in a matcher's words: each is known by the index of its tag. Total on any words.
+use words::matcher;
 use words::tag_at;
 ghost use mathlib.Core.Path.{_≡_};
 ghost use Rattle.matchers.specs.Places.{widthAt, partsAt, wordsAt, matcherEnd};
@@ -19,13 +20,13 @@ fn parts_at(ms: &[i32], at: usize) -> usize
     ensures { λ r. ⌜ r ≡ partsAt (now (ms .entry)) at ⌝ }
 {
     let t = tag_at(ms, at);
-    if t == 4 {
+    if t == matcher::TUPLE {
         return width_at(ms, at + 1);
     }
-    if t == 2 {
+    if t == matcher::LIST {
         return 1;
     }
-    if t == 3 {
+    if t == matcher::MULTISET {
         return 1;
     }
     0
@@ -36,7 +37,7 @@ fn words_at(ms: &[i32], at: usize) -> usize
     ensures { λ r. ⌜ r ≡ wordsAt (now (ms .entry)) at ⌝ }
 {
     let t = tag_at(ms, at);
-    if t == 4 {
+    if t == matcher::TUPLE {
         return 2;
     }
     1

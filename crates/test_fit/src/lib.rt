@@ -8,6 +8,8 @@ use test_forms::PATTERN_WORDS;
 use test_forms::Tested;
 use test_forms::table::Row;
 use test_forms::table::row_of;
+use words::matcher;
+use words::pattern;
 use words::tag_at;
 ghost use mathlib.Core.Path.{_≡_};
 ghost use Prim.Native.Nat.{_+_, _≤_, _<_, _^_};
@@ -36,7 +38,7 @@ fn first_part(t: u32, i: usize) -> usize
     requires { ⌜ i + 1 < 2 ^ 64 ⌝ }
     ensures { λ r. ⌜ r ≡ firstOf t i ⌝ }
 {
-    if t == 5 { i + 1 } else { i }
+    if t == pattern::CONS { i + 1 } else { i }
 }
 
 // A tuple of n parts under the matcher i.
@@ -64,7 +66,7 @@ fn value_fits(ms: &[i32], i: usize, under: &[usize], next: usize, v: u32, c: u32
     if !same_shape(ms, i, under[at]) {
         return false;
     }
-    if tag_at(ms, i) == 1 {
+    if tag_at(ms, i) == matcher::INTEGER {
         return true;
     }
     c == 0
@@ -82,10 +84,10 @@ fn here_at(ms: &[i32], i: usize, ps: &[i32], at: usize, under: &[usize], next: u
             if !taken {
                 return Here::Misfit;
             }
-            if t == 1 {
+            if t == pattern::VARIABLE {
                 return Here::Bind(operands);
             }
-            if t == 3 {
+            if t == pattern::VALUE {
                 if value_fits(ms, i, under, next, tag_at(ps, at + 1), tag_at(ps, at + 2)) {
                     return Here::Leaf(operands);
                 }

@@ -3,6 +3,7 @@ use matchers::matcher_end;
 use test_forms::LARGEST_WIDTH;
 use test_forms::LEAST_WIDTH;
 use test_forms::between;
+use words::matcher;
 use words::tag_at;
 ghost use mathlib.Core.Path.{_≡_};
 ghost use Rattle.test_fit.specs.Shapes.{widthFits, tagFits, wordFits, widthNext, shapes};
@@ -22,10 +23,14 @@ pub fn width_fits(k: u32, n: u32) -> bool
 fn tag_fits(x: u32, y: u32) -> bool
     ensures { λ r. ⌜ r ≡ tagFits x y ⌝ }
 {
-    if between(2, x, 3) {
-        return between(2, y, 3);
+    if between(matcher::LIST, x, matcher::MULTISET) {
+        return between(matcher::LIST, y, matcher::MULTISET);
     }
-    if x == y { between(1, x, 4) } else { false }
+    if x == y {
+        between(matcher::INTEGER, x, matcher::TUPLE)
+    } else {
+        false
+    }
 }
 
 // Two words of matchers: the widths of tuples, or tags.
@@ -43,7 +48,7 @@ fn word_fits(width: bool, x: u32, y: u32) -> bool
 fn width_next(width: bool, x: u32) -> bool
     ensures { λ r. ⌜ r ≡ widthNext width x ⌝ }
 {
-    if width { false } else { x == 4 }
+    if width { false } else { x == matcher::TUPLE }
 }
 
 // Whether something does not occur in the matcher i, and the matcher j is of the same shape.

@@ -1,5 +1,7 @@
 // The tag table of section 2 as one decision over tag numbers and the matcher's tag.
 use super::between;
+use words::matcher;
+use words::pattern;
 ghost use mathlib.Core.Path.{_≡_};
 ghost use Rattle.test_forms.specs.Table.{rowOf};
 
@@ -15,17 +17,17 @@ pub fn row_of(m: u32, t: u32) -> Row
     ensures { λ r. ⌜ r ≡ rowOf m t ⌝ }
 {
     match t {
-        0 => Row::Known(0, 0, between(0, m, 4)),
-        1 => Row::Known(1, 0, between(0, m, 4)),
-        2 => Row::Known(1, 0, between(1, m, 1)),
-        3 => Row::Known(2, 0, between(1, m, 4)),
-        4 => Row::Known(0, 0, between(2, m, 3)),
-        5 => Row::Known(0, 2, between(2, m, 3)),
-        6 => Row::Known(0, 2, between(2, m, 2)),
-        7 => Row::Wide(between(4, m, 4)),
-        8 => Row::Known(0, 2, between(0, m, 4)),
-        9 => Row::Known(0, 2, between(0, m, 4)),
-        10 => Row::Known(0, 1, between(0, m, 4)),
+        pattern::WILDCARD => Row::Known(0, 0, between(matcher::SOMETHING, m, matcher::TUPLE)),
+        pattern::VARIABLE => Row::Known(1, 0, between(matcher::SOMETHING, m, matcher::TUPLE)),
+        pattern::CONSTANT => Row::Known(1, 0, between(matcher::INTEGER, m, matcher::INTEGER)),
+        pattern::VALUE => Row::Known(2, 0, between(matcher::INTEGER, m, matcher::TUPLE)),
+        pattern::NIL => Row::Known(0, 0, between(matcher::LIST, m, matcher::MULTISET)),
+        pattern::CONS => Row::Known(0, 2, between(matcher::LIST, m, matcher::MULTISET)),
+        pattern::JOIN => Row::Known(0, 2, between(matcher::LIST, m, matcher::LIST)),
+        pattern::TUPLE => Row::Wide(between(matcher::TUPLE, m, matcher::TUPLE)),
+        pattern::AND => Row::Known(0, 2, between(matcher::SOMETHING, m, matcher::TUPLE)),
+        pattern::OR => Row::Known(0, 2, between(matcher::SOMETHING, m, matcher::TUPLE)),
+        pattern::NOT => Row::Known(0, 1, between(matcher::SOMETHING, m, matcher::TUPLE)),
         11..=4294967295 => Row::Unknown,
     }
 }

@@ -1,7 +1,10 @@
 // Test 5: the words are one whole target in the limits; a fault has a cause beside its place. Elements and parts are read by recursion, the remaining depth falling at each call.
 use test_forms::Ended;
+use test_forms::LARGEST_WIDTH;
+use test_forms::LEAST_WIDTH;
 use test_forms::between;
 use words::tag_at;
+use words::target;
 ghost use mathlib.Core.Path.{_≡_};
 ghost use Rattle.rules.specs.Reading.{readTarget};
 ghost use Rattle.rules.specs.Causes.{causeOf};
@@ -19,6 +22,15 @@ pub enum Found {
     Fault(usize, u32),
 }
 
+// The limits of a target and of a collection.
+pub const TARGET_WORDS: usize = 1024;
+
+pub const ELEMENTS: u32 = 64;
+
+// How deep the collections and tuples of a target stand.
+pub const TARGET_LEVELS: u32 = 8;
+
+// The causes of a target's fault.
 pub const OVER_LENGTH: u32 = 1;
 
 pub const UNKNOWN_TAG: u32 = 2;
@@ -37,42 +49,50 @@ pub const BAD_WIDTH: u32 = 7;
 fn count_fits(t: u32, n: u32) -> bool
     ensures { λ r. ⌜ r ≡ countFits t n ⌝ }
 {
-    if t == 1 { n <= 64 } else { between(2, n, 4) }
+    if t == target::COLLECTION {
+        n <= ELEMENTS
+    } else {
+        between(LEAST_WIDTH, n, LARGEST_WIDTH)
+    }
 }
 
 // The cause where it may not.
 fn count_cause(t: u32) -> u32
     ensures { λ r. ⌜ r ≡ countCause t ⌝ }
 {
-    if t == 1 { BAD_COUNT } else { BAD_WIDTH }
+    if t == target::COLLECTION {
+        BAD_COUNT
+    } else {
+        BAD_WIDTH
+    }
 }
 
 // The cause at an index whose word is wrong: where there is none, the words are cut short.
-fn cause_at(s: &[i32], at: usize, wrong: u32) -> u32
-    ensures { λ r. ⌜ r ≡ causeAt (now (s .entry)) at wrong ⌝ }
+fn cause_at(ts: &[i32], at: usize, wrong: u32) -> u32
+    ensures { λ r. ⌜ r ≡ causeAt (now (ts .entry)) at wrong ⌝ }
 {
-    if at < s.len() { wrong } else { CUT_SHORT }
+    if at < ts.len() { wrong } else { CUT_SHORT }
 }
 
 // Whether an integer stands whole at an index.
-pub fn plain_at(s: &[i32], at: usize) -> bool
-    ensures { λ r. ⌜ r ≡ plainAt (now (s .entry)) at ⌝ }
+pub fn plain_at(ts: &[i32], at: usize) -> bool
+    ensures { λ r. ⌜ r ≡ plainAt (now (ts .entry)) at ⌝ }
 {
-    if tag_at(s, at) == 0 {
-        at + 1 < s.len()
+    if tag_at(ts, at) == target::INTEGER {
+        at + 1 < ts.len()
     } else {
         false
     }
 }
 
 // How many integers stand whole from an index on, one after the other, at most n.
-pub fn plain_run(s: &[i32], at: usize, n: u32) -> u32
-    ensures { λ r. ⌜ r ≡ plainRun (now (s .entry)) n at ⌝ }
+pub fn plain_run(ts: &[i32], at: usize, n: u32) -> u32
+    ensures { λ r. ⌜ r ≡ plainRun (now (ts .entry)) n at ⌝ }
 {
     let mut end = at;
     let mut i: u32 = 0;
     while i < n {
-        if plain_at(s, end) {
+        if plain_at(ts, end) {
             end += 2;
             i += 1;
         } else {
@@ -83,15 +103,15 @@ pub fn plain_run(s: &[i32], at: usize, n: u32) -> u32
 }
 
 // The value at an index, in which so many collections or tuples may stand one inside the other.
-fn read_value(s: &[i32], at: usize, depth: u32) -> Valued
-    ensures { λ r. ⌜ r ≡ valuedFrom (now (s .entry)) depth at ⌝ }
+fn read_value(ts: &[i32], at: usize, depth: u32) -> Valued
+    ensures { λ r. ⌜ r ≡ valuedFrom (now (ts .entry)) depth at ⌝ }
 {
-    let t = tag_at(s, at);
-    if 2 < t {
-        return Valued::Bad(at, cause_at(s, at, UNKNOWN_TAG));
+    let t = tag_at(ts, at);
+    if target::TUPLE < t {
+        return Valued::Bad(at, cause_at(ts, at, UNKNOWN_TAG));
     }
-    if t == 0 {
-        return if at + 1 < s.len() {
+    if t == target::INTEGER {
+        return if at + 1 < ts.len() {
             Valued::End(at + 2)
         } else {
             Valued::Bad(at + 1, CUT_SHORT)
@@ -100,17 +120,17 @@ fn read_value(s: &[i32], at: usize, depth: u32) -> Valued
     if depth == 0 {
         return Valued::Bad(at, TOO_DEEP);
     }
-    let mut left = tag_at(s, at + 1);
+    let mut left = tag_at(ts, at + 1);
     if !count_fits(t, left) {
-        return Valued::Bad(at + 1, cause_at(s, at + 1, count_cause(t)));
+        return Valued::Bad(at + 1, cause_at(ts, at + 1, count_cause(t)));
     }
     let mut e = at + 2;
     while 0 < left {
-        if plain_at(s, e) {
+        if plain_at(ts, e) {
             e += 2;
             left -= 1;
         } else {
-            match read_value(s, e, depth - 1) {
+            match read_value(ts, e, depth - 1) {
                 Valued::End(x) => {
                     e = x;
                     left -= 1;
@@ -123,22 +143,22 @@ fn read_value(s: &[i32], at: usize, depth: u32) -> Valued
 }
 
 // Where it ends, or the place of the first word at fault.
-pub fn value_end(s: &[i32], at: usize, depth: u32) -> Ended
-    ensures { λ r. ⌜ r ≡ valueFrom (now (s .entry)) depth at ⌝ }
+pub fn value_end(ts: &[i32], at: usize, depth: u32) -> Ended
+    ensures { λ r. ⌜ r ≡ valueFrom (now (ts .entry)) depth at ⌝ }
 {
-    match read_value(s, at, depth) {
+    match read_value(ts, at, depth) {
         Valued::End(e) => Ended::End(e),
         Valued::Bad(i, _) => Ended::Bad(i),
     }
 }
 
 // What the end of a value says where it is to be the whole slice: a word that is left over is at fault.
-fn whole_value(s: &[i32], e: Valued) -> Found
-    ensures { λ r. ⌜ r ≡ wholeValue (now (s .entry)) e ⌝ }
+fn whole_value(ts: &[i32], e: Valued) -> Found
+    ensures { λ r. ⌜ r ≡ wholeValue (now (ts .entry)) e ⌝ }
 {
     match e {
         Valued::End(at) => {
-            if at < s.len() {
+            if at < ts.len() {
                 Found::Fault(at, LEFT_OVER)
             } else {
                 Found::Passed
@@ -149,11 +169,11 @@ fn whole_value(s: &[i32], e: Valued) -> Found
 }
 
 // Whether the words are one whole target.
-pub fn test_target(s: &[i32]) -> Found
-    ensures { λ r. ⌜ r ≡ found (readTarget (now (s .entry))) (causeOf (now (s .entry))) ⌝ }
+pub fn test_target(ts: &[i32]) -> Found
+    ensures { λ r. ⌜ r ≡ found (readTarget (now (ts .entry))) (causeOf (now (ts .entry))) ⌝ }
 {
-    if 1024 < s.len() {
-        return Found::Fault(1024, OVER_LENGTH);
+    if TARGET_WORDS < ts.len() {
+        return Found::Fault(TARGET_WORDS, OVER_LENGTH);
     }
-    whole_value(s, read_value(s, 0, 8))
+    whole_value(ts, read_value(ts, 0, TARGET_LEVELS))
 }

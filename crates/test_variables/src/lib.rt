@@ -7,6 +7,8 @@ use test_forms::between;
 use test_forms::pattern::test_pattern;
 use test_forms::table::Row;
 use test_forms::table::row_of;
+use words::matcher;
+use words::pattern;
 use words::tag_at;
 ghost use mathlib.Core.Path.{_≡_};
 ghost use mathlib.Core.Bool.{true};
@@ -30,13 +32,13 @@ fn allowed(t: u32, v: u32, inside: u32, n: u32) -> bool
     ensures { λ r. ⌜ r ≡ allowedTag t v inside n ⌝ }
 {
     match t {
-        1 => {
+        pattern::VARIABLE => {
             if 0 < inside {
                 return false;
             }
             if v == n { n < VARIABLES } else { false }
         }
-        3 => v < n,
+        pattern::VALUE => v < n,
         _ => true,
     }
 }
@@ -47,7 +49,11 @@ fn inside_after(t: u32, parts: u32, inside: u32) -> u32
     ensures { λ r. ⌜ r ≡ insideAfter t parts inside ⌝ }
 {
     if inside == 0 {
-        if between(9, t, 10) { parts } else { 0 }
+        if between(pattern::OR, t, pattern::NOT) {
+            parts
+        } else {
+            0
+        }
     } else {
         inside - 1 + parts
     }
@@ -74,13 +80,13 @@ pub fn walk(ps: &[i32]) -> Counted
             if !allowed(t, v, inside, next) {
                 return Counted::Fault(at);
             }
-            match row_of(0, t) {
+            match row_of(matcher::SOMETHING, t) {
                 Row::Unknown => return Counted::Fault(at),
                 Row::Known(operands, parts, _) => {
                     inside = inside_after(t, parts, inside);
                     skip = operands;
                     at += 1;
-                    if t == 1 {
+                    if t == pattern::VARIABLE {
                         next += 1;
                     }
                 }

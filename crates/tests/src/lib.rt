@@ -4,6 +4,7 @@ use test_forms::Tested;
 use test_forms::matcher::test_matcher;
 use test_forms::pattern::test_pattern;
 use test_target::Found;
+use test_target::TARGET_LEVELS;
 use test_target::test_target;
 use test_unfit::fit_end;
 use test_variables::Counted;
@@ -34,9 +35,6 @@ pub const MISFIT: u32 = 4;
 pub const TARGET: u32 = 5;
 
 pub const UNFIT: u32 = 6;
-
-// How deep the collections and tuples of a target stand.
-pub const TARGET_LEVELS: u32 = 8;
 
 // Tests 1 to 4, each over its whole slice.
 pub fn rule_refused(ms: &[i32], ps: &[i32]) -> Judgement

@@ -1,6 +1,9 @@
 // Leaves on words: a signed word as an unsigned tag, the sum of tag 3, and a word's bits. Above them all arithmetic is unsigned.
 pub mod casts;
 pub mod marks;
+pub mod matcher;
+pub mod pattern;
+pub mod target;
 
 ghost use mathlib.Core.Path.{_≡_};
 ghost use Prim.Native.Nat.{_<_, _^_};
@@ -14,22 +17,21 @@ ghost use Rattle.words.specs.Words.{tagZ, tagAt, sameTo};
 // The entries of a program's arrays and of the tables of its slots, one for each line; 256 words make at most 641 lines.
 pub const ENTRIES: usize = 650;
 
-// A word's number, or 2147483648, which no word has, where it is negative.
+// The tag of a word that has none: no word is this number.
+pub const NO_TAG: u32 = 2147483648;
+
+// A word's number, or NO_TAG where it is negative.
 pub fn tag_of(w: i32) -> u32
     ensures { λ r. ⌜ r ≡ tagZ w ⌝ }
 {
-    if w < 0 { 2147483648 } else { w as u32 }
+    if w < 0 { NO_TAG } else { w as u32 }
 }
 
-// The tag at an index, and 2147483648 past the end.
+// The tag at an index, and NO_TAG past the end.
 pub fn tag_at(s: &[i32], at: usize) -> u32
     ensures { λ r. ⌜ r ≡ tagAt (now (s .entry)) at ⌝ }
 {
-    if at < s.len() {
-        tag_of(s[at])
-    } else {
-        2147483648
-    }
+    if at < s.len() { tag_of(s[at]) } else { NO_TAG }
 }
 
 fn wide(x: i32) -> i64
