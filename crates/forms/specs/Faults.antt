@@ -13,9 +13,9 @@ use Rattle.rules.specs.Forms.{Matcher, Pattern, Value}
 use Rattle.rules.specs.Reading.{Verdict, ok, fault, readMatcher, readPattern, readTarget}
 use Rattle.rules.specs.Variables.{variables}
 use Rattle.rules.specs.Fit.{fits, fitsValue}
-use Rattle.rules.specs.Search.{atom, endOfNot, State, state, after, leaveNot, start, Run, stopped, rowStep, run}
+use Rattle.rules.specs.Search.{atom, endOfNot, State, state, after, leaveNot, start, Run, stopped, rowStep, run, runIn}
 use Rattle.rules.specs.Rows.{Form, asWords, row}
-use Rattle.rules.specs.Services.{Judged, accepted, refused, test, Rule, ruleOf, targetOf, Matched, causeIn, turnedAway, carriedOut, matchTarget, matchRule, matchIn}
+use Rattle.rules.specs.Services.{Judged, accepted, refused, test, Rule, ruleIn, ruleOf, targetOf, Matched, causeIn, turnedAway, carriedOut, matchTarget, matchRule, matchOf, matchIn}
 
 -- ---- The tests, in their order: what each answer means.
 
@@ -56,7 +56,7 @@ RuleIs ms ps (accepted r) = WellFormed ms ps r
 RuleIs ms ps (refused a i) = RuleFault ms ps a i
 
 rule-is : (ms ps : List ℤ) → RuleIs ms ps (ruleOf ms ps)
-unfolding RuleIs ruleOf
+unfolding RuleIs ruleIn
 rule-is ms ps =
     test-cases (RuleIs ms ps) 1 (readMatcher ms) _ (λ i e. notMatcher e) λ m a.
     test-cases (RuleIs ms ps) 2 (readPattern ps) _ (λ i e. notPattern a e) λ p b.
@@ -76,14 +76,14 @@ target-is m ts =
     record { target = a; fit = b }
 
 rule-fault : (ms ps : List ℤ) (a i : ℕ) → RuleFault ms ps a i → ruleOf ms ps ≡ refused a i
-unfolding ruleOf
+unfolding ruleIn
 rule-fault ms ps a i (notMatcher e) = rw e
 rule-fault ms ps a i (notPattern x e) = rw (x, e)
 rule-fault ms ps a i (misnumbered x y e) = rw (x, y, e)
 rule-fault ms ps a i (misfit x y z e) = rw (x, y, z, e)
 
 pub rule-accepted : (ms ps : List ℤ) (r : Rule) → ruleOf ms ps ≡ accepted r ↔ WellFormed ms ps r
-unfolding RuleIs ruleOf
+unfolding RuleIs ruleIn
 rule-accepted ms ps r = ((λ e. subst (RuleIs ms ps) e (rule-is ms ps)), λ w. rw (w .matcher, w .pattern, w .numbered .1, w .fitting .1))
 
 pub rule-refused : (ms ps : List ℤ) (a i : ℕ) → ruleOf ms ps ≡ refused a i ↔ RuleFault ms ps a i
@@ -136,14 +136,14 @@ rule-causeless ts (misfit x y z e) = refl
 
 module _ (form : Form) (ms ps ts : List ℤ) (budget : ℕ) (room : List ℤ) where
   pub match-turned : (a i : ℕ) → Fault ms ps ts a i → matchIn form ms ps ts budget room ≡ turnedAway a i (causeIn a ts) room
-  unfolding matchIn
+  unfolding matchOf
   match-turned a i (ofRule f) = ap (matchRule form budget room ts) (rule-fault ms ps a i f) ∙ ap (λ c. turnedAway a i c room) (rule-causeless ts f)
   match-turned a i (ofTarget r w f) =
       ap (matchRule form budget room ts) (rule-accepted ms ps r .1 w) ∙ ap (matchTarget form budget room ts r) (target-fault (r .matcher) ts a i f)
 
   pub match-ran : (r : Rule) (v : Value) → Sane ms ps ts r v
       → matchIn form ms ps ts budget room ≡ carriedOut (run form budget (start (r .matcher) (r .pattern) v ∷ []) (length room)) room
-  unfolding matchIn
+  unfolding matchOf
   match-ran r v s =
       ap (matchRule form budget room ts) (rule-accepted ms ps r .1 (s .rule)) ∙ ap (matchTarget form budget room ts r) (target-accepted (r .matcher) ts v .1 (s .target))
 
@@ -187,7 +187,7 @@ row-answer true ws r h a b = h a b
 row-answer false ws r h a b = omega (arith, b)
 
 run-answer : (form : Form) (n free : ℕ) (ss : List State) → 1 ≤ (run form n ss free) .answer → (run form n ss free) .answer ≤ 6 → ⊥
-unfolding run
+unfolding runIn
 run-answer form zero free [] a b = omega (arith, a)
 run-answer form zero free (s ∷ ss) a b = omega (arith, b)
 run-answer form (suc n) free [] a b = omega (arith, a)

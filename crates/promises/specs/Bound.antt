@@ -14,7 +14,8 @@ use Rattle.rules.specs.Forms.{Value, int, collection, tupled, Values, count}
 use Rattle.rules.specs.Origins.{Valueᵒ, intᵒ, collectionᵒ, tupledᵒ, Valuesᵒ, emptyᵒ, _▸ᵒ_, Bindings, plain, plainAll, target}
 use Rattle.rules.specs.Fit.{element, members, isSomething}
 use Rattle.rules.specs.Equality.{isConstant, isValue, isEmpty}
-use Rattle.rules.specs.Search.{Taking, takings, behind, cuts, longer, Halves, consHalves, joinHalves, start}
+use Rattle.rules.specs.Search.{Taking, takings, behind, cuts, longer, Halves, consHalves, consHalvesIn, joinHalves, start}
+use Rattle.rules.specs.Dialects.{Dialect}
 use Rattle.rules.specs.Ways.{Way}
 use Rattle.rules.specs.Review.{leafSteps, consFactor, factor, factorAll, summed, summedAll, formula}
 use Rattle.forms.specs.Written.{largest, largestOf}
@@ -24,6 +25,7 @@ use Rattle.forms.specs.Lists.{Mem, length-flatMap-le}
 use Rattle.forms.specs.Origins.{plain-target}
 use Rattle.rules.specs.Following.{Solution, up, numbered, isMultiset, mark, chain, onSide, combine, just, whenSo, noSolution, solve, solveEach}
 use Rattle.promises.specs.Choices.{in-numbered}
+use Rattle.promises.specs.FirstPlaces.{halves-some, some-length, some-member}
 use Rattle.promises.specs.Trace.{found, Met, taken, ended, pass, onlyIf, inside, visit, visitEach, met, close, trace}
 
 -- ---- A cons or a join has no more choices than its factor says.
@@ -57,6 +59,9 @@ cons-count cap gone (multiset m) (intᵒ o x) h = omega arith
 cons-count cap gone (multiset m) (collectionᵒ o vs) h = simp length-map (omega (arith, length-takings vs))
 cons-count cap gone (multiset m) (tupledᵒ o vs) h = omega arith
 cons-count cap gone (tupleOf ms) v h = omega arith
+
+choices-count : (dialect : Dialect) (cap gone : ℕ) (m : Matcher) (v : Valueᵒ) → held (plain v) + gone ≤ cap → length (consHalvesIn dialect m v) ≤ consFactor cap gone m
+choices-count dialect cap gone m v h = le-trans (some-length (halves-some dialect m v)) (cons-count cap gone m v h)
 
 join-count : (cap : ℕ) (v : Valueᵒ) → largest (plain v) ≤ cap → length (joinHalves v) ≤ suc cap
 unfolding joinHalves largest plain
@@ -171,39 +176,39 @@ inside-cost (ended ∷ ms) ns a n h k = omega arith
 mutual
   unfolding visit horner largest Suits plain
 
-  pub visit-cost : (cap gone : ℕ) (p : Pattern) (m : Matcher) (v : Valueᵒ) (e : Bindings) (k : Bindings → List Met) (n : ℕ)
-      → Fine cap gone m (plain v) → ((d : Bindings) → length (k d) ≤ n) → length (visit p m v e k) ≤ horner cap gone p m n
-  visit-cost cap gone wildcard m v e k n s h = leaf-cost (isSomething m) (k e) n (h e)
-  visit-cost cap gone nil m v e k n s h = test-cost (isEmpty (plain v)) (k e) n (h e)
-  visit-cost cap gone (variable x) m v e k n s h = leaf-cost (isSomething m) (k (e ++ (v ∷ []))) n (h (e ++ (v ∷ [])))
-  visit-cost cap gone (constant c) m v e k n s h = test-cost (isConstant c (plain v)) (k e) n (h e)
-  visit-cost cap gone (value x c) m v e k n s h = test-cost (isValue m (map plain e) x c (plain v)) (k e) n (h e)
-  visit-cost cap gone (cons p q) m v e k n s h = both-cost _ (consHalves m v) (consFactor cap gone m) _ (cons-count cap gone m v (s .left))
-      (λ g i. let j = cons-fine cap gone m v s g i in
-      visit-cost cap 0 p (element m) (g .first) e _ _ (j .0) (λ d. visit-cost cap (suc gone) q m (g .second) d k n (j .1) h))
-  visit-cost cap gone (join p q) m v e k n s h = both-cost _ (joinHalves v) (suc cap) _ (join-count cap v (s .small))
+  pub visit-cost : (dialect : Dialect) (cap gone : ℕ) (p : Pattern) (m : Matcher) (v : Valueᵒ) (e : Bindings) (k : Bindings → List Met) (n : ℕ)
+      → Fine cap gone m (plain v) → ((d : Bindings) → length (k d) ≤ n) → length (visit dialect p m v e k) ≤ horner cap gone p m n
+  visit-cost dialect cap gone wildcard m v e k n s h = leaf-cost (isSomething m) (k e) n (h e)
+  visit-cost dialect cap gone nil m v e k n s h = test-cost (isEmpty (plain v)) (k e) n (h e)
+  visit-cost dialect cap gone (variable x) m v e k n s h = leaf-cost (isSomething m) (k (e ++ (v ∷ []))) n (h (e ++ (v ∷ [])))
+  visit-cost dialect cap gone (constant c) m v e k n s h = test-cost (isConstant c (plain v)) (k e) n (h e)
+  visit-cost dialect cap gone (value x c) m v e k n s h = test-cost (isValue m (map plain e) x c (plain v)) (k e) n (h e)
+  visit-cost dialect cap gone (cons p q) m v e k n s h = both-cost _ (consHalvesIn dialect m v) (consFactor cap gone m) _ (choices-count dialect cap gone m v (s .left))
+      (λ g i. let j = cons-fine cap gone m v s g (some-member (halves-some dialect m v) g i) in
+      visit-cost dialect cap 0 p (element m) (g .first) e _ _ (j .0) (λ d. visit-cost dialect cap (suc gone) q m (g .second) d k n (j .1) h))
+  visit-cost dialect cap gone (join p q) m v e k n s h = both-cost _ (joinHalves v) (suc cap) _ (join-count cap v (s .small))
       (λ g i. let j = join-fine cap gone m v s g i in
-      visit-cost cap 0 p m (g .first) e _ _ (j .0) (λ d. visit-cost cap 0 q m (g .second) d k n (j .1) h))
-  visit-cost cap gone (tuple ps) m (intᵒ o x) e k n s h = omega arith
-  visit-cost cap gone (tuple ps) m (collectionᵒ o vs) e k n s h = omega arith
-  visit-cost cap gone (tuple ps) m (tupledᵒ o vs) e k n s h =
-      omega (arith, visit-each-cost cap ps (members m) vs e k n (tuple-suits m (plainAll vs) (s .suits), s .small) h)
-  visit-cost cap gone (both p q) m v e k n s h = omega (arith, visit-cost cap gone p m v e (λ d. visit q m v d k) (horner cap gone q m n) s (λ d. visit-cost cap gone q m v d k n s h))
-  visit-cost cap gone (either p q) m v e k n s h =
-      omega (arith, length-append (visit p m v e k) (visit q m v e k), visit-cost cap gone p m v e k n s h, visit-cost cap gone q m v e k n s h)
-  visit-cost cap gone (never p) m v e k n s h = omega (
+      visit-cost dialect cap 0 p m (g .first) e _ _ (j .0) (λ d. visit-cost dialect cap 0 q m (g .second) d k n (j .1) h))
+  visit-cost dialect cap gone (tuple ps) m (intᵒ o x) e k n s h = omega arith
+  visit-cost dialect cap gone (tuple ps) m (collectionᵒ o vs) e k n s h = omega arith
+  visit-cost dialect cap gone (tuple ps) m (tupledᵒ o vs) e k n s h =
+      omega (arith, visit-each-cost dialect cap ps (members m) vs e k n (tuple-suits m (plainAll vs) (s .suits), s .small) h)
+  visit-cost dialect cap gone (both p q) m v e k n s h = omega (arith, visit-cost dialect cap gone p m v e (λ d. visit dialect q m v d k) (horner cap gone q m n) s (λ d. visit-cost dialect cap gone q m v d k n s h))
+  visit-cost dialect cap gone (either p q) m v e k n s h =
+      omega (arith, length-append (visit dialect p m v e k) (visit dialect q m v e k), visit-cost dialect cap gone p m v e k n s h, visit-cost dialect cap gone q m v e k n s h)
+  visit-cost dialect cap gone (never p) m v e k n s h = omega (
     arith,
-    inside-cost (visit p m v e (λ d. ended ∷ [])) (k e) (horner cap gone p m 1) n
-        (visit-cost cap gone p m v e (λ d. ended ∷ []) 1 s (λ d. omega arith)) (h e),
+    inside-cost (visit dialect p m v e (λ d. ended ∷ [])) (k e) (horner cap gone p m 1) n
+        (visit-cost dialect cap gone p m v e (λ d. ended ∷ []) 1 s (λ d. omega arith)) (h e),
   )
 
-  visit-each-cost : (cap : ℕ) (ps : Patterns) (ms : Matchers) (vs : Valuesᵒ) (e : Bindings) (k : Bindings → List Met) (n : ℕ)
-      → FineEach cap ms (plainAll vs) → ((d : Bindings) → length (k d) ≤ n) → length (visitEach ps ms vs e k) ≤ hornerEach cap ps ms n
-  visit-each-cost cap noPatterns ms vs e k n s h = h e
-  visit-each-cost cap (p ▸ᵖ ps) noMatchers vs e k n s h = h e
-  visit-each-cost cap (p ▸ᵖ ps) (m ▸ᵐ ms) emptyᵒ e k n s h = absurd (s .0)
-  visit-each-cost cap (p ▸ᵖ ps) (m ▸ᵐ ms) (v ▸ᵒ vs) e k n s h =
-      visit-cost cap 0 p m v e _ _ (anew cap m (plain v) (s .0 .0) (omega (arith, s .1))) (λ d. visit-each-cost cap ps ms vs d k n (s .0 .1, omega (arith, s .1)) h)
+  visit-each-cost : (dialect : Dialect) (cap : ℕ) (ps : Patterns) (ms : Matchers) (vs : Valuesᵒ) (e : Bindings) (k : Bindings → List Met) (n : ℕ)
+      → FineEach cap ms (plainAll vs) → ((d : Bindings) → length (k d) ≤ n) → length (visitEach dialect ps ms vs e k) ≤ hornerEach cap ps ms n
+  visit-each-cost dialect cap noPatterns ms vs e k n s h = h e
+  visit-each-cost dialect cap (p ▸ᵖ ps) noMatchers vs e k n s h = h e
+  visit-each-cost dialect cap (p ▸ᵖ ps) (m ▸ᵐ ms) emptyᵒ e k n s h = absurd (s .0)
+  visit-each-cost dialect cap (p ▸ᵖ ps) (m ▸ᵐ ms) (v ▸ᵒ vs) e k n s h =
+      visit-cost dialect cap 0 p m v e _ _ (anew cap m (plain v) (s .0 .0) (omega (arith, s .1))) (λ d. visit-each-cost dialect cap ps ms vs d k n (s .0 .1, omega (arith, s .1)) h)
 
 -- ---- Review's formula is that cost.
 
@@ -251,10 +256,10 @@ pub fine-target : (cap : ℕ) (m : Matcher) (v : Value) → Fine cap 0 m v → F
 fine-target cap m v s = subst (Fine cap 0 m) (sym (plain-target v)) s
 
 -- THE BOUND: the whole search has at cap as many states as review says.
-pub steps-bound : (cap : ℕ) (m : Matcher) (p : Pattern) (v : Value) → Fine cap 0 m v → length (trace (start m p v ∷ [])) ≤ formula cap p m
+pub steps-bound : (dialect : Dialect) (cap : ℕ) (m : Matcher) (p : Pattern) (v : Value) → Fine cap 0 m v → length (trace dialect (start m p v ∷ [])) ≤ formula cap p m
 unfolding trace met start
-steps-bound cap m p v s = rw (← horner-formula cap p m) (le-trans (close-cost (visit p m (target v) [] (λ d. taken (found d) ∷ [])))
-    (visit-cost cap 0 p m (target v) [] (λ d. taken (found d) ∷ []) 1 (fine-target cap m v s) (λ d. omega arith)))
+steps-bound dialect cap m p v s = rw (← horner-formula cap p m) (le-trans (close-cost (visit dialect p m (target v) [] (λ d. taken (found d) ∷ [])))
+    (visit-cost dialect cap 0 p m (target v) [] (λ d. taken (found d) ∷ []) 1 (fine-target cap m v s) (λ d. omega arith)))
 
 -- ---- The rows: the product of all factors bounds them.
 
@@ -285,39 +290,39 @@ when-count false e = omega arith
 mutual
   unfolding solve factor just largest Suits plain
 
-  pub rows-bound : (cap gone : ℕ) (p : Pattern) (m : Matcher) (v : Valueᵒ) (e : Bindings) → Fine cap gone m (plain v) → length (solve p m v e) ≤ factor cap gone p m
-  rows-bound cap gone wildcard m v e s = omega arith
-  rows-bound cap gone nil m v e s = when-count (isEmpty (plain v)) e
-  rows-bound cap gone (variable x) m v e s = omega arith
-  rows-bound cap gone (constant c) m v e s = when-count (isConstant c (plain v)) e
-  rows-bound cap gone (value x c) m v e s = when-count (isValue m (map plain e) x c (plain v)) e
-  rows-bound cap gone (cons p q) m v e s =
-      combine-count (isMultiset m) (λ a. solve p (element m) a e) (λ a d. solve q m a d) (consHalves m v) _ _ _ (cons-count cap gone m v (s .left))
-      (λ h i. rows-bound cap 0 p (element m) (h .first) e (cons-fine cap gone m v s h i .0))
-      (λ h i d. rows-bound cap (suc gone) q m (h .second) d (cons-fine cap gone m v s h i .1))
-  rows-bound cap gone (join p q) m v e s =
-      combine-count true (λ a. solve p m a e) (λ a d. solve q m a d) (joinHalves v) _ _ _ (join-count cap v (s .small))
-      (λ h i. rows-bound cap 0 p m (h .first) e (join-fine cap gone m v s h i .0))
-      (λ h i d. rows-bound cap 0 q m (h .second) d (join-fine cap gone m v s h i .1))
-  rows-bound cap gone (tuple ps) m (intᵒ o x) e s = omega arith
-  rows-bound cap gone (tuple ps) m (collectionᵒ o vs) e s = omega arith
-  rows-bound cap gone (tuple ps) m (tupledᵒ o vs) e s = omega (arith, rows-bound-each cap ps (members m) vs e (tuple-suits m (plainAll vs) (s .suits), s .small))
-  rows-bound cap gone (both p q) m v e s = chain-count [] (solve p m v e) (λ d. solve q m v d) _ _ (rows-bound cap gone p m v e s) (λ d. rows-bound cap gone q m v d s)
-  rows-bound cap gone (either p q) m v e s = omega (
+  pub rows-bound : (dialect : Dialect) (cap gone : ℕ) (p : Pattern) (m : Matcher) (v : Valueᵒ) (e : Bindings) → Fine cap gone m (plain v) → length (solve dialect p m v e) ≤ factor cap gone p m
+  rows-bound dialect cap gone wildcard m v e s = omega arith
+  rows-bound dialect cap gone nil m v e s = when-count (isEmpty (plain v)) e
+  rows-bound dialect cap gone (variable x) m v e s = omega arith
+  rows-bound dialect cap gone (constant c) m v e s = when-count (isConstant c (plain v)) e
+  rows-bound dialect cap gone (value x c) m v e s = when-count (isValue m (map plain e) x c (plain v)) e
+  rows-bound dialect cap gone (cons p q) m v e s =
+      combine-count (isMultiset m) (λ a. solve dialect p (element m) a e) (λ a d. solve dialect q m a d) (consHalvesIn dialect m v) _ _ _ (choices-count dialect cap gone m v (s .left))
+      (λ h i. rows-bound dialect cap 0 p (element m) (h .first) e (cons-fine cap gone m v s h (some-member (halves-some dialect m v) h i) .0))
+      (λ h i d. rows-bound dialect cap (suc gone) q m (h .second) d (cons-fine cap gone m v s h (some-member (halves-some dialect m v) h i) .1))
+  rows-bound dialect cap gone (join p q) m v e s =
+      combine-count true (λ a. solve dialect p m a e) (λ a d. solve dialect q m a d) (joinHalves v) _ _ _ (join-count cap v (s .small))
+      (λ h i. rows-bound dialect cap 0 p m (h .first) e (join-fine cap gone m v s h i .0))
+      (λ h i d. rows-bound dialect cap 0 q m (h .second) d (join-fine cap gone m v s h i .1))
+  rows-bound dialect cap gone (tuple ps) m (intᵒ o x) e s = omega arith
+  rows-bound dialect cap gone (tuple ps) m (collectionᵒ o vs) e s = omega arith
+  rows-bound dialect cap gone (tuple ps) m (tupledᵒ o vs) e s = omega (arith, rows-bound-each dialect cap ps (members m) vs e (tuple-suits m (plainAll vs) (s .suits), s .small))
+  rows-bound dialect cap gone (both p q) m v e s = chain-count [] (solve dialect p m v e) (λ d. solve dialect q m v d) _ _ (rows-bound dialect cap gone p m v e s) (λ d. rows-bound dialect cap gone q m v d s)
+  rows-bound dialect cap gone (either p q) m v e s = omega (
     arith,
-    length-append (map (onSide 0) (solve p m v e)) (map (onSide 1) (solve q m v e)),
-    length-map (solve p m v e) (onSide 0),
-    length-map (solve q m v e) (onSide 1),
-    rows-bound cap gone p m v e s,
-    rows-bound cap gone q m v e s,
+    length-append (map (onSide 0) (solve dialect p m v e)) (map (onSide 1) (solve dialect q m v e)),
+    length-map (solve dialect p m v e) (onSide 0),
+    length-map (solve dialect q m v e) (onSide 1),
+    rows-bound dialect cap gone p m v e s,
+    rows-bound dialect cap gone q m v e s,
   )
-  rows-bound cap gone (never p) m v e s = when-count (noSolution (solve p m v e)) e
+  rows-bound dialect cap gone (never p) m v e s = when-count (noSolution (solve dialect p m v e)) e
 
-  rows-bound-each : (cap : ℕ) (ps : Patterns) (ms : Matchers) (vs : Valuesᵒ) (e : Bindings) → FineEach cap ms (plainAll vs)
-      → length (solveEach ps ms vs e) ≤ factorAll cap ps ms
-  rows-bound-each cap noPatterns ms vs e s = omega arith
-  rows-bound-each cap (p ▸ᵖ ps) noMatchers vs e s = omega arith
-  rows-bound-each cap (p ▸ᵖ ps) (m ▸ᵐ ms) emptyᵒ e s = absurd (s .0)
-  rows-bound-each cap (p ▸ᵖ ps) (m ▸ᵐ ms) (v ▸ᵒ vs) e s =
-      chain-count [] (solve p m v e) (λ d. solveEach ps ms vs d) _ _ (rows-bound cap 0 p m v e (anew cap m (plain v) (s .0 .0) (omega (arith, s .1))))
-      (λ d. rows-bound-each cap ps ms vs d (s .0 .1, omega (arith, s .1)))
+  rows-bound-each : (dialect : Dialect) (cap : ℕ) (ps : Patterns) (ms : Matchers) (vs : Valuesᵒ) (e : Bindings) → FineEach cap ms (plainAll vs)
+      → length (solveEach dialect ps ms vs e) ≤ factorAll cap ps ms
+  rows-bound-each dialect cap noPatterns ms vs e s = omega arith
+  rows-bound-each dialect cap (p ▸ᵖ ps) noMatchers vs e s = omega arith
+  rows-bound-each dialect cap (p ▸ᵖ ps) (m ▸ᵐ ms) emptyᵒ e s = absurd (s .0)
+  rows-bound-each dialect cap (p ▸ᵖ ps) (m ▸ᵐ ms) (v ▸ᵒ vs) e s =
+      chain-count [] (solve dialect p m v e) (λ d. solveEach dialect ps ms vs d) _ _ (rows-bound dialect cap 0 p m v e (anew cap m (plain v) (s .0 .0) (omega (arith, s .1))))
+      (λ d. rows-bound-each dialect cap ps ms vs d (s .0 .1, omega (arith, s .1)))

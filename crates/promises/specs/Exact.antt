@@ -17,6 +17,7 @@ use Rattle.rules.specs.Reading.{ok, entry}
 use Rattle.rules.specs.Variables.{isNext, isLeft, variables}
 use Rattle.rules.specs.Fit.{element, isSomething}
 use Rattle.rules.specs.Equality.{isValue}
+use Rattle.rules.specs.Dialects.{everyPlace}
 use Rattle.rules.specs.Search.{Taking, takings, behind, Halves, consHalves, start}
 use Rattle.rules.specs.Review.{leafSteps, consFactor, formula}
 use Rattle.forms.specs.Lists.{Mem}
@@ -146,7 +147,7 @@ module _ (x : ℤ) (inside : inRange x ≡ true) where
 
   -- n variables stand to the left of the first part, and i to the left of what follows it: these are bound to equal integers before it and after it.
   first-exact : {p : Pattern} → First p → (cap at n i : ℕ) → variables p true at n ≡ ok i → (v : Valueᵒ) (e : Bindings) → plain v ≡ int x → Bound n e
-      → (k : Bindings → List Met) (c : ℕ) → ((d : Bindings) → Bound i d → Passes (k d) c) → Passes (visit p integer v e k) (horner cap 0 p integer c)
+      → (k : Bindings → List Met) (c : ℕ) → ((d : Bindings) → Bound i d → Passes (k d) c) → Passes (visit everyPlace p integer v e k) (horner cap 0 p integer c)
   unfolding visit horner variables onlyIf isSomething leafSteps
   first-exact wild cap at n i g v e a b k c h =
       let q : n ≡ i = cc in counts (omega arith) (more (more (h e (b ∙ ap (λ j. replicate j (int x)) q))))
@@ -164,7 +165,7 @@ module _ (x : ℤ) (inside : inRange x ≡ true) where
   chain-exact : {p : Pattern} → Chain p → (cap gone left at n i : ℕ) → left + gone ≡ cap → variables p true at n ≡ ok i
       → (o : Origin) (vs : Valuesᵒ) (e : Bindings) → Alike x left vs → Bound n e
       → (k : Bindings → List Met) (c : ℕ) → ((d : Bindings) → Passes (k d) c)
-      → Passes (visit p (multiset integer) (collectionᵒ o vs) e k) (horner cap gone p (multiset integer) c)
+      → Passes (visit everyPlace p (multiset integer) (collectionᵒ o vs) e k) (horner cap gone p (multiset integer) c)
   unfolding visit horner variables Alike consHalves consFactor takings flatMap element isSomething leafSteps
   chain-exact (ends wild) cap gone left at n i l g o vs e a b k c h = counts (omega arith) (more (more (h _)))
   chain-exact (ends named) cap gone left at n i l g o vs e a b k c h = counts (omega arith) (more (more (h _)))
@@ -174,13 +175,13 @@ module _ (x : ℤ) (inside : inRange x ≡ true) where
   chain-exact (link {p = p} {q = q} f r) cap gone zero at n i l g o (v ▸ᵒ vs) e a b k c h = absurd a
   chain-exact (link {p = p} {q = q} f r) cap gone (suc left) at n i l g o vs e a b k c h =
       let t = then-ok (variables p true (at + 1) n) (λ j. variables q true (at + 1 + span p) j) i g in
-      passes-cons x (λ y. visit p integer (y .first) e (λ d. visit q (multiset integer) (y .second) d k)) o vs left _ _ (omega arith) a
-      (λ u us s m. first-exact f cap (at + 1) n (t .0) (t .1) u e s b (λ d. visit q (multiset integer) (collectionᵒ o us) d k) _
+      passes-cons x (λ y. visit everyPlace p integer (y .first) e (λ d. visit everyPlace q (multiset integer) (y .second) d k)) o vs left _ _ (omega arith) a
+      (λ u us s m. first-exact f cap (at + 1) n (t .0) (t .1) u e s b (λ d. visit everyPlace q (multiset integer) (collectionᵒ o us) d k) _
       (λ d w. chain-exact r cap (suc gone) left (at + 1 + span p) (t .0) i (omega arith) (t .2) o us d m w k c h))
 
   -- EXACT: where the variables are numbered in order and each tag 3 names one to its left.
   pub states-exact : {p : Pattern} → Chain p → (n : ℕ) → variables p true 0 0 ≡ ok n → (cap : ℕ)
-      → length (trace (start (multiset integer) p (collection (copies cap (int x))) ∷ [])) ≡ formula cap p (multiset integer)
+      → length (trace everyPlace (start (multiset integer) p (collection (copies cap (int x))) ∷ [])) ≡ formula cap p (multiset integer)
   unfolding trace met start target
   states-exact {p} r n g cap =
       let z : cap + 0 ≡ cap = omega arith in

@@ -1,5 +1,6 @@
 -- What the definitions promise: the theorems of the three demands. Read Main; the others hold the proofs.
 pub mod Choices
+pub mod FirstPlaces
 pub mod Twin
 pub mod Trace
 pub mod Solve
@@ -17,6 +18,7 @@ pub mod OldFigure
 pub mod Exact
 pub mod Room
 pub mod Reviewing
+pub mod Also
 pub mod Matching
 pub mod Reaching
 pub mod Found

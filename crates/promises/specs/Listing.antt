@@ -4,6 +4,7 @@ use native.Mathlib.Omega.{arith}
 use mathlib.Core.Path.{_≡_, refl, sym, ap, ap₂, _∙_, subst}
 use mathlib.Core.Logic.{_⊎_, inl, inr, ⊎-elim}
 use mathlib.Core.List.{List, [], _∷_, _++_, List·Memᴰ·head, List·Memᴰ·tail, List·Memᴰ·not-nil, List·Memᴰ·cases-cons}
+use Rattle.rules.specs.Dialects.{Dialect}
 use Rattle.rules.specs.Forms.{Matcher, Pattern, Value}
 use Rattle.rules.specs.Origins.{Bindings, target}
 use Rattle.rules.specs.Ways.{Way, _≺_, Good}
@@ -41,17 +42,17 @@ module _ {A : Type 0} (R : A → A → Type 0) (asym : (x y : A) → R x y → R
           (List·Memᴰ·cases-cons (f x (List·Memᴰ·head refl)))
 
 -- The good ways of section 5 with their bindings: each of them, no other, the smaller way first.
-pub record Listing (m : Matcher) (p : Pattern) (v : Value) (ss : List Solution) : Type 0 where
+pub record Listing (dialect : Dialect) (m : Matcher) (p : Pattern) (v : Value) (ss : List Solution) : Type 0 where
   pub increasing : Pairwise (λ s t. s .way ≺ t .way) ss
-  pub sound : (s : Solution) → Mem s ss → Good m p v (s .way) (s .bound)
-  pub complete : (w : Way) (e : Bindings) → Good m p v w e → Mem (record { way = w; bound = e }) ss
+  pub sound : (s : Solution) → Mem s ss → Good dialect m p v (s .way) (s .bound)
+  pub complete : (w : Way) (e : Bindings) → Good dialect m p v w e → Mem (record { way = w; bound = e }) ss
 
-pub solve-listing : (m : Matcher) (p : Pattern) (v : Value) → Listing m p v (solve p m (target v) [])
+pub solve-listing : (dialect : Dialect) (m : Matcher) (p : Pattern) (v : Value) → Listing dialect m p v (solve dialect p m (target v) [])
 unfolding Good
-solve-listing m p v = record { increasing = solve-increasing p m (target v) []; sound = sound p m (target v) []; complete = complete p m (target v) [] }
+solve-listing dialect m p v = record { increasing = solve-increasing dialect p m (target v) []; sound = sound dialect p m (target v) []; complete = complete dialect p m (target v) [] }
 
-pub listing-unique : (m : Matcher) (p : Pattern) (v : Value) (ss ts : List Solution) → Listing m p v ss → Listing m p v ts → ss ≡ ts
-listing-unique m p v ss ts a b = in-order-unique (λ s t. s .way ≺ t .way) (λ s t. ≺-asym (s .way) (t .way)) ss ts (a .increasing) (b .increasing)
+pub listing-unique : (dialect : Dialect) (m : Matcher) (p : Pattern) (v : Value) (ss ts : List Solution) → Listing dialect m p v ss → Listing dialect m p v ts → ss ≡ ts
+listing-unique dialect m p v ss ts a b = in-order-unique (λ s t. s .way ≺ t .way) (λ s t. ≺-asym (s .way) (t .way)) ss ts (a .increasing) (b .increasing)
     (λ z i. b .complete (z .way) (z .bound) (a .sound z i)) (λ z i. a .complete (z .way) (z .bound) (b .sound z i))
 
 -- ---- No good way is the beginning of another.
@@ -79,10 +80,10 @@ two-members R (x ∷ xs) p a b i j = ⊎-elim
     (λ m. ⊎-elim (λ f. inr (inr (subst (λ y. R y a) (sym f) (p .0 a m)))) (λ n. two-members R xs (p .1) a b m n) (List·Memᴰ·cases-cons j))
     (List·Memᴰ·cases-cons i)
 
-pub way-ends : (m : Matcher) (p : Pattern) (v : Value) (u x : Way) (d e : Bindings) → Good m p v u d → Good m p v (u ++ x) e → (x ≡ []) × (d ≡ e)
+pub way-ends : (dialect : Dialect) (m : Matcher) (p : Pattern) (v : Value) (u x : Way) (d e : Bindings) → Good dialect m p v u d → Good dialect m p v (u ++ x) e → (x ≡ []) × (d ≡ e)
 unfolding Good
-way-ends m p v u x d e g h = ⊎-elim
+way-ends dialect m p v u x d e g h = ⊎-elim
     (λ q. (no-longer u x (ap (λ (s : Solution). s .way) q), ap (λ (s : Solution). s .bound) q))
     (λ q. ⊎-elim (λ l. absurd (≪-longer u x l)) (λ l. absurd (longer-≪ u x l)) q)
-    (two-members Earlier (solve p m (target v) []) (solve-in-order p m (target v) []) (record { way = u; bound = d }) (record { way = u ++ x; bound = e })
-    (complete p m (target v) [] u d g) (complete p m (target v) [] (u ++ x) e h))
+    (two-members Earlier (solve dialect p m (target v) []) (solve-in-order dialect p m (target v) []) (record { way = u; bound = d }) (record { way = u ++ x; bound = e })
+    (complete dialect p m (target v) [] u d g) (complete dialect p m (target v) [] (u ++ x) e h))

@@ -4,12 +4,13 @@ use mathlib.Core.Path.{_≡_, refl, ap, subst, subst₂}
 use mathlib.Core.Logic.{_⊎_, inl, inr}
 use mathlib.Core.Bool.{Bool, true, false}
 use mathlib.Core.List.{List, [], _∷_, _++_, map, List·Memᴰ·not-nil, Memᴰ·of-map}
+use Rattle.rules.specs.Dialects.{Dialect, everyPlace, firstPlaces}
 use Rattle.rules.specs.Forms.{Matcher, something, integer, list, multiset, tupleOf, Matchers, noMatchers, _▸ᵐ_}
 use Rattle.rules.specs.Forms.{Pattern, wildcard, nil, variable, constant, value, cons, join, tuple, both, either, never, Patterns, noPatterns, _▸ᵖ_}
 use Rattle.rules.specs.Origins.{Valueᵒ, intᵒ, collectionᵒ, tupledᵒ, Valuesᵒ, emptyᵒ, _▸ᵒ_, Bindings, plain}
 use Rattle.rules.specs.Fit.{element, members}
 use Rattle.rules.specs.Equality.{isConstant, isValue, isEmpty}
-use Rattle.rules.specs.Search.{Halves, consHalves, joinHalves}
+use Rattle.rules.specs.Search.{Halves, consHalves, consHalvesIn, joinHalves}
 use Rattle.rules.specs.Ways.{Way, _≺_}
 use Rattle.forms.specs.Lists.{Mem, Pairwise, pairwise-append, pairwise-weaken, pairwise-map, pairwise-flatMap}
 use Rattle.rules.specs.Following.{Solution, Numbered, up, numbered, isMultiset, mark, extend, chain, onSide, combine, just, whenSo, noSolution, solve, solveEach}
@@ -58,16 +59,32 @@ Fine false [] = Unit {0}
 Fine false (h ∷ []) = Unit {0}
 Fine false (h ∷ g ∷ hs) = ⊥
 
-cons-fine : (m : Matcher) (v : Valueᵒ) → Fine (isMultiset m) (consHalves m v)
+fine-one : (m : Matcher) (v : Valueᵒ) → Fine (isMultiset m) (consHalves m v)
 unfolding isMultiset consHalves
-cons-fine something v = tt
-cons-fine integer v = tt
-cons-fine (list m) (intᵒ o x) = tt
-cons-fine (list m) (collectionᵒ o emptyᵒ) = tt
-cons-fine (list m) (collectionᵒ o (v ▸ᵒ vs)) = tt
-cons-fine (list m) (tupledᵒ o vs) = tt
-cons-fine (multiset m) v = tt
-cons-fine (tupleOf ms) v = tt
+fine-one something v = tt
+fine-one integer v = tt
+fine-one (list m) (intᵒ o x) = tt
+fine-one (list m) (collectionᵒ o emptyᵒ) = tt
+fine-one (list m) (collectionᵒ o (v ▸ᵒ vs)) = tt
+fine-one (list m) (tupledᵒ o vs) = tt
+fine-one (multiset m) v = tt
+fine-one (tupleOf ms) v = tt
+
+fine-two : (m : Matcher) (v : Valueᵒ) → Fine (isMultiset m) (consHalvesIn firstPlaces m v)
+unfolding isMultiset consHalves consHalvesIn
+fine-two something v = tt
+fine-two integer v = tt
+fine-two (list m) (intᵒ o x) = tt
+fine-two (list m) (collectionᵒ o emptyᵒ) = tt
+fine-two (list m) (collectionᵒ o (v ▸ᵒ vs)) = tt
+fine-two (list m) (tupledᵒ o vs) = tt
+fine-two (multiset m) v = tt
+fine-two (tupleOf ms) v = tt
+
+cons-fine : (dialect : Dialect) (m : Matcher) (v : Valueᵒ) → Fine (isMultiset m) (consHalvesIn dialect m v)
+unfolding consHalvesIn
+cons-fine everyPlace m v = fine-one m v
+cons-fine firstPlaces m v = fine-two m v
 
 chain-in-order : (w : Way) (ss : List Solution) (g : Bindings → List Solution) → Pairwise Earlier ss → ((d : Bindings) → Pairwise Earlier (g d))
     → Pairwise Earlier (chain w ss g)
@@ -127,31 +144,31 @@ single-or-none false e = tt
 mutual
   unfolding solve
 
-  pub solve-in-order : (p : Pattern) (m : Matcher) (v : Valueᵒ) (e : Bindings) → Pairwise Earlier (solve p m v e)
-  solve-in-order wildcard m v e = single e
-  solve-in-order nil m v e = single-or-none (isEmpty (plain v)) e
-  solve-in-order (variable x) m v e = single (e ++ (v ∷ []))
-  solve-in-order (constant c) m v e = single-or-none (isConstant c (plain v)) e
-  solve-in-order (value x c) m v e = single-or-none (isValue m (map plain e) x c (plain v)) e
-  solve-in-order (cons p q) m v e =
-      in-order (λ a. solve p (element m) a e) (λ a d. solve q m a d) (λ a. solve-in-order p (element m) a e) (λ a d. solve-in-order q m a d) (isMultiset m) (consHalves m v) (cons-fine m v)
-  solve-in-order (join p q) m v e =
-      in-order (λ a. solve p m a e) (λ a d. solve q m a d) (λ a. solve-in-order p m a e) (λ a d. solve-in-order q m a d) true (joinHalves v) tt
-  solve-in-order (tuple ps) m (intᵒ o x) e = tt
-  solve-in-order (tuple ps) m (collectionᵒ o vs) e = tt
-  solve-in-order (tuple ps) m (tupledᵒ o vs) e = each-in-order ps (members m) vs e
-  solve-in-order (both p q) m v e =
-      chain-in-order [] (solve p m v e) (λ d. solve q m v d) (solve-in-order p m v e) (λ d. solve-in-order q m v d)
-  solve-in-order (either p q) m v e = sides-in-order (solve p m v e) (solve q m v e) (solve-in-order p m v e) (solve-in-order q m v e)
-  solve-in-order (never p) m v e = single-or-none (noSolution (solve p m v e)) e
+  pub solve-in-order : (dialect : Dialect) (p : Pattern) (m : Matcher) (v : Valueᵒ) (e : Bindings) → Pairwise Earlier (solve dialect p m v e)
+  solve-in-order dialect wildcard m v e = single e
+  solve-in-order dialect nil m v e = single-or-none (isEmpty (plain v)) e
+  solve-in-order dialect (variable x) m v e = single (e ++ (v ∷ []))
+  solve-in-order dialect (constant c) m v e = single-or-none (isConstant c (plain v)) e
+  solve-in-order dialect (value x c) m v e = single-or-none (isValue m (map plain e) x c (plain v)) e
+  solve-in-order dialect (cons p q) m v e =
+      in-order (λ a. solve dialect p (element m) a e) (λ a d. solve dialect q m a d) (λ a. solve-in-order dialect p (element m) a e) (λ a d. solve-in-order dialect q m a d) (isMultiset m) (consHalvesIn dialect m v) (cons-fine dialect m v)
+  solve-in-order dialect (join p q) m v e =
+      in-order (λ a. solve dialect p m a e) (λ a d. solve dialect q m a d) (λ a. solve-in-order dialect p m a e) (λ a d. solve-in-order dialect q m a d) true (joinHalves v) tt
+  solve-in-order dialect (tuple ps) m (intᵒ o x) e = tt
+  solve-in-order dialect (tuple ps) m (collectionᵒ o vs) e = tt
+  solve-in-order dialect (tuple ps) m (tupledᵒ o vs) e = each-in-order dialect ps (members m) vs e
+  solve-in-order dialect (both p q) m v e =
+      chain-in-order [] (solve dialect p m v e) (λ d. solve dialect q m v d) (solve-in-order dialect p m v e) (λ d. solve-in-order dialect q m v d)
+  solve-in-order dialect (either p q) m v e = sides-in-order (solve dialect p m v e) (solve dialect q m v e) (solve-in-order dialect p m v e) (solve-in-order dialect q m v e)
+  solve-in-order dialect (never p) m v e = single-or-none (noSolution (solve dialect p m v e)) e
 
-  each-in-order : (ps : Patterns) (ms : Matchers) (vs : Valuesᵒ) (e : Bindings) → Pairwise Earlier (solveEach ps ms vs e)
-  each-in-order noPatterns ms vs e = single e
-  each-in-order (p ▸ᵖ ps) noMatchers vs e = single e
-  each-in-order (p ▸ᵖ ps) (m ▸ᵐ ms) emptyᵒ e = single e
-  each-in-order (p ▸ᵖ ps) (m ▸ᵐ ms) (v ▸ᵒ vs) e =
-      chain-in-order [] (solve p m v e) (λ d. solveEach ps ms vs d) (solve-in-order p m v e) (λ d. each-in-order ps ms vs d)
+  each-in-order : (dialect : Dialect) (ps : Patterns) (ms : Matchers) (vs : Valuesᵒ) (e : Bindings) → Pairwise Earlier (solveEach dialect ps ms vs e)
+  each-in-order dialect noPatterns ms vs e = single e
+  each-in-order dialect (p ▸ᵖ ps) noMatchers vs e = single e
+  each-in-order dialect (p ▸ᵖ ps) (m ▸ᵐ ms) emptyᵒ e = single e
+  each-in-order dialect (p ▸ᵖ ps) (m ▸ᵐ ms) (v ▸ᵒ vs) e =
+      chain-in-order [] (solve dialect p m v e) (λ d. solveEach dialect ps ms vs d) (solve-in-order dialect p m v e) (λ d. each-in-order dialect ps ms vs d)
 
 -- Each way once, the smaller first.
-pub solve-increasing : (p : Pattern) (m : Matcher) (v : Valueᵒ) (e : Bindings) → Pairwise (λ s t. s .way ≺ t .way) (solve p m v e)
-solve-increasing p m v e = pairwise-weaken Earlier (λ s t. s .way ≺ t .way) (solve p m v e) (λ s t. ≪-≺ (s .way) (t .way)) (solve-in-order p m v e)
+pub solve-increasing : (dialect : Dialect) (p : Pattern) (m : Matcher) (v : Valueᵒ) (e : Bindings) → Pairwise (λ s t. s .way ≺ t .way) (solve dialect p m v e)
+solve-increasing dialect p m v e = pairwise-weaken Earlier (λ s t. s .way ≺ t .way) (solve dialect p m v e) (λ s t. ≪-≺ (s .way) (t .way)) (solve-in-order dialect p m v e)

@@ -12,9 +12,10 @@ use Rattle.rules.specs.Forms.{integer, multiset, Value, int, collection, words,
 use Rattle.rules.specs.Reading.{ok, _then_}
 use Rattle.rules.specs.Fit.{fitsAll, fitsValue}
 use Rattle.rules.specs.Rows.{Form, asWords}
+use Rattle.rules.specs.Dialects.{everyPlace}
 use Rattle.rules.specs.Search.{Run, start}
 use Rattle.rules.specs.Review.{factor, formula}
-use Rattle.rules.specs.Services.{accepted, Rule, ruleOf, targetOf, Matched, matchIn, match, carriedOut, review}
+use Rattle.rules.specs.Services.{accepted, Rule, ruleOf, ruleIn, targetOf, Matched, matchOf, matchIn, match, carriedOut, review}
 use Rattle.rules.specs.Tables.{nums}
 use Rattle.forms.specs.Written.{largest, largestOf, deepest, deepestOf, Widths, WidthsAll, variableTags, length-words}
 use Rattle.promises.specs.Trace.{trace}
@@ -82,39 +83,39 @@ module _ (form : Form) (ms ps : List ℤ) (r : Rule) (rule : ruleOf ms ps ≡ ac
   sane : Sane ms ps target r (equals x cap)
   sane = sane-exactly ms ps target r (equals x cap) .0 (rule, read)
 
-  states-are : length (states r (equals x cap)) ≡ figure
+  states-are : length (states everyPlace r (equals x cap)) ≡ figure
   unfolding states countOf equals
-  states-are = ap (λ m. length (trace (start m (r .pattern) (equals x cap) ∷ []))) of-integers
+  states-are = ap (λ m. length (trace everyPlace (start m (r .pattern) (equals x cap) ∷ []))) of-integers
       ∙ states-exact x word chain (sane .rule .numbered .0) (sane .rule .numbered .1) cap
       ∙ ap (formula cap (r .pattern)) (sym of-integers) ∙ sym (figure-is .0)
 
   module _ (budget : ℕ) (room : List ℤ) (fits-in : (matchIn form ms ps target budget room) .answer ≡ 8 → ⊥) where
-    not-full : Full form budget (length room) (states r (equals x cap)) → ⊥
-    not-full f = fits-in (answer-8 form ms ps target budget room r (equals x cap) sane .1 f)
+    not-full : Full form budget (length room) (states everyPlace r (equals x cap)) → ⊥
+    not-full f = fits-in (answer-8 everyPlace form ms ps target budget room r (equals x cap) rule read .1 f)
 
     -- With the figure or more as budget, and room for the rows.
     pub reached : figure ≤ budget → ((matchIn form ms ps target budget room) .answer ≡ 0) × ((matchIn form ms ps target budget room) .steps ≡ figure)
     unfolding carriedOut report
     reached b = (
-      answer-0 form ms ps target budget room r (equals x cap) sane .1 (omega (arith, states-are), not-full),
-      ap (λ (y : Matched). y .steps) (result form ms ps target budget room r (equals x cap) sane)
-          ∙ go (outcome form ms ps target budget room r (equals x cap) sane),
+      answer-0 everyPlace form ms ps target budget room r (equals x cap) rule read .1 (omega (arith, states-are), not-full),
+      ap (λ (y : Matched). y .steps) (result everyPlace form ms ps target budget room r (equals x cap) rule read)
+          ∙ go (outcome everyPlace form ms ps target budget room r (equals x cap) rule read),
     )
       where
-        go : {y : Run} → Outcome form budget (length room) (states r (equals x cap)) y → y .steps ≡ figure
+        go : {y : Run} → Outcome form budget (length room) (states everyPlace r (equals x cap)) y → y .steps ≡ figure
         go (done h f q) = ap (λ (y : Run). y .steps) q ∙ states-are
         go (spent h f q) = absurd (omega (arith, states-are))
         go (full f q) = absurd (not-full f)
 
     -- With less, states remain.
     pub not-before : budget < figure → (matchIn form ms ps target budget room) .answer ≡ 7
-    not-before b = answer-7 form ms ps target budget room r (equals x cap) sane .1 (omega (arith, states-are), not-full)
+    not-before b = answer-7 everyPlace form ms ps target budget room r (equals x cap) rule read .1 (omega (arith, states-are), not-full)
 
   -- With the figure as budget, and the room that is enough for every target of its length.
   pub reached-with-room : (room : List ℤ) → factor cap 0 (r .pattern) (r .matcher) * variableTags (r .pattern) * widest form (length target) ≤ length room
       → ((matchIn form ms ps target figure room) .answer ≡ 0) × ((matchIn form ms ps target figure room) .steps ≡ figure)
   reached-with-room room h =
-      let a = room-enough form ms ps target figure room r (equals x cap) sane cap (equals-small x cap) (omega (arith, figure-is .0)) h in
+      let a = room-enough everyPlace form ms ps target figure room r (equals x cap) rule read cap (equals-small x cap) (omega (arith, figure-is .0)) h in
       reached figure room (λ e. omega arith) (le-refl figure)
 
 -- Four conses over wildcards on 64 equal integers, by the theorem and not by taking the steps.
@@ -125,6 +126,6 @@ abbrev four : List ℤ
 four = nums (5 ∷ 0 ∷ 5 ∷ 0 ∷ 5 ∷ 0 ∷ 5 ∷ 0 ∷ 0 ∷ [])
 
 pub four-conses-reach : (room : List ℤ) → (match multisetInteger four (words (equals (pos 7) 64)) 77007361 room) .steps ≡ 77007361
-unfolding match review ruleOf inRange factor variableTags words equals widest
+unfolding match matchOf review ruleIn inRange factor variableTags words equals widest
 four-conses-reach room =
     reached-with-room asWords multisetInteger four _ refl refl (link wild (link wild (link wild (link wild (ends wild))))) 64 refl (pos 7) refl room zero-le .1

@@ -8,6 +8,7 @@ use mathlib.Core.Bool.{Bool, true, false}
 use mathlib.Core.List.{List, []}
 use lib.Dec.{T}
 use lib.IntN.{ℤ, pos, negsuc, pos-ne-negsuc}
+use Rattle.rules.specs.Dialects.{Dialect}
 use Rattle.rules.specs.Forms.{Value}
 use Rattle.rules.specs.Reading.{ok}
 use Rattle.rules.specs.Fit.{fitsValue}
@@ -204,14 +205,14 @@ answer-1-to-4 ms ps cap a i = (to, λ h. from h (review-judged ms ps cap))
     from h (counts r c w e l k q) = let g = ap (λ (x : Reviewed). x .answer) q in absurd (omega (arith, g, h .0, h .2))
 
 -- Then there is a good way on every value that fits.
-pub everybody : (ms ps : List ℤ) (cap : ℤ) (r : Rule) → WellFormed ms ps r → (review ms ps cap) .answer ≡ 11
-    → (v : Value) → fitsValue (r .matcher) v 0 ≡ ok tt → (w : Way) × (e : Bindings) × Good (r .matcher) (r .pattern) v w e
+pub everybody : (dialect : Dialect) (ms ps : List ℤ) (cap : ℤ) (r : Rule) → WellFormed ms ps r → (review ms ps cap) .answer ≡ 11
+    → (v : Value) → fitsValue (r .matcher) v 0 ≡ ok tt → (w : Way) × (e : Bindings) × Good dialect (r .matcher) (r .pattern) v w e
 unfolding alwaysTrue Good
-everybody ms ps cap r w a v f =
+everybody dialect ms ps cap r w a v f =
     let t = answer-11 ms ps cap .0 a in
     let q : t .rule ≡ r = cc (rule-accepted ms ps (t .rule) .1 (t .wellFormed), rule-accepted ms ps r .1 w) in
     let b = ap (λ (s : Rule). alwaysTrue (s .pattern)) (sym q) ∙ t .always in
-    always-passes (r .pattern) (r .matcher) 0 [] (w .fitting .0) (subst T (sym b) tt) (w .fitting .1) (target v) [] (subst (Suits (r .matcher)) (sym (plain-target v)) (fits-suits (r .matcher) v 0 f))
+    always-passes dialect (r .pattern) (r .matcher) 0 [] (w .fitting .0) (subst T (sym b) tt) (w .fitting .1) (target v) [] (subst (Suits (r .matcher)) (sym (plain-target v)) (fits-suits (r .matcher) v 0 f))
 
 -- The count of a review that answers 0 is the formula, which fits a budget; and the cap is at most 64.
 pub count-is : (ms ps : List ℤ) (c : ℕ) (r : Rule) → WellFormed ms ps r → (review ms ps (pos c)) .answer ≡ 0

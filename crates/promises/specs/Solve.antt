@@ -4,12 +4,13 @@ use native.Mathlib.Nat.{suc-ne-zero}
 use mathlib.Core.Path.{_≡_, refl, sym, ap, ap₂, _∙_}
 use mathlib.Core.Bool.{Bool, true, false}
 use mathlib.Core.List.{List, [], _∷_, _++_, map, flatMap, append-nil}
+use Rattle.rules.specs.Dialects.{Dialect}
 use Rattle.rules.specs.Forms.{Matcher, Matchers, noMatchers, _▸ᵐ_, Value}
 use Rattle.rules.specs.Forms.{Pattern, wildcard, nil, variable, constant, value, cons, join, tuple, both, either, never, Patterns, noPatterns, _▸ᵖ_}
 use Rattle.rules.specs.Origins.{Valueᵒ, intᵒ, collectionᵒ, tupledᵒ, Valuesᵒ, emptyᵒ, _▸ᵒ_, Bindings, plain, target}
 use Rattle.rules.specs.Fit.{element, members, isSomething}
 use Rattle.rules.specs.Equality.{isConstant, isValue, isEmpty}
-use Rattle.rules.specs.Search.{Halves, consHalves, joinHalves, start}
+use Rattle.rules.specs.Search.{Halves, consHalvesIn, joinHalves, start}
 use Rattle.rules.specs.Ways.{Way}
 use Rattle.rules.specs.Following.{Solution, Numbered, up, numbered, isMultiset, mark, extend, chain, onSide, combine, just, whenSo, noSolution, ofParts, solve, solveEach}
 use Rattle.forms.specs.Lists.{flatMap-append, flatMap-map, flatMap-flatMap, flatMap-cong}
@@ -119,45 +120,45 @@ nothing ms (s ∷ ss) e k h = inside-ended ms (k e) _ h
 mutual
   unfolding stops visit solve
 
-  pub stops-visit : (p : Pattern) (m : Matcher) (v : Valueᵒ) (e : Bindings) (k : Bindings → List Met)
-      → stops (visit p m v e k) ≡ flatMap (λ s. stops (k (s .bound))) (solve p m v e)
-  stops-visit wildcard m v e k = leaf (isSomething m) e k
-  stops-visit nil m v e k = test (isEmpty (plain v)) e k
-  stops-visit (variable x) m v e k = leaf (isSomething m) (e ++ (v ∷ [])) k
-  stops-visit (constant c) m v e k = test (isConstant c (plain v)) e k
-  stops-visit (value x c) m v e k = test (isValue m (map plain e) x c (plain v)) e k
-  stops-visit (cons p q) m v e k =
-      stops-flatMap _ (consHalves m v)
-      ∙ flatMap-cong _ _ (consHalves m v) (λ h. stops-visit p (element m) (h .first) e (λ d. visit q m (h .second) d k)
-      ∙ flatMap-cong _ _ (solve p (element m) (h .first) e) (λ s. stops-visit q m (h .second) (s .bound) k))
-      ∙ sym (after (isMultiset m) (λ a. solve p (element m) a e) (λ a d. solve q m a d) (λ d. stops (k d)) (consHalves m v))
-  stops-visit (join p q) m v e k =
+  pub stops-visit : (dialect : Dialect) (p : Pattern) (m : Matcher) (v : Valueᵒ) (e : Bindings) (k : Bindings → List Met)
+      → stops (visit dialect p m v e k) ≡ flatMap (λ s. stops (k (s .bound))) (solve dialect p m v e)
+  stops-visit dialect wildcard m v e k = leaf (isSomething m) e k
+  stops-visit dialect nil m v e k = test (isEmpty (plain v)) e k
+  stops-visit dialect (variable x) m v e k = leaf (isSomething m) (e ++ (v ∷ [])) k
+  stops-visit dialect (constant c) m v e k = test (isConstant c (plain v)) e k
+  stops-visit dialect (value x c) m v e k = test (isValue m (map plain e) x c (plain v)) e k
+  stops-visit dialect (cons p q) m v e k =
+      stops-flatMap _ (consHalvesIn dialect m v)
+      ∙ flatMap-cong _ _ (consHalvesIn dialect m v) (λ h. stops-visit dialect p (element m) (h .first) e (λ d. visit dialect q m (h .second) d k)
+      ∙ flatMap-cong _ _ (solve dialect p (element m) (h .first) e) (λ s. stops-visit dialect q m (h .second) (s .bound) k))
+      ∙ sym (after (isMultiset m) (λ a. solve dialect p (element m) a e) (λ a d. solve dialect q m a d) (λ d. stops (k d)) (consHalvesIn dialect m v))
+  stops-visit dialect (join p q) m v e k =
       stops-flatMap _ (joinHalves v)
-      ∙ flatMap-cong _ _ (joinHalves v) (λ h. stops-visit p m (h .first) e (λ d. visit q m (h .second) d k)
-      ∙ flatMap-cong _ _ (solve p m (h .first) e) (λ s. stops-visit q m (h .second) (s .bound) k))
-      ∙ sym (after true (λ a. solve p m a e) (λ a d. solve q m a d) (λ d. stops (k d)) (joinHalves v))
-  stops-visit (tuple ps) m (intᵒ o x) e k = refl
-  stops-visit (tuple ps) m (collectionᵒ o vs) e k = refl
-  stops-visit (tuple ps) m (tupledᵒ o vs) e k = stops-each ps (members m) vs e k
-  stops-visit (both p q) m v e k =
-      stops-visit p m v e (λ d. visit q m v d k)
-      ∙ flatMap-cong _ _ (solve p m v e) (λ s. stops-visit q m v (s .bound) k)
-      ∙ sym (after-chain [] (solve p m v e) (λ d. solve q m v d) (λ d. stops (k d)))
-  stops-visit (either p q) m v e k =
-      stops-append (visit p m v e k) (visit q m v e k)
-      ∙ ap₂ {C = List Met} (λ xs ys. xs ++ ys) (stops-visit p m v e k) (stops-visit q m v e k)
-      ∙ sym (sides (solve p m v e) (solve q m v e) (λ d. stops (k d)))
-  stops-visit (never p) m v e k = nothing (visit p m v e (λ d. ended ∷ [])) (solve p m v e) e k (stops-visit p m v e (λ d. ended ∷ []))
+      ∙ flatMap-cong _ _ (joinHalves v) (λ h. stops-visit dialect p m (h .first) e (λ d. visit dialect q m (h .second) d k)
+      ∙ flatMap-cong _ _ (solve dialect p m (h .first) e) (λ s. stops-visit dialect q m (h .second) (s .bound) k))
+      ∙ sym (after true (λ a. solve dialect p m a e) (λ a d. solve dialect q m a d) (λ d. stops (k d)) (joinHalves v))
+  stops-visit dialect (tuple ps) m (intᵒ o x) e k = refl
+  stops-visit dialect (tuple ps) m (collectionᵒ o vs) e k = refl
+  stops-visit dialect (tuple ps) m (tupledᵒ o vs) e k = stops-each dialect ps (members m) vs e k
+  stops-visit dialect (both p q) m v e k =
+      stops-visit dialect p m v e (λ d. visit dialect q m v d k)
+      ∙ flatMap-cong _ _ (solve dialect p m v e) (λ s. stops-visit dialect q m v (s .bound) k)
+      ∙ sym (after-chain [] (solve dialect p m v e) (λ d. solve dialect q m v d) (λ d. stops (k d)))
+  stops-visit dialect (either p q) m v e k =
+      stops-append (visit dialect p m v e k) (visit dialect q m v e k)
+      ∙ ap₂ {C = List Met} (λ xs ys. xs ++ ys) (stops-visit dialect p m v e k) (stops-visit dialect q m v e k)
+      ∙ sym (sides (solve dialect p m v e) (solve dialect q m v e) (λ d. stops (k d)))
+  stops-visit dialect (never p) m v e k = nothing (visit dialect p m v e (λ d. ended ∷ [])) (solve dialect p m v e) e k (stops-visit dialect p m v e (λ d. ended ∷ []))
 
-  stops-each : (ps : Patterns) (ms : Matchers) (vs : Valuesᵒ) (e : Bindings) (k : Bindings → List Met)
-      → stops (visitEach ps ms vs e k) ≡ flatMap (λ s. stops (k (s .bound))) (solveEach ps ms vs e)
-  stops-each noPatterns ms vs e k = leaf true e k
-  stops-each (p ▸ᵖ ps) noMatchers vs e k = leaf true e k
-  stops-each (p ▸ᵖ ps) (m ▸ᵐ ms) emptyᵒ e k = leaf true e k
-  stops-each (p ▸ᵖ ps) (m ▸ᵐ ms) (v ▸ᵒ vs) e k =
-      stops-visit p m v e (λ d. visitEach ps ms vs d k)
-      ∙ flatMap-cong _ _ (solve p m v e) (λ s. stops-each ps ms vs (s .bound) k)
-      ∙ sym (after-chain [] (solve p m v e) (λ d. solveEach ps ms vs d) (λ d. stops (k d)))
+  stops-each : (dialect : Dialect) (ps : Patterns) (ms : Matchers) (vs : Valuesᵒ) (e : Bindings) (k : Bindings → List Met)
+      → stops (visitEach dialect ps ms vs e k) ≡ flatMap (λ s. stops (k (s .bound))) (solveEach dialect ps ms vs e)
+  stops-each dialect noPatterns ms vs e k = leaf true e k
+  stops-each dialect (p ▸ᵖ ps) noMatchers vs e k = leaf true e k
+  stops-each dialect (p ▸ᵖ ps) (m ▸ᵐ ms) emptyᵒ e k = leaf true e k
+  stops-each dialect (p ▸ᵖ ps) (m ▸ᵐ ms) (v ▸ᵒ vs) e k =
+      stops-visit dialect p m v e (λ d. visitEach dialect ps ms vs d k)
+      ∙ flatMap-cong _ _ (solve dialect p m v e) (λ s. stops-each dialect ps ms vs (s .bound) k)
+      ∙ sym (after-chain [] (solve dialect p m v e) (λ d. solveEach dialect ps ms vs d) (λ d. stops (k d)))
 
 -- ---- The rows that the whole search finds, in order.
 
@@ -175,6 +176,6 @@ founds-close (taken (found d) ∷ ms) (s ∷ ss) h =
 founds-close (ended ∷ ms) [] h = no-cons h
 founds-close (ended ∷ ms) (s ∷ ss) h = not-ended (sym h)
 
-pub founds-start : (m : Matcher) (p : Pattern) (v : Value) → founds (trace (start m p v ∷ [])) ≡ map (λ s. s .bound) (solve p m (target v) [])
+pub founds-start : (dialect : Dialect) (m : Matcher) (p : Pattern) (v : Value) → founds (trace dialect (start m p v ∷ [])) ≡ map (λ s. s .bound) (solve dialect p m (target v) [])
 unfolding trace met start stops
-founds-start m p v = founds-close (visit p m (target v) [] (λ d. taken (found d) ∷ [])) (solve p m (target v) []) (stops-visit p m (target v) [] (λ d. taken (found d) ∷ []))
+founds-start dialect m p v = founds-close (visit dialect p m (target v) [] (λ d. taken (found d) ∷ [])) (solve dialect p m (target v) []) (stops-visit dialect p m (target v) [] (λ d. taken (found d) ∷ []))

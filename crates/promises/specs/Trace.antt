@@ -6,14 +6,15 @@ use mathlib.Core.Bool.{Bool, true, false}
 use mathlib.Core.List.{List, [], _∷_, _++_, map, flatMap, append-nil, append-assoc}
 use lib.ListN.{length, take}
 use lib.Dec.{leb}
+use Rattle.rules.specs.Dialects.{Dialect}
 use Rattle.rules.specs.Forms.{Matcher, something, Matchers, noMatchers, _▸ᵐ_}
 use Rattle.rules.specs.Forms.{Pattern, wildcard, nil, variable, constant, value, cons, join, tuple, both, either, never, Patterns, noPatterns, _▸ᵖ_}
 use Rattle.rules.specs.Origins.{Valueᵒ, intᵒ, collectionᵒ, tupledᵒ, Valuesᵒ, emptyᵒ, _▸ᵒ_, Bindings, plain}
 use Rattle.rules.specs.Fit.{element, members, isSomething}
 use Rattle.rules.specs.Equality.{isConstant, isValue, isEmpty}
-use Rattle.rules.specs.Search.{Halves, consHalves, joinHalves, Atom, atom, endOfNot, State, state, dropIf, atoms, apart, after, leaveNot}
+use Rattle.rules.specs.Search.{Halves, consHalvesIn, joinHalves, Atom, atom, endOfNot, State, state, dropIf, atoms, apart, afterIn, leaveNot}
 use Rattle.rules.specs.Rows.{Form, row}
-use Rattle.rules.specs.Search.{Run, stopped, step, rowStep, run}
+use Rattle.rules.specs.Search.{Run, stopped, step, rowStep, runIn}
 use Rattle.rules.specs.Following.{ofParts}
 
 -- A state that was taken up: one with atoms left, or one with none, whose row is found.
@@ -41,33 +42,33 @@ inside (ended ∷ ms) next = pass ∷ []
 
 -- What is met from an atom on; `k` is what comes after it is matched, from the bindings then held.
 unfoldable mutual
-  unfolding isSomething isConstant isValue isEmpty consHalves joinHalves element members flatMap onlyIf ofParts inside
+  unfolding isSomething isConstant isValue isEmpty consHalvesIn joinHalves element members flatMap onlyIf ofParts inside
 
-  pub visit : Pattern → Matcher → Valueᵒ → Bindings → (Bindings → List Met) → List Met
-  visit wildcard m v e k = pass ∷ elim (isSomething m) [ true ↦ k e | false ↦ pass ∷ k e ]
-  visit (variable x) m v e k = pass ∷ elim (isSomething m) [ true ↦ k (e ++ (v ∷ [])) | false ↦ pass ∷ k (e ++ (v ∷ [])) ]
-  visit (constant c) m v e k = pass ∷ onlyIf (isConstant c (plain v)) (k e)
-  visit (value x c) m v e k = pass ∷ onlyIf (isValue m (map plain e) x c (plain v)) (k e)
-  visit nil m v e k = pass ∷ onlyIf (isEmpty (plain v)) (k e)
-  visit (cons p q) m v e k = pass ∷ flatMap (λ h. visit p (element m) (h .first) e (λ d. visit q m (h .second) d k)) (consHalves m v)
-  visit (join p q) m v e k = pass ∷ flatMap (λ h. visit p m (h .first) e (λ d. visit q m (h .second) d k)) (joinHalves v)
-  visit (tuple ps) m v e k = pass ∷ ofParts (λ vs. visitEach ps (members m) vs e k) v
-  visit (both p q) m v e k = pass ∷ visit p m v e (λ d. visit q m v d k)
-  visit (either p q) m v e k = pass ∷ (visit p m v e k ++ visit q m v e k)
-  visit (never p) m v e k = pass ∷ inside (visit p m v e (λ d. ended ∷ [])) (k e)
+  pub visit : (dialect : Dialect) → Pattern → Matcher → Valueᵒ → Bindings → (Bindings → List Met) → List Met
+  visit dialect wildcard m v e k = pass ∷ elim (isSomething m) [ true ↦ k e | false ↦ pass ∷ k e ]
+  visit dialect (variable x) m v e k = pass ∷ elim (isSomething m) [ true ↦ k (e ++ (v ∷ [])) | false ↦ pass ∷ k (e ++ (v ∷ [])) ]
+  visit dialect (constant c) m v e k = pass ∷ onlyIf (isConstant c (plain v)) (k e)
+  visit dialect (value x c) m v e k = pass ∷ onlyIf (isValue m (map plain e) x c (plain v)) (k e)
+  visit dialect nil m v e k = pass ∷ onlyIf (isEmpty (plain v)) (k e)
+  visit dialect (cons p q) m v e k = pass ∷ flatMap (λ h. visit dialect p (element m) (h .first) e (λ d. visit dialect q m (h .second) d k)) (consHalvesIn dialect m v)
+  visit dialect (join p q) m v e k = pass ∷ flatMap (λ h. visit dialect p m (h .first) e (λ d. visit dialect q m (h .second) d k)) (joinHalves v)
+  visit dialect (tuple ps) m v e k = pass ∷ ofParts (λ vs. visitEach dialect ps (members m) vs e k) v
+  visit dialect (both p q) m v e k = pass ∷ visit dialect p m v e (λ d. visit dialect q m v d k)
+  visit dialect (either p q) m v e k = pass ∷ (visit dialect p m v e k ++ visit dialect q m v e k)
+  visit dialect (never p) m v e k = pass ∷ inside (visit dialect p m v e (λ d. ended ∷ [])) (k e)
 
   -- The atoms of a tuple's parts, in order.
-  pub visitEach : Patterns → Matchers → Valuesᵒ → Bindings → (Bindings → List Met) → List Met
-  visitEach noPatterns ms vs e k = k e
-  visitEach (p ▸ᵖ ps) noMatchers vs e k = k e
-  visitEach (p ▸ᵖ ps) (m ▸ᵐ ms) emptyᵒ e k = k e
-  visitEach (p ▸ᵖ ps) (m ▸ᵐ ms) (v ▸ᵒ vs) e k = visit p m v e (λ d. visitEach ps ms vs d k)
+  pub visitEach : (dialect : Dialect) → Patterns → Matchers → Valuesᵒ → Bindings → (Bindings → List Met) → List Met
+  visitEach dialect noPatterns ms vs e k = k e
+  visitEach dialect (p ▸ᵖ ps) noMatchers vs e k = k e
+  visitEach dialect (p ▸ᵖ ps) (m ▸ᵐ ms) emptyᵒ e k = k e
+  visitEach dialect (p ▸ᵖ ps) (m ▸ᵐ ms) (v ▸ᵒ vs) e k = visit dialect p m v e (λ d. visitEach dialect ps ms vs d k)
 
-unfoldable pub visitAll : List Atom → Bindings → List Met
+unfoldable pub visitAll : (dialect : Dialect) → List Atom → Bindings → List Met
 unfolding visit
-visitAll [] e = taken (found e) ∷ []
-visitAll (endOfNot ∷ older) e = ended ∷ []
-visitAll (atom p m v ∷ older) e = visit p m v e (λ d. visitAll older d)
+visitAll dialect [] e = taken (found e) ∷ []
+visitAll dialect (endOfNot ∷ older) e = ended ∷ []
+visitAll dialect (atom p m v ∷ older) e = visit dialect p m v e (λ d. visitAll dialect older d)
 
 -- What comes from one more waiting state. A marked one waits behind the search inside a not.
 unfoldable pub behind : Bool → List Met → List Met → List Met
@@ -76,10 +77,10 @@ behind false ms ns = ms ++ ns
 behind true ms ns = inside ms ns
 
 -- All that comes from the waiting states, the first of them first; `ms` comes before them.
-unfoldable pub met : List Met → List State → List Met
+unfoldable pub met : (dialect : Dialect) → List Met → List State → List Met
 unfolding visitAll behind
-met ms [] = ms
-met ms (state g as′ e ∷ ss) = met (behind g ms (visitAll as′ e)) ss
+met dialect ms [] = ms
+met dialect ms (state g as′ e ∷ ss) = met dialect (behind g ms (visitAll dialect as′ e)) ss
 
 -- The states that are taken up.
 unfoldable pub close : List Met → List Taken
@@ -87,9 +88,9 @@ close [] = []
 close (taken t ∷ ms) = t ∷ close ms
 close (ended ∷ ms) = passed ∷ []
 
-unfoldable pub trace : List State → List Taken
+unfoldable pub trace : (dialect : Dialect) → List State → List Taken
 unfolding met close
-trace ss = close (met [] ss)
+trace dialect ss = close (met dialect [] ss)
 
 -- A walk along the list, by a budget and with `free` words of the room left.
 unfoldable pub walk : Form → ℕ → List Taken → ℕ → Run
@@ -105,145 +106,145 @@ walk f (suc n) (found e ∷ ts) free = elim (leb (length (row f e)) free) [
 
 -- ---- What is met from waiting states.
 
-pub met-cons : (t : Taken) (ms : List Met) (ss : List State) → met (taken t ∷ ms) ss ≡ taken t ∷ met ms ss
+pub met-cons : (dialect : Dialect) (t : Taken) (ms : List Met) (ss : List State) → met dialect (taken t ∷ ms) ss ≡ taken t ∷ met dialect ms ss
 unfolding met
-met-cons t ms [] = refl
-met-cons t ms (state false as′ e ∷ ss) = met-cons t (ms ++ visitAll as′ e) ss
-met-cons t ms (state true as′ e ∷ ss) = met-cons t (inside ms (visitAll as′ e)) ss
+met-cons dialect t ms [] = refl
+met-cons dialect t ms (state false as′ e ∷ ss) = met-cons dialect t (ms ++ visitAll dialect as′ e) ss
+met-cons dialect t ms (state true as′ e ∷ ss) = met-cons dialect t (inside ms (visitAll dialect as′ e)) ss
 
-met-append : (ms : List Met) (rs ss : List State) → met ms (rs ++ ss) ≡ met (met ms rs) ss
+met-append : (dialect : Dialect) (ms : List Met) (rs ss : List State) → met dialect ms (rs ++ ss) ≡ met dialect (met dialect ms rs) ss
 unfolding met
-met-append ms [] ss = refl
-met-append ms (state g as′ e ∷ rs) ss = met-append (behind g ms (visitAll as′ e)) rs ss
+met-append dialect ms [] ss = refl
+met-append dialect ms (state g as′ e ∷ rs) ss = met-append dialect (behind g ms (visitAll dialect as′ e)) rs ss
 
-pub met-first : (g : Bool) (as′ : List Atom) (e : Bindings) (ss : List State) → met [] (state g as′ e ∷ ss) ≡ met (visitAll as′ e) ss
+pub met-first : (dialect : Dialect) (g : Bool) (as′ : List Atom) (e : Bindings) (ss : List State) → met dialect [] (state g as′ e ∷ ss) ≡ met dialect (visitAll dialect as′ e) ss
 unfolding met
-met-first false as′ e ss = refl
-met-first true as′ e ss = refl
+met-first dialect false as′ e ss = refl
+met-first dialect true as′ e ss = refl
 
 -- The end of a search inside a not: what waits up to the marked state is not met.
-met-ended : (ms : List Met) (ss : List State) → close (met (ended ∷ ms) ss) ≡ passed ∷ close (met [] (leaveNot ss))
+met-ended : (dialect : Dialect) (ms : List Met) (ss : List State) → close (met dialect (ended ∷ ms) ss) ≡ passed ∷ close (met dialect [] (leaveNot ss))
 unfolding met close leaveNot
-met-ended ms [] = refl
-met-ended ms (state false as′ e ∷ ss) = met-ended (ms ++ visitAll as′ e) ss
-met-ended ms (state true as′ e ∷ ss) = ap close (met-cons passed [] ss)
+met-ended dialect ms [] = refl
+met-ended dialect ms (state false as′ e ∷ ss) = met-ended dialect (ms ++ visitAll dialect as′ e) ss
+met-ended dialect ms (state true as′ e ∷ ss) = ap close (met-cons dialect passed [] ss)
 
-met-each : (f : Halves → List Atom) (e : Bindings) (ms : List Met) (hs : List Halves)
-    → met ms (map (λ h. state false (f h) e) hs) ≡ ms ++ flatMap (λ h. visitAll (f h) e) hs
+met-each : (dialect : Dialect) (f : Halves → List Atom) (e : Bindings) (ms : List Met) (hs : List Halves)
+    → met dialect ms (map (λ h. state false (f h) e) hs) ≡ ms ++ flatMap (λ h. visitAll dialect (f h) e) hs
 unfolding met flatMap
-met-each f e ms [] = sym (append-nil ms)
-met-each f e ms (h ∷ hs) = met-each f e (ms ++ visitAll (f h) e) hs ∙ append-assoc ms (visitAll (f h) e) (flatMap (λ g. visitAll (f g) e) hs)
+met-each dialect f e ms [] = sym (append-nil ms)
+met-each dialect f e ms (h ∷ hs) = met-each dialect f e (ms ++ visitAll dialect (f h) e) hs ∙ append-assoc ms (visitAll dialect (f h) e) (flatMap (λ g. visitAll dialect (f g) e) hs)
 
 -- ---- The tree of an atom is its state and the trees of those that follow it.
 
-test : (b : Bool) (older : List Atom) (e : Bindings) → onlyIf b (visitAll older e) ≡ met [] (dropIf b older e)
+test : (dialect : Dialect) (b : Bool) (older : List Atom) (e : Bindings) → onlyIf b (visitAll dialect older e) ≡ met dialect [] (dropIf b older e)
 unfolding met onlyIf dropIf
-test true older e = refl
-test false older e = refl
+test dialect true older e = refl
+test dialect false older e = refl
 
 -- Tags 0 and 1, under something or not; d are the bindings after it.
-leaf : (b : Bool) (x : Atom) (older : List Atom) (d e : Bindings) → visitAll (x ∷ older) e ≡ pass ∷ visitAll older d
-    → elim b as (λ _. List Met) [ true ↦ visitAll older d | false ↦ pass ∷ visitAll older d ]
-    ≡ met [] (elim b as (λ _. List State) [ true ↦ state false older d ∷ [] | false ↦ state false (x ∷ older) e ∷ [] ])
+leaf : (dialect : Dialect) (b : Bool) (x : Atom) (older : List Atom) (d e : Bindings) → visitAll dialect (x ∷ older) e ≡ pass ∷ visitAll dialect older d
+    → elim b as (λ _. List Met) [ true ↦ visitAll dialect older d | false ↦ pass ∷ visitAll dialect older d ]
+    ≡ met dialect [] (elim b as (λ _. List State) [ true ↦ state false older d ∷ [] | false ↦ state false (x ∷ older) e ∷ [] ])
 unfolding met
-leaf true x older d e h = refl
-leaf false x older d e h = sym h
+leaf dialect true x older d e h = refl
+leaf dialect false x older d e h = sym h
 
-halves : (p : Pattern) (m : Matcher) (q : Pattern) (k : Matcher) (older : List Atom) (e : Bindings) (hs : List Halves)
-    → flatMap (λ h. visit p m (h .first) e (λ d. visit q k (h .second) d (λ c. visitAll older c))) hs
-    ≡ met [] (map (λ h. state false (atom p m (h .first) ∷ atom q k (h .second) ∷ older) e) hs)
+halves : (dialect : Dialect) (p : Pattern) (m : Matcher) (q : Pattern) (k : Matcher) (older : List Atom) (e : Bindings) (hs : List Halves)
+    → flatMap (λ h. visit dialect p m (h .first) e (λ d. visit dialect q k (h .second) d (λ c. visitAll dialect older c))) hs
+    ≡ met dialect [] (map (λ h. state false (atom p m (h .first) ∷ atom q k (h .second) ∷ older) e) hs)
 unfolding visitAll
-halves p m q k older e hs = sym (met-each (λ h. atom p m (h .first) ∷ atom q k (h .second) ∷ older) e [] hs)
+halves dialect p m q k older e hs = sym (met-each dialect (λ h. atom p m (h .first) ∷ atom q k (h .second) ∷ older) e [] hs)
 
-each : (ps : Patterns) (ms : Matchers) (vs : Valuesᵒ) (older : List Atom) (e : Bindings)
-    → visitEach ps ms vs e (λ d. visitAll older d) ≡ visitAll (atoms ps ms vs ++ older) e
+each : (dialect : Dialect) (ps : Patterns) (ms : Matchers) (vs : Valuesᵒ) (older : List Atom) (e : Bindings)
+    → visitEach dialect ps ms vs e (λ d. visitAll dialect older d) ≡ visitAll dialect (atoms ps ms vs ++ older) e
 unfolding visitEach visitAll atoms
-each noPatterns ms vs older e = refl
-each (p ▸ᵖ ps) noMatchers vs older e = refl
-each (p ▸ᵖ ps) (m ▸ᵐ ms) emptyᵒ older e = refl
-each (p ▸ᵖ ps) (m ▸ᵐ ms) (v ▸ᵒ vs) older e = ap (visit p m v e) (fun-ext (λ d. each ps ms vs older d))
+each dialect noPatterns ms vs older e = refl
+each dialect (p ▸ᵖ ps) noMatchers vs older e = refl
+each dialect (p ▸ᵖ ps) (m ▸ᵐ ms) emptyᵒ older e = refl
+each dialect (p ▸ᵖ ps) (m ▸ᵐ ms) (v ▸ᵒ vs) older e = ap (visit dialect p m v e) (fun-ext (λ d. each dialect ps ms vs older d))
 
-parted : (ps : Patterns) (ms : Matchers) (v : Valueᵒ) (older : List Atom) (e : Bindings)
-    → ofParts (λ vs. visitEach ps ms vs e (λ d. visitAll older d)) v ≡ met [] (apart ps ms v older e)
+parted : (dialect : Dialect) (ps : Patterns) (ms : Matchers) (v : Valueᵒ) (older : List Atom) (e : Bindings)
+    → ofParts (λ vs. visitEach dialect ps ms vs e (λ d. visitAll dialect older d)) v ≡ met dialect [] (apart ps ms v older e)
 unfolding ofParts apart met
-parted ps ms (intᵒ o x) older e = refl
-parted ps ms (collectionᵒ o vs) older e = refl
-parted ps ms (tupledᵒ o vs) older e = each ps ms vs older e
+parted dialect ps ms (intᵒ o x) older e = refl
+parted dialect ps ms (collectionᵒ o vs) older e = refl
+parted dialect ps ms (tupledᵒ o vs) older e = each dialect ps ms vs older e
 
-pub tree : (p : Pattern) (m : Matcher) (v : Valueᵒ) (older : List Atom) (e : Bindings) → visitAll (atom p m v ∷ older) e ≡ pass ∷ met [] (after p m v older e)
-unfolding visitAll after met
-tree wildcard m v older e = ap {B = List Met} (λ r. pass ∷ r) (leaf (isSomething m) (atom wildcard something v) older e e refl)
-tree nil m v older e = ap {B = List Met} (λ r. pass ∷ r) (test (isEmpty (plain v)) older e)
-tree (variable x) m v older e = ap {B = List Met} (λ r. pass ∷ r) (leaf (isSomething m) (atom (variable x) something v) older (e ++ (v ∷ [])) e refl)
-tree (constant c) m v older e = ap {B = List Met} (λ r. pass ∷ r) (test (isConstant c (plain v)) older e)
-tree (value x c) m v older e = ap {B = List Met} (λ r. pass ∷ r) (test (isValue m (map plain e) x c (plain v)) older e)
-tree (cons p q) m v older e = ap {B = List Met} (λ r. pass ∷ r) (halves p (element m) q m older e (consHalves m v))
-tree (join p q) m v older e = ap {B = List Met} (λ r. pass ∷ r) (halves p m q m older e (joinHalves v))
-tree (tuple ps) m v older e = ap {B = List Met} (λ r. pass ∷ r) (parted ps (members m) v older e)
-tree (both p q) m v older e = refl
-tree (either p q) m v older e = refl
-tree (never p) m v older e = refl
+pub tree : (dialect : Dialect) (p : Pattern) (m : Matcher) (v : Valueᵒ) (older : List Atom) (e : Bindings) → visitAll dialect (atom p m v ∷ older) e ≡ pass ∷ met dialect [] (afterIn dialect p m v older e)
+unfolding visitAll afterIn met
+tree dialect wildcard m v older e = ap {B = List Met} (λ r. pass ∷ r) (leaf dialect (isSomething m) (atom wildcard something v) older e e refl)
+tree dialect nil m v older e = ap {B = List Met} (λ r. pass ∷ r) (test dialect (isEmpty (plain v)) older e)
+tree dialect (variable x) m v older e = ap {B = List Met} (λ r. pass ∷ r) (leaf dialect (isSomething m) (atom (variable x) something v) older (e ++ (v ∷ [])) e refl)
+tree dialect (constant c) m v older e = ap {B = List Met} (λ r. pass ∷ r) (test dialect (isConstant c (plain v)) older e)
+tree dialect (value x c) m v older e = ap {B = List Met} (λ r. pass ∷ r) (test dialect (isValue m (map plain e) x c (plain v)) older e)
+tree dialect (cons p q) m v older e = ap {B = List Met} (λ r. pass ∷ r) (halves dialect p (element m) q m older e (consHalvesIn dialect m v))
+tree dialect (join p q) m v older e = ap {B = List Met} (λ r. pass ∷ r) (halves dialect p m q m older e (joinHalves v))
+tree dialect (tuple ps) m v older e = ap {B = List Met} (λ r. pass ∷ r) (parted dialect ps (members m) v older e)
+tree dialect (both p q) m v older e = refl
+tree dialect (either p q) m v older e = refl
+tree dialect (never p) m v older e = refl
 
 -- ---- The first waiting state: none, with no atom, at the end of a search inside a not, or with an atom.
 
-trace-none : trace [] ≡ []
+trace-none : (dialect : Dialect) → trace dialect [] ≡ []
 unfolding trace
-trace-none = refl
+trace-none dialect = refl
 
-module _ (g : Bool) (e : Bindings) (ss : List State) where
-  trace-found : trace (state g [] e ∷ ss) ≡ found e ∷ trace ss
+module _ (dialect : Dialect) (g : Bool) (e : Bindings) (ss : List State) where
+  trace-found : trace dialect (state g [] e ∷ ss) ≡ found e ∷ trace dialect ss
   unfolding trace visitAll
-  trace-found = ap close (met-first g [] e ss ∙ met-cons (found e) [] ss)
+  trace-found = ap close (met-first dialect g [] e ss ∙ met-cons dialect (found e) [] ss)
 
-  trace-cut : (older : List Atom) → trace (state g (endOfNot ∷ older) e ∷ ss) ≡ passed ∷ trace (leaveNot ss)
+  trace-cut : (older : List Atom) → trace dialect (state g (endOfNot ∷ older) e ∷ ss) ≡ passed ∷ trace dialect (leaveNot ss)
   unfolding trace visitAll
-  trace-cut older = ap close (met-first g (endOfNot ∷ older) e ss) ∙ met-ended [] ss
+  trace-cut older = ap close (met-first dialect g (endOfNot ∷ older) e ss) ∙ met-ended dialect [] ss
 
   trace-atom : (p : Pattern) (m : Matcher) (v : Valueᵒ) (older : List Atom)
-      → trace (state g (atom p m v ∷ older) e ∷ ss) ≡ passed ∷ trace (after p m v older e ++ ss)
+      → trace dialect (state g (atom p m v ∷ older) e ∷ ss) ≡ passed ∷ trace dialect (afterIn dialect p m v older e ++ ss)
   unfolding trace
-  trace-atom p m v older = ap close (met-first g (atom p m v ∷ older) e ss ∙ ap (λ r. met r ss) (tree p m v older e)
-      ∙ met-cons passed (met [] (after p m v older e)) ss ∙ ap {B = List Met} (λ r. pass ∷ r) (sym (met-append [] (after p m v older e) ss)))
+  trace-atom p m v older = ap close (met-first dialect g (atom p m v ∷ older) e ss ∙ ap (λ r. met dialect r ss) (tree dialect p m v older e)
+      ∙ met-cons dialect passed (met dialect [] (afterIn dialect p m v older e)) ss ∙ ap {B = List Met} (λ r. pass ∷ r) (sym (met-append dialect [] (afterIn dialect p m v older e) ss)))
 
 -- ---- A run walks along the trace.
 
-pub run-walks : (f : Form) (n : ℕ) (ss : List State) (free : ℕ) → run f n ss free ≡ walk f n (trace ss) free
-unfolding run walk
-run-walks f zero [] free = rw trace-none
-run-walks f zero (state g [] e ∷ ss) free = rw (trace-found g e ss)
-run-walks f zero (state g (endOfNot ∷ older) e ∷ ss) free = rw (trace-cut g e ss older)
-run-walks f zero (state g (atom p m v ∷ older) e ∷ ss) free = rw (trace-atom g e ss p m v older)
-run-walks f (suc n) [] free = rw trace-none
-run-walks f (suc n) (state g [] e ∷ ss) free = rw (trace-found g e ss)
-    (ap (λ z. elim (leb (length (row f e)) free) as (λ _. Run) [ true ↦ rowStep (row f e) z | false ↦ stopped 8 1 ]) (run-walks f n ss (free - length (row f e))))
-run-walks f (suc n) (state g (endOfNot ∷ older) e ∷ ss) free = rw (trace-cut g e ss older) (ap step (run-walks f n (leaveNot ss) free))
-run-walks f (suc n) (state g (atom p m v ∷ older) e ∷ ss) free = rw (trace-atom g e ss p m v older) (ap step (run-walks f n (after p m v older e ++ ss) free))
+pub run-walks : (dialect : Dialect) (f : Form) (n : ℕ) (ss : List State) (free : ℕ) → runIn dialect f n ss free ≡ walk f n (trace dialect ss) free
+unfolding runIn walk
+run-walks dialect f zero [] free = rw (trace-none dialect)
+run-walks dialect f zero (state g [] e ∷ ss) free = rw (trace-found dialect g e ss)
+run-walks dialect f zero (state g (endOfNot ∷ older) e ∷ ss) free = rw (trace-cut dialect g e ss older)
+run-walks dialect f zero (state g (atom p m v ∷ older) e ∷ ss) free = rw (trace-atom dialect g e ss p m v older)
+run-walks dialect f (suc n) [] free = rw (trace-none dialect)
+run-walks dialect f (suc n) (state g [] e ∷ ss) free = rw (trace-found dialect g e ss)
+    (ap (λ z. elim (leb (length (row f e)) free) as (λ _. Run) [ true ↦ rowStep (row f e) z | false ↦ stopped 8 1 ]) (run-walks dialect f n ss (free - length (row f e))))
+run-walks dialect f (suc n) (state g (endOfNot ∷ older) e ∷ ss) free = rw (trace-cut dialect g e ss older) (ap step (run-walks dialect f n (leaveNot ss) free))
+run-walks dialect f (suc n) (state g (atom p m v ∷ older) e ∷ ss) free = rw (trace-atom dialect g e ss p m v older) (ap step (run-walks dialect f n (afterIn dialect p m v older e ++ ss) free))
 
 -- ---- The same list by section 4's own words: the first of the waiting states is taken up, and what follows it comes before any older one.
 
 -- What waits after a state is taken up: those that follow it, and then the older ones. At the end of a search inside a not what is left of it is dropped.
-unfoldable pub following : State → (waiting : List State) → List State
-unfolding after leaveNot
-following (state g [] e) ss = ss
-following (state g (endOfNot ∷ older) e) ss = leaveNot ss
-following (state g (atom p m v ∷ older) e) ss = after p m v older e ++ ss
+unfoldable pub following : (dialect : Dialect) → State → (waiting : List State) → List State
+unfolding afterIn leaveNot
+following dialect (state g [] e) ss = ss
+following dialect (state g (endOfNot ∷ older) e) ss = leaveNot ss
+following dialect (state g (atom p m v ∷ older) e) ss = afterIn dialect p m v older e ++ ss
 
 -- The first n states that are taken up.
-unfoldable pub order : (n : ℕ) → (waiting : List State) → List State
+unfoldable pub order : (dialect : Dialect) (n : ℕ) → (waiting : List State) → List State
 unfolding following
-order zero ss = []
-order (suc n) [] = []
-order (suc n) (s ∷ ss) = s ∷ order n (following s ss)
+order dialect zero ss = []
+order dialect (suc n) [] = []
+order dialect (suc n) (s ∷ ss) = s ∷ order dialect n (following dialect s ss)
 
 unfoldable pub seen : State → Taken
 seen (state g [] e) = found e
 seen (state g (a ∷ older) e) = passed
 
-pub trace-order : (n : ℕ) (ss : List State) → take n (trace ss) ≡ map seen (order n ss)
+pub trace-order : (dialect : Dialect) (n : ℕ) (ss : List State) → take n (trace dialect ss) ≡ map seen (order dialect n ss)
 unfolding order seen
-trace-order zero ss = refl
-trace-order (suc n) [] = rw trace-none
-trace-order (suc n) (state g [] e ∷ ss) = rw (trace-found g e ss) (ap {B = List Taken} (λ r. found e ∷ r) (trace-order n ss))
-trace-order (suc n) (state g (endOfNot ∷ older) e ∷ ss) = rw (trace-cut g e ss older) (ap {B = List Taken} (λ r. passed ∷ r) (trace-order n (leaveNot ss)))
-trace-order (suc n) (state g (atom p m v ∷ older) e ∷ ss) =
-    rw (trace-atom g e ss p m v older) (ap {B = List Taken} (λ r. passed ∷ r) (trace-order n (after p m v older e ++ ss)))
+trace-order dialect zero ss = refl
+trace-order dialect (suc n) [] = rw (trace-none dialect)
+trace-order dialect (suc n) (state g [] e ∷ ss) = rw (trace-found dialect g e ss) (ap {B = List Taken} (λ r. found e ∷ r) (trace-order dialect n ss))
+trace-order dialect (suc n) (state g (endOfNot ∷ older) e ∷ ss) = rw (trace-cut dialect g e ss older) (ap {B = List Taken} (λ r. passed ∷ r) (trace-order dialect n (leaveNot ss)))
+trace-order dialect (suc n) (state g (atom p m v ∷ older) e ∷ ss) =
+    rw (trace-atom dialect g e ss p m v older) (ap {B = List Taken} (λ r. passed ∷ r) (trace-order dialect n (afterIn dialect p m v older e ++ ss)))

@@ -5,12 +5,13 @@ use mathlib.Core.Bool.{Bool, true, false}
 use mathlib.Core.Logic.{_↔_, inl, inr, ⊎-elim}
 use mathlib.Core.List.{List, [], _∷_, _++_, map, List·Memᴰ·head, List·Memᴰ·tail, List·Memᴰ·not-nil, List·Memᴰ·append-cases, List·Memᴰ·eq-of-singleton, Memᴰ·cast, Memᴰ·map, Memᴰ·of-map, Memᴰ·append-left, Memᴰ·append-right}
 use lib.Dec.{T}
+use Rattle.rules.specs.Dialects.{Dialect}
 use Rattle.rules.specs.Forms.{Matcher, Matchers, noMatchers, _▸ᵐ_, Value}
 use Rattle.rules.specs.Origins.{Valueᵒ, intᵒ, collectionᵒ, tupledᵒ, Valuesᵒ, emptyᵒ, _▸ᵒ_, Bindings, plain, target}
 use Rattle.rules.specs.Forms.{Pattern, wildcard, nil, variable, constant, value, cons, join, tuple, both, either, never, Patterns, noPatterns, _▸ᵖ_}
 use Rattle.rules.specs.Fit.{element, members}
 use Rattle.rules.specs.Equality.{isConstant, isValue, isEmpty}
-use Rattle.rules.specs.Search.{Halves, consHalves, joinHalves}
+use Rattle.rules.specs.Search.{Halves, consHalvesIn, joinHalves}
 use Rattle.rules.specs.Ways.{Way, ConsBy, JoinBy, Halved, Next, Side, Follows, FollowsAll, Good}
 use Rattle.forms.specs.Lists.{Mem, mem-flatMap, of-flatMap}
 use Rattle.rules.specs.Following.{Solution, Numbered, numbered, isMultiset, mark, extend, chain, onSide, combine, just, whenSo, noSolution, solve, solveEach, goodWays}
@@ -154,74 +155,74 @@ noSolution-complete (s ∷ ss) h = absurd (h s (List·Memᴰ·head refl))
 mutual
   unfolding solve Follows
 
-  pub sound : (p : Pattern) (m : Matcher) (v : Valueᵒ) (e : Bindings) (s : Solution) → Mem s (solve p m v e) → Follows p m v e (s .way) (s .bound)
-  sound wildcard m v e s i = just-sound e s i
-  sound nil m v e s i = when-sound (isEmpty (plain v)) e s i
-  sound (variable x) m v e s i = just-sound (e ++ (v ∷ [])) s i
-  sound (constant c) m v e s i = when-sound (isConstant c (plain v)) e s i
-  sound (value x c) m v e s i = when-sound (isValue m (map plain e) x c (plain v)) e s i
-  sound (cons p q) m v e s i =
-      halved-sound (isMultiset m) (consHalves m v) (ConsBy m v) (Follows p (element m)) (Follows q m) e (λ a. solve p (element m) a e) (solve q m)
-      (cons-sound m v) (λ a t j. sound p (element m) a e t j) (λ a d t j. sound q m a d t j) s i
-  sound (join p q) m v e s i =
-      halved-sound true (joinHalves v) (JoinBy v) (Follows p m) (Follows q m) e (λ a. solve p m a e) (solve q m)
-      (join-sound v) (λ a t j. sound p m a e t j) (λ a d t j. sound q m a d t j) s i
-  sound (tuple ps) m (intᵒ o x) e s i = absurd (List·Memᴰ·not-nil i)
-  sound (tuple ps) m (collectionᵒ o vs) e s i = absurd (List·Memᴰ·not-nil i)
-  sound (tuple ps) m (tupledᵒ o vs) e s i = sound-each ps (members m) vs e s i
-  sound (both p q) m v e s i = next-sound (Follows p m v) (Follows q m v) e (solve p m v e) (solve q m v)
-      (λ t j. sound p m v e t j) (λ d t j. sound q m v d t j) s i
-  sound (either p q) m v e s i = ⊎-elim
-      (λ j. inl (side-sound 0 (Follows p m v e) (solve p m v e) (λ t l. sound p m v e t l) s j))
-      (λ j. inr (side-sound 1 (Follows q m v e) (solve q m v e) (λ t l. sound q m v e t l) s j))
-      (List·Memᴰ·append-cases (map (onSide 0) (solve p m v e)) i)
-  sound (never p) m v e s i =
-      let r = when-sound (noSolution (solve p m v e)) e s i in
-      ((λ u c h. noSolution-sound (solve p m v e) (r .0) (solution u c) (complete p m v e u c h)), r .1, r .2)
+  pub sound : (dialect : Dialect) (p : Pattern) (m : Matcher) (v : Valueᵒ) (e : Bindings) (s : Solution) → Mem s (solve dialect p m v e) → Follows dialect p m v e (s .way) (s .bound)
+  sound dialect wildcard m v e s i = just-sound e s i
+  sound dialect nil m v e s i = when-sound (isEmpty (plain v)) e s i
+  sound dialect (variable x) m v e s i = just-sound (e ++ (v ∷ [])) s i
+  sound dialect (constant c) m v e s i = when-sound (isConstant c (plain v)) e s i
+  sound dialect (value x c) m v e s i = when-sound (isValue m (map plain e) x c (plain v)) e s i
+  sound dialect (cons p q) m v e s i =
+      halved-sound (isMultiset m) (consHalvesIn dialect m v) (ConsBy dialect m v) (Follows dialect p (element m)) (Follows dialect q m) e (λ a. solve dialect p (element m) a e) (solve dialect q m)
+      (cons-sound dialect m v) (λ a t j. sound dialect p (element m) a e t j) (λ a d t j. sound dialect q m a d t j) s i
+  sound dialect (join p q) m v e s i =
+      halved-sound true (joinHalves v) (JoinBy v) (Follows dialect p m) (Follows dialect q m) e (λ a. solve dialect p m a e) (solve dialect q m)
+      (join-sound v) (λ a t j. sound dialect p m a e t j) (λ a d t j. sound dialect q m a d t j) s i
+  sound dialect (tuple ps) m (intᵒ o x) e s i = absurd (List·Memᴰ·not-nil i)
+  sound dialect (tuple ps) m (collectionᵒ o vs) e s i = absurd (List·Memᴰ·not-nil i)
+  sound dialect (tuple ps) m (tupledᵒ o vs) e s i = sound-each dialect ps (members m) vs e s i
+  sound dialect (both p q) m v e s i = next-sound (Follows dialect p m v) (Follows dialect q m v) e (solve dialect p m v e) (solve dialect q m v)
+      (λ t j. sound dialect p m v e t j) (λ d t j. sound dialect q m v d t j) s i
+  sound dialect (either p q) m v e s i = ⊎-elim
+      (λ j. inl (side-sound 0 (Follows dialect p m v e) (solve dialect p m v e) (λ t l. sound dialect p m v e t l) s j))
+      (λ j. inr (side-sound 1 (Follows dialect q m v e) (solve dialect q m v e) (λ t l. sound dialect q m v e t l) s j))
+      (List·Memᴰ·append-cases (map (onSide 0) (solve dialect p m v e)) i)
+  sound dialect (never p) m v e s i =
+      let r = when-sound (noSolution (solve dialect p m v e)) e s i in
+      ((λ u c h. noSolution-sound (solve dialect p m v e) (r .0) (solution u c) (complete dialect p m v e u c h)), r .1, r .2)
 
-  sound-each : (ps : Patterns) (ms : Matchers) (vs : Valuesᵒ) (e : Bindings) (s : Solution) → Mem s (solveEach ps ms vs e)
-      → FollowsAll ps ms vs e (s .way) (s .bound)
-  sound-each noPatterns ms vs e s i = just-sound e s i
-  sound-each (p ▸ᵖ ps) noMatchers vs e s i = just-sound e s i
-  sound-each (p ▸ᵖ ps) (m ▸ᵐ ms) emptyᵒ e s i = just-sound e s i
-  sound-each (p ▸ᵖ ps) (m ▸ᵐ ms) (v ▸ᵒ vs) e s i =
-      next-sound (Follows p m v) (FollowsAll ps ms vs) e (solve p m v e) (solveEach ps ms vs)
-      (λ t j. sound p m v e t j) (λ d t j. sound-each ps ms vs d t j) s i
+  sound-each : (dialect : Dialect) (ps : Patterns) (ms : Matchers) (vs : Valuesᵒ) (e : Bindings) (s : Solution) → Mem s (solveEach dialect ps ms vs e)
+      → FollowsAll dialect ps ms vs e (s .way) (s .bound)
+  sound-each dialect noPatterns ms vs e s i = just-sound e s i
+  sound-each dialect (p ▸ᵖ ps) noMatchers vs e s i = just-sound e s i
+  sound-each dialect (p ▸ᵖ ps) (m ▸ᵐ ms) emptyᵒ e s i = just-sound e s i
+  sound-each dialect (p ▸ᵖ ps) (m ▸ᵐ ms) (v ▸ᵒ vs) e s i =
+      next-sound (Follows dialect p m v) (FollowsAll dialect ps ms vs) e (solve dialect p m v e) (solveEach dialect ps ms vs)
+      (λ t j. sound dialect p m v e t j) (λ d t j. sound-each dialect ps ms vs d t j) s i
 
-  pub complete : (p : Pattern) (m : Matcher) (v : Valueᵒ) (e : Bindings) (w : Way) (d : Bindings) → Follows p m v e w d → Mem (solution w d) (solve p m v e)
-  complete wildcard m v e w d h = just-complete e w d (h .0) (h .1)
-  complete nil m v e w d h = when-complete (isEmpty (plain v)) e w d (h .0) (h .1) (h .2)
-  complete (variable x) m v e w d h = just-complete (e ++ (v ∷ [])) w d (h .0) (h .1)
-  complete (constant c) m v e w d h = when-complete (isConstant c (plain v)) e w d (h .0) (h .1) (h .2)
-  complete (value x c) m v e w d h = when-complete (isValue m (map plain e) x c (plain v)) e w d (h .0) (h .1) (h .2)
-  complete (cons p q) m v e w d h =
-      halved-complete (isMultiset m) (consHalves m v) (ConsBy m v) (Follows p (element m)) (Follows q m) e (λ a. solve p (element m) a e) (solve q m)
-      (cons-complete m v) (λ a u c j. complete p (element m) a e u c j) (λ a b u c j. complete q m a b u c j) w d h
-  complete (join p q) m v e w d h =
-      halved-complete true (joinHalves v) (JoinBy v) (Follows p m) (Follows q m) e (λ a. solve p m a e) (solve q m)
-      (join-complete v) (λ a u c j. complete p m a e u c j) (λ a b u c j. complete q m a b u c j) w d h
-  complete (tuple ps) m (intᵒ o x) e w d h = absurd h
-  complete (tuple ps) m (collectionᵒ o vs) e w d h = absurd h
-  complete (tuple ps) m (tupledᵒ o vs) e w d h = complete-each ps (members m) vs e w d h
-  complete (both p q) m v e w d h = next-complete (Follows p m v) (Follows q m v) e (solve p m v e) (solve q m v)
-      (λ u c j. complete p m v e u c j) (λ b u c j. complete q m v b u c j) w d h
-  complete (either p q) m v e w d (inl h) = Memᴰ·append-left (map (onSide 1) (solve q m v e))
-      (side-complete 0 (Follows p m v e) (solve p m v e) (λ u c j. complete p m v e u c j) w d h)
-  complete (either p q) m v e w d (inr h) = Memᴰ·append-right (map (onSide 0) (solve p m v e))
-      (side-complete 1 (Follows q m v e) (solve q m v e) (λ u c j. complete q m v e u c j) w d h)
-  complete (never p) m v e w d h = when-complete (noSolution (solve p m v e)) e w d
-      (noSolution-complete (solve p m v e) (λ s i. h .0 (s .way) (s .bound) (sound p m v e s i))) (h .1) (h .2)
+  pub complete : (dialect : Dialect) (p : Pattern) (m : Matcher) (v : Valueᵒ) (e : Bindings) (w : Way) (d : Bindings) → Follows dialect p m v e w d → Mem (solution w d) (solve dialect p m v e)
+  complete dialect wildcard m v e w d h = just-complete e w d (h .0) (h .1)
+  complete dialect nil m v e w d h = when-complete (isEmpty (plain v)) e w d (h .0) (h .1) (h .2)
+  complete dialect (variable x) m v e w d h = just-complete (e ++ (v ∷ [])) w d (h .0) (h .1)
+  complete dialect (constant c) m v e w d h = when-complete (isConstant c (plain v)) e w d (h .0) (h .1) (h .2)
+  complete dialect (value x c) m v e w d h = when-complete (isValue m (map plain e) x c (plain v)) e w d (h .0) (h .1) (h .2)
+  complete dialect (cons p q) m v e w d h =
+      halved-complete (isMultiset m) (consHalvesIn dialect m v) (ConsBy dialect m v) (Follows dialect p (element m)) (Follows dialect q m) e (λ a. solve dialect p (element m) a e) (solve dialect q m)
+      (cons-complete dialect m v) (λ a u c j. complete dialect p (element m) a e u c j) (λ a b u c j. complete dialect q m a b u c j) w d h
+  complete dialect (join p q) m v e w d h =
+      halved-complete true (joinHalves v) (JoinBy v) (Follows dialect p m) (Follows dialect q m) e (λ a. solve dialect p m a e) (solve dialect q m)
+      (join-complete v) (λ a u c j. complete dialect p m a e u c j) (λ a b u c j. complete dialect q m a b u c j) w d h
+  complete dialect (tuple ps) m (intᵒ o x) e w d h = absurd h
+  complete dialect (tuple ps) m (collectionᵒ o vs) e w d h = absurd h
+  complete dialect (tuple ps) m (tupledᵒ o vs) e w d h = complete-each dialect ps (members m) vs e w d h
+  complete dialect (both p q) m v e w d h = next-complete (Follows dialect p m v) (Follows dialect q m v) e (solve dialect p m v e) (solve dialect q m v)
+      (λ u c j. complete dialect p m v e u c j) (λ b u c j. complete dialect q m v b u c j) w d h
+  complete dialect (either p q) m v e w d (inl h) = Memᴰ·append-left (map (onSide 1) (solve dialect q m v e))
+      (side-complete 0 (Follows dialect p m v e) (solve dialect p m v e) (λ u c j. complete dialect p m v e u c j) w d h)
+  complete dialect (either p q) m v e w d (inr h) = Memᴰ·append-right (map (onSide 0) (solve dialect p m v e))
+      (side-complete 1 (Follows dialect q m v e) (solve dialect q m v e) (λ u c j. complete dialect q m v e u c j) w d h)
+  complete dialect (never p) m v e w d h = when-complete (noSolution (solve dialect p m v e)) e w d
+      (noSolution-complete (solve dialect p m v e) (λ s i. h .0 (s .way) (s .bound) (sound dialect p m v e s i))) (h .1) (h .2)
 
-  complete-each : (ps : Patterns) (ms : Matchers) (vs : Valuesᵒ) (e : Bindings) (w : Way) (d : Bindings) → FollowsAll ps ms vs e w d
-      → Mem (solution w d) (solveEach ps ms vs e)
-  complete-each noPatterns ms vs e w d h = just-complete e w d (h .0) (h .1)
-  complete-each (p ▸ᵖ ps) noMatchers vs e w d h = just-complete e w d (h .0) (h .1)
-  complete-each (p ▸ᵖ ps) (m ▸ᵐ ms) emptyᵒ e w d h = just-complete e w d (h .0) (h .1)
-  complete-each (p ▸ᵖ ps) (m ▸ᵐ ms) (v ▸ᵒ vs) e w d h = next-complete (Follows p m v) (FollowsAll ps ms vs) e (solve p m v e) (solveEach ps ms vs)
-      (λ u c j. complete p m v e u c j) (λ b u c j. complete-each ps ms vs b u c j) w d h
+  complete-each : (dialect : Dialect) (ps : Patterns) (ms : Matchers) (vs : Valuesᵒ) (e : Bindings) (w : Way) (d : Bindings) → FollowsAll dialect ps ms vs e w d
+      → Mem (solution w d) (solveEach dialect ps ms vs e)
+  complete-each dialect noPatterns ms vs e w d h = just-complete e w d (h .0) (h .1)
+  complete-each dialect (p ▸ᵖ ps) noMatchers vs e w d h = just-complete e w d (h .0) (h .1)
+  complete-each dialect (p ▸ᵖ ps) (m ▸ᵐ ms) emptyᵒ e w d h = just-complete e w d (h .0) (h .1)
+  complete-each dialect (p ▸ᵖ ps) (m ▸ᵐ ms) (v ▸ᵒ vs) e w d h = next-complete (Follows dialect p m v) (FollowsAll dialect ps ms vs) e (solve dialect p m v e) (solveEach dialect ps ms vs)
+      (λ u c j. complete dialect p m v e u c j) (λ b u c j. complete-each dialect ps ms vs b u c j) w d h
 
 -- ---- The theorem.
 
-pub good-is-computed : (m : Matcher) (p : Pattern) (v : Value) (w : Way) (e : Bindings) → Good m p v w e ↔ Mem (solution w e) (goodWays m p v)
+pub good-is-computed : (dialect : Dialect) (m : Matcher) (p : Pattern) (v : Value) (w : Way) (e : Bindings) → Good dialect m p v w e ↔ Mem (solution w e) (goodWays dialect m p v)
 unfolding Good goodWays
-good-is-computed m p v w e = (complete p m (target v) [] w e, sound p m (target v) [] (solution w e))
+good-is-computed dialect m p v w e = (complete dialect p m (target v) [] w e, sound dialect p m (target v) [] (solution w e))

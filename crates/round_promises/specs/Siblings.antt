@@ -6,6 +6,7 @@ use mathlib.Core.Path.{_≡_, refl, sym, ap, _∙_, subst}
 use mathlib.Core.Logic.{_⊎_, inl, inr, ⊎-elim}
 use mathlib.Core.List.{List, [], _∷_, _++_, flatMap, append-assoc, List·Memᴰ·append-cases, List·Memᴰ·head, List·Memᴰ·tail, List·Memᴰ·not-nil}
 use lib.ListN.{length, length-append}
+use Rattle.rules.specs.Dialects.{Dialect}
 use Rattle.rules.specs.Search.{State}
 use Rattle.rules.specs.Services.{Rule}
 use Rattle.rules.specs.Forms.{Value}
@@ -17,10 +18,10 @@ use Rattle.round_promises.specs.Order.{later, states-onward}
 use Rattle.round_promises.specs.Whole.{beginning}
 
 -- The states ss are the last of those that follow from one state.
-pub record Siblings (ss : List State) : Type 0 where
+pub record Siblings (dialect : Dialect) (ss : List State) : Type 0 where
   pub parent : State
   pub before : List State
-  pub is : up parent .next ≡ before ++ ss
+  pub is : up dialect parent .next ≡ before ++ ss
 
 branched : (ss : List State) (b : Branch) → Mem b (branch ss) → b .first ∷ b .others ≡ ss
 unfolding branch
@@ -29,43 +30,43 @@ branched (s ∷ ss) b (List·Memᴰ·head e) = ap (λ (x : Branch). x .first ∷
 branched (s ∷ ss) b (List·Memᴰ·tail i) = absurd (List·Memᴰ·not-nil i)
 
 -- A list after a round is new, or what is left of one before it.
-others-siblings : (b : Branch) → Siblings (b .first ∷ b .others) → Siblings (b .others)
-others-siblings b s = record {
+others-siblings : (dialect : Dialect) (b : Branch) → Siblings dialect (b .first ∷ b .others) → Siblings dialect (b .others)
+others-siblings dialect b s = record {
   parent = s .parent;
   before = s .before ++ (b .first ∷ []);
   is = s .is ∙ sym (append-assoc (s .before) (b .first ∷ []) (b .others));
 }
 
-onward-siblings : (bs : List Branch) → ((b : Branch) → Mem b bs → Siblings (b .first ∷ b .others) ⊎ (b .others ≡ []))
-    → (b : Branch) → Mem b (onward bs) → Siblings (b .first ∷ b .others)
+onward-siblings : (dialect : Dialect) (bs : List Branch) → ((b : Branch) → Mem b bs → Siblings dialect (b .first ∷ b .others) ⊎ (b .others ≡ []))
+    → (b : Branch) → Mem b (onward dialect bs) → Siblings dialect (b .first ∷ b .others)
 unfolding onward fresh remainders
-onward-siblings bs h b i = ⊎-elim fresh left (List·Memᴰ·append-cases (flatMap (λ x. branch (up (x .first) .next)) bs) i)
+onward-siblings dialect bs h b i = ⊎-elim new left (List·Memᴰ·append-cases (flatMap (λ x. branch (up dialect (x .first) .next)) bs) i)
   where
-    fresh : Mem b (flatMap (λ x. branch (up (x .first) .next)) bs) → Siblings (b .first ∷ b .others)
-    fresh j = let m = of-flatMap (λ (x : Branch). branch (up (x .first) .next)) bs j in
-        record { parent = m .0 .first; before = []; is = sym (branched (up (m .0 .first) .next) b (m .2)) }
+    new : Mem b (flatMap (λ x. branch (up dialect (x .first) .next)) bs) → Siblings dialect (b .first ∷ b .others)
+    new j = let m = of-flatMap (λ (x : Branch). branch (up dialect (x .first) .next)) bs j in
+        record { parent = m .0 .first; before = []; is = sym (branched (up dialect (m .0 .first) .next) b (m .2)) }
 
-    left : Mem b (flatMap (λ x. branch (x .others)) bs) → Siblings (b .first ∷ b .others)
+    left : Mem b (flatMap (λ x. branch (x .others)) bs) → Siblings dialect (b .first ∷ b .others)
     left j = let m = of-flatMap (λ (x : Branch). branch (x .others)) bs j in
         let e = branched (m .0 .others) b (m .2) in
-        subst Siblings (sym e) (⊎-elim (λ s. others-siblings (m .0) s) (λ z. no-cons (e ∙ z)) (h (m .0) (m .1)))
+        subst (Siblings dialect) (sym e) (⊎-elim (λ s. others-siblings dialect (m .0) s) (λ z. no-cons (e ∙ z)) (h (m .0) (m .1)))
 
 -- A list of a round; the first list of all has one state.
-abbrev Held : Branch → Type 0
-Held b = Siblings (b .first ∷ b .others) ⊎ (b .others ≡ [])
+abbrev Held : (dialect : Dialect) → Branch → Type 0
+Held dialect b = Siblings dialect (b .first ∷ b .others) ⊎ (b .others ≡ [])
 
-later-held : (k : ℕ) (bs : List Branch) → ((b : Branch) → Mem b bs → Held b) → (b : Branch) → Mem b (later k bs) → Held b
+later-held : (dialect : Dialect) (k : ℕ) (bs : List Branch) → ((b : Branch) → Mem b bs → Held dialect b) → (b : Branch) → Mem b (later dialect k bs) → Held dialect b
 unfolding later
-later-held zero bs h b i = h b i
-later-held (suc k) bs h b i = later-held k (onward bs) (λ c j. inl (onward-siblings bs h c j)) b i
+later-held dialect zero bs h b i = h b i
+later-held dialect (suc k) bs h b i = later-held dialect k (onward dialect bs) (λ c j. inl (onward-siblings dialect bs h c j)) b i
 
-first-held : (r : Rule) (v : Value) (b : Branch) → Mem b (beginning r v) → Held b
+first-held : (dialect : Dialect) (r : Rule) (v : Value) (b : Branch) → Mem b (beginning r v) → Held dialect b
 unfolding beginning branch
-first-held r v b (List·Memᴰ·head e) = inr (ap (λ (x : Branch). x .others) e)
-first-held r v b (List·Memᴰ·tail i) = absurd (List·Memᴰ·not-nil i)
+first-held dialect r v b (List·Memᴰ·head e) = inr (ap (λ (x : Branch). x .others) e)
+first-held dialect r v b (List·Memᴰ·tail i) = absurd (List·Memᴰ·not-nil i)
 
-pub lists-held : (r : Rule) (v : Value) (k : ℕ) (b : Branch) → Mem b (later k (beginning r v)) → Siblings (b .first ∷ b .others) ⊎ (b .others ≡ [])
-lists-held r v k = later-held k (beginning r v) (first-held r v)
+pub lists-held : (dialect : Dialect) (r : Rule) (v : Value) (k : ℕ) (b : Branch) → Mem b (later dialect k (beginning r v)) → Siblings dialect (b .first ∷ b .others) ⊎ (b .others ≡ [])
+lists-held dialect r v k = later-held dialect k (beginning r v) (first-held dialect r v)
 
 -- No more lists than states; and how many states wait after a round, counted list by list.
 pub lists-most : (bs : List Branch) → length bs ≤ waiting bs
@@ -73,6 +74,6 @@ unfolding waiting states flatMap
 lists-most [] = omega arith
 lists-most (b ∷ bs) = omega (arith, lists-most bs, length-append (b .others) (states bs))
 
-pub waiting-onward : (bs : List Branch) → waiting (onward bs) ≡ length (flatMap (λ b. up (b .first) .next) bs) + length (flatMap (λ b. b .others) bs)
+pub waiting-onward : (dialect : Dialect) (bs : List Branch) → waiting (onward dialect bs) ≡ length (flatMap (λ b. up dialect (b .first) .next) bs) + length (flatMap (λ b. b .others) bs)
 unfolding waiting
-waiting-onward bs = ap length (states-onward bs) ∙ length-append (flatMap (λ b. up (b .first) .next) bs) (flatMap (λ b. b .others) bs)
+waiting-onward dialect bs = ap length (states-onward dialect bs) ∙ length-append (flatMap (λ b. up dialect (b .first) .next) bs) (flatMap (λ b. b .others) bs)

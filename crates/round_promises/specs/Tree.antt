@@ -5,12 +5,13 @@ use mathlib.Core.Path.{_≡_, refl, sym, ap, ap₂, _∙_}
 use mathlib.Core.Bool.{Bool, true, false}
 use mathlib.Core.List.{List, [], _∷_, _++_, map, flatMap, append-nil, append-assoc}
 use lib.ListN.{length}
+use Rattle.rules.specs.Dialects.{Dialect}
 use Rattle.rules.specs.Forms.{Matcher, Value, Patterns, Matchers}
 use Rattle.rules.specs.Forms.{Pattern, wildcard, variable, constant, value, nil, cons, join, tuple, both, either, never}
 use Rattle.rules.specs.Fit.{members, isSomething}
 use Rattle.rules.specs.Origins.{Valueᵒ, intᵒ, collectionᵒ, tupledᵒ, Bindings, plain, target}
 use Rattle.rules.specs.Equality.{isConstant, isValue, isEmpty}
-use Rattle.rules.specs.Search.{Halves, consHalves, joinHalves, Atom, atom, endOfNot, State, state, dropIf, apart, after, start}
+use Rattle.rules.specs.Search.{Halves, consHalvesIn, joinHalves, Atom, atom, endOfNot, State, state, dropIf, apart, afterIn, start}
 use Rattle.rules.specs.Following.{Solution, noSolution, solve}
 use Rattle.promises.specs.Trace.{Taken, passed, found, Met, taken, ended, pass, inside, visit, visitAll, met, close, trace, tree}
 use Rattle.promises.specs.Solve.{stops, stops-visit, no-cons, not-ended}
@@ -24,9 +25,9 @@ spread (taken t ∷ ms) = t ∷ spread ms
 spread (ended ∷ ms) = passed ∷ spread ms
 
 -- All that comes from a state, depth-first.
-unfoldable pub comes : State → List Taken
+unfoldable pub comes : (dialect : Dialect) → State → List Taken
 unfolding spread visitAll
-comes (state g as′ e) = spread (visitAll as′ e)
+comes dialect (state g as′ e) = spread (visitAll dialect as′ e)
 
 spread-append : (xs ys : List Met) → spread (xs ++ ys) ≡ spread xs ++ spread ys
 unfolding spread
@@ -41,13 +42,13 @@ Unmarked [] = Unit {0}
 Unmarked (state true as′ e ∷ ss) = ⊥
 Unmarked (state false as′ e ∷ ss) = Unmarked ss
 
-spread-met : (ms : List Met) (ss : List State) → Unmarked ss → spread (met ms ss) ≡ spread ms ++ flatMap comes ss
+spread-met : (dialect : Dialect) (ms : List Met) (ss : List State) → Unmarked ss → spread (met dialect ms ss) ≡ spread ms ++ flatMap (comes dialect) ss
 unfolding met flatMap comes Unmarked
-spread-met ms [] u = sym (append-nil (spread ms))
-spread-met ms (state true as′ e ∷ ss) u = absurd u
-spread-met ms (state false as′ e ∷ ss) u =
-    spread-met (ms ++ visitAll as′ e) ss u ∙ ap {B = List Taken} (λ r. r ++ flatMap comes ss) (spread-append ms (visitAll as′ e))
-    ∙ append-assoc (spread ms) (spread (visitAll as′ e)) (flatMap comes ss)
+spread-met dialect ms [] u = sym (append-nil (spread ms))
+spread-met dialect ms (state true as′ e ∷ ss) u = absurd u
+spread-met dialect ms (state false as′ e ∷ ss) u =
+    spread-met dialect (ms ++ visitAll dialect as′ e) ss u ∙ ap {B = List Taken} (λ r. r ++ flatMap (comes dialect) ss) (spread-append ms (visitAll dialect as′ e))
+    ∙ append-assoc (spread ms) (spread (visitAll dialect as′ e)) (flatMap (comes dialect) ss)
 
 -- What follows an atom that is no not.
 
@@ -74,30 +75,30 @@ apart-unmarked ps ms (collectionᵒ o vs) older e = tt
 apart-unmarked ps ms (tupledᵒ o vs) older e = tt
 
 -- An atom is taken up in one step, and none of the states that follow waits behind a search; or it is a not.
-pub data Taking (m : Matcher) (v : Valueᵒ) (older : List Atom) (e : Bindings) : Pattern → Type 0 where
-  single : {p : Pattern} → upAtom p m v older e ≡ one (after p m v older e) → Unmarked (after p m v older e) → Taking m v older e p
-  denied : (p : Pattern) → Taking m v older e (never p)
+pub data Taking (dialect : Dialect) (m : Matcher) (v : Valueᵒ) (older : List Atom) (e : Bindings) : Pattern → Type 0 where
+  single : {p : Pattern} → upAtom dialect p m v older e ≡ one (afterIn dialect p m v older e) → Unmarked (afterIn dialect p m v older e) → Taking dialect m v older e p
+  denied : (p : Pattern) → Taking dialect m v older e (never p)
 
-pub taking : (p : Pattern) (m : Matcher) (v : Valueᵒ) (older : List Atom) (e : Bindings) → Taking m v older e p
-unfolding upAtom after Unmarked
-taking wildcard m v older e = single refl (leaf-unmarked (isSomething m) _ _ _ _)
-taking (variable x) m v older e = single refl (leaf-unmarked (isSomething m) _ _ _ _)
-taking (constant c) m v older e = single refl (test-unmarked (isConstant c (plain v)) older e)
-taking (value x c) m v older e = single refl (test-unmarked (isValue m (map plain e) x c (plain v)) older e)
-taking nil m v older e = single refl (test-unmarked (isEmpty (plain v)) older e)
-taking (cons p q) m v older e = single refl (each-unmarked _ e (consHalves m v))
-taking (join p q) m v older e = single refl (each-unmarked _ e (joinHalves v))
-taking (tuple ps) m v older e = single refl (apart-unmarked ps (members m) v older e)
-taking (both p q) m v older e = single refl tt
-taking (either p q) m v older e = single refl tt
-taking (never p) m v older e = denied p
+pub taking : (dialect : Dialect) (p : Pattern) (m : Matcher) (v : Valueᵒ) (older : List Atom) (e : Bindings) → Taking dialect m v older e p
+unfolding upAtom afterIn Unmarked
+taking dialect wildcard m v older e = single refl (leaf-unmarked (isSomething m) _ _ _ _)
+taking dialect (variable x) m v older e = single refl (leaf-unmarked (isSomething m) _ _ _ _)
+taking dialect (constant c) m v older e = single refl (test-unmarked (isConstant c (plain v)) older e)
+taking dialect (value x c) m v older e = single refl (test-unmarked (isValue m (map plain e) x c (plain v)) older e)
+taking dialect nil m v older e = single refl (test-unmarked (isEmpty (plain v)) older e)
+taking dialect (cons p q) m v older e = single refl (each-unmarked _ e (consHalvesIn dialect m v))
+taking dialect (join p q) m v older e = single refl (each-unmarked _ e (joinHalves v))
+taking dialect (tuple ps) m v older e = single refl (apart-unmarked ps (members m) v older e)
+taking dialect (both p q) m v older e = single refl tt
+taking dialect (either p q) m v older e = single refl tt
+taking dialect (never p) m v older e = denied p
 
 -- ---- The law, for such an atom and for a not.
 
-one-law : (p : Pattern) (m : Matcher) (v : Valueᵒ) (older : List Atom) (e : Bindings) → Unmarked (after p m v older e)
-    → spread (visitAll (atom p m v ∷ older) e) ≡ passed ∷ flatMap comes (after p m v older e)
+one-law : (dialect : Dialect) (p : Pattern) (m : Matcher) (v : Valueᵒ) (older : List Atom) (e : Bindings) → Unmarked (afterIn dialect p m v older e)
+    → spread (visitAll dialect (atom p m v ∷ older) e) ≡ passed ∷ flatMap (comes dialect) (afterIn dialect p m v older e)
 unfolding spread
-one-law p m v older e u = ap spread (tree p m v older e) ∙ ap {B = List Taken} (λ r. passed ∷ r) (spread-met [] (after p m v older e) u)
+one-law dialect p m v older e u = ap spread (tree dialect p m v older e) ∙ ap {B = List Taken} (λ r. passed ∷ r) (spread-met dialect [] (afterIn dialect p m v older e) u)
 
 within-none : (ms ns : List Met) → stops ms ≡ [] → spread (inside ms ns) ≡ close ms ++ spread ns
 unfolding stops inside close spread
@@ -113,42 +114,42 @@ within-end (taken passed ∷ ms) ns us h = ap {B = List Taken} (λ r. passed ∷
 within-end (taken (found e) ∷ ms) ns us h = not-ended h
 within-end (ended ∷ ms) ns us h = refl
 
-whole-law : (ms : List Met) (ss : List Solution) (older : List Atom) (e : Bindings) → stops ms ≡ flatMap (λ s. ended ∷ []) ss
-    → spread (inside ms (visitAll older e)) ≡ close ms ++ flatMap comes (dropIf (noSolution ss) older e)
+whole-law : (dialect : Dialect) (ms : List Met) (ss : List Solution) (older : List Atom) (e : Bindings) → stops ms ≡ flatMap (λ s. ended ∷ []) ss
+    → spread (inside ms (visitAll dialect older e)) ≡ close ms ++ flatMap (comes dialect) (dropIf (noSolution ss) older e)
 unfolding noSolution dropIf flatMap comes
-whole-law ms [] older e h = within-none ms (visitAll older e) h ∙ ap {B = List Taken} (λ r. close ms ++ r) (sym (append-nil (spread (visitAll older e))))
-whole-law ms (s ∷ ss) older e h = within-end ms (visitAll older e) _ h
+whole-law dialect ms [] older e h = within-none ms (visitAll dialect older e) h ∙ ap {B = List Taken} (λ r. close ms ++ r) (sym (append-nil (spread (visitAll dialect older e))))
+whole-law dialect ms (s ∷ ss) older e h = within-end ms (visitAll dialect older e) _ h
 
-not-law : (p : Pattern) (m : Matcher) (v : Valueᵒ) (older : List Atom) (e : Bindings)
-    → spread (visitAll (atom (never p) m v ∷ older) e) ≡ whole p m v older e .taken ++ flatMap comes (whole p m v older e .next)
+not-law : (dialect : Dialect) (p : Pattern) (m : Matcher) (v : Valueᵒ) (older : List Atom) (e : Bindings)
+    → spread (visitAll dialect (atom (never p) m v ∷ older) e) ≡ whole dialect p m v older e .taken ++ flatMap (comes dialect) (whole dialect p m v older e .next)
 unfolding spread visitAll visit whole trace met stops
-not-law p m v older e = ap {B = List Taken} (λ r. passed ∷ r)
-    (whole-law (visit p m v e (λ d. ended ∷ [])) (solve p m v e) older e (stops-visit p m v e (λ d. ended ∷ [])))
+not-law dialect p m v older e = ap {B = List Taken} (λ r. passed ∷ r)
+    (whole-law dialect (visit dialect p m v e (λ d. ended ∷ [])) (solve dialect p m v e) older e (stops-visit dialect p m v e (λ d. ended ∷ [])))
 
-atom-law : (p : Pattern) (m : Matcher) (v : Valueᵒ) (older : List Atom) (e : Bindings) → Taking m v older e p
-    → spread (visitAll (atom p m v ∷ older) e) ≡ upAtom p m v older e .taken ++ flatMap comes (upAtom p m v older e .next)
+atom-law : (dialect : Dialect) (p : Pattern) (m : Matcher) (v : Valueᵒ) (older : List Atom) (e : Bindings) → Taking dialect m v older e p
+    → spread (visitAll dialect (atom p m v ∷ older) e) ≡ upAtom dialect p m v older e .taken ++ flatMap (comes dialect) (upAtom dialect p m v older e .next)
 unfolding one upAtom
-atom-law p m v older e (single q u) = one-law p m v older e u ∙ sym (ap (λ (x : Step). x .taken ++ flatMap comes (x .next)) q)
-atom-law _ m v older e (denied p) = not-law p m v older e
+atom-law dialect p m v older e (single q u) = one-law dialect p m v older e u ∙ sym (ap (λ (x : Step). x .taken ++ flatMap (comes dialect) (x .next)) q)
+atom-law dialect _ m v older e (denied p) = not-law dialect p m v older e
 
 -- THE LAW.
-pub comes-up : (s : State) → comes s ≡ up s .taken ++ flatMap comes (up s .next)
+pub comes-up : (dialect : Dialect) (s : State) → comes dialect s ≡ up dialect s .taken ++ flatMap (comes dialect) (up dialect s .next)
 unfolding comes up one flatMap visitAll spread
-comes-up (state g [] e) = refl
-comes-up (state g (endOfNot ∷ older) e) = refl
-comes-up (state g (atom p m v ∷ older) e) = atom-law p m v older e (taking p m v older e)
+comes-up dialect (state g [] e) = refl
+comes-up dialect (state g (endOfNot ∷ older) e) = refl
+comes-up dialect (state g (atom p m v ∷ older) e) = atom-law dialect p m v older e (taking dialect p m v older e)
 
 -- Something is taken up with every state.
-atom-some : (p : Pattern) (m : Matcher) (v : Valueᵒ) (older : List Atom) (e : Bindings) → Taking m v older e p → 1 ≤ length (upAtom p m v older e .taken)
+atom-some : (dialect : Dialect) (p : Pattern) (m : Matcher) (v : Valueᵒ) (older : List Atom) (e : Bindings) → Taking dialect m v older e p → 1 ≤ length (upAtom dialect p m v older e .taken)
 unfolding one upAtom whole
-atom-some p m v older e (single q u) = let k = ap (λ (x : Step). length (x .taken)) q in omega arith
-atom-some _ m v older e (denied p) = omega arith
+atom-some dialect p m v older e (single q u) = let k = ap (λ (x : Step). length (x .taken)) q in omega arith
+atom-some dialect _ m v older e (denied p) = omega arith
 
-pub up-some : (s : State) → 1 ≤ length (up s .taken)
+pub up-some : (dialect : Dialect) (s : State) → 1 ≤ length (up dialect s .taken)
 unfolding up one
-up-some (state g [] e) = omega arith
-up-some (state g (endOfNot ∷ older) e) = omega arith
-up-some (state g (atom p m v ∷ older) e) = atom-some p m v older e (taking p m v older e)
+up-some dialect (state g [] e) = omega arith
+up-some dialect (state g (endOfNot ∷ older) e) = omega arith
+up-some dialect (state g (atom p m v ∷ older) e) = atom-some dialect p m v older e (taking dialect p m v older e)
 
 -- ---- From the first state on it is the depth-first order.
 
@@ -161,6 +162,6 @@ spread-close (taken (found e) ∷ ms) (s ∷ ss) h = ap {B = List Taken} (λ r. 
 spread-close (ended ∷ ms) [] h = no-cons h
 spread-close (ended ∷ ms) (s ∷ ss) h = not-ended (sym h)
 
-pub comes-start : (m : Matcher) (p : Pattern) (v : Value) → comes (start m p v) ≡ trace (start m p v ∷ [])
+pub comes-start : (dialect : Dialect) (m : Matcher) (p : Pattern) (v : Value) → comes dialect (start m p v) ≡ trace dialect (start m p v ∷ [])
 unfolding comes start visitAll trace met stops
-comes-start m p v = spread-close (visit p m (target v) [] (λ d. taken (found d) ∷ [])) (solve p m (target v) []) (stops-visit p m (target v) [] (λ d. taken (found d) ∷ []))
+comes-start dialect m p v = spread-close (visit dialect p m (target v) [] (λ d. taken (found d) ∷ [])) (solve dialect p m (target v) []) (stops-visit dialect p m (target v) [] (λ d. taken (found d) ∷ []))

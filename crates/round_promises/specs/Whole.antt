@@ -9,14 +9,15 @@ use mathlib.Core.List.{List, [], _∷_, _++_, map, flatMap, append-nil, List·Pe
 use lib.ListN.{length, length-map, take, drop}
 use lib.Dec.{T, leb, leb→le, le→leb}
 use lib.IntN.{ℤ}
+use Rattle.rules.specs.Dialects.{Dialect}
 use Rattle.rules.specs.Forms.{Matcher, Pattern, never, Value, size}
 use Rattle.rules.specs.Origins.{Valueᵒ, Bindings, target}
 use Rattle.rules.specs.Rows.{Form, row}
-use Rattle.rules.specs.Search.{Atom, state, dropIf, after, Run, start}
+use Rattle.rules.specs.Search.{Atom, state, dropIf, afterIn, Run, start}
 use Rattle.rules.specs.Ways.{Way, Follows}
 use Rattle.rules.specs.Following.{Solution, noSolution, solve}
 use Rattle.rules.specs.Review.{factor}
-use Rattle.rules.specs.Services.{Rule, Matched, carriedOut, matchIn, matchRule, matchTarget}
+use Rattle.rules.specs.Services.{accepted, refused, Rule, ruleIn, targetOf, Matched, carriedOut, matchOf, matchRuleIn, matchTargetIn}
 use Rattle.forms.specs.Lists.{Mem, flatMap-map}
 use Rattle.promises.specs.Twin.{sound, complete}
 use Rattle.forms.specs.Written.{variableTags, largest, length-words}
@@ -30,7 +31,8 @@ use Rattle.promises.specs.Bound.{Fine, fine-target, anew, steps-bound, rows-bou
 use Rattle.promises.specs.Room.{widest, rows-words}
 use Rattle.forms.specs.ReadTarget.{target-read}
 use Rattle.promises.specs.Reviewing.{countOf}
-use Rattle.forms.specs.Faults.{Fault, ofRule, ofTarget, Sane, rule-accepted, rule-refused, target-accepted, target-refused}
+use Rattle.forms.specs.Faults.{Sane}
+use Rattle.promises.specs.Also.{sane-also}
 use Rattle.promises.specs.Matching.{states, ways}
 use Rattle.promises.specs.Matching
 use Rattle.round_rules.specs.Rounds.{Branch, branch, spent, left, inside, byRounds, limitOf, statesIn, runRounds, roundsTarget, roundsRule, matchRounds}
@@ -46,29 +48,29 @@ use Rattle.round_promises.specs.Answers.{Ran, outcome, table-exactly, ta
 -- ---- What follows from a not.
 
 -- The states of the search inside it.
-unfoldable pub searchOf : Pattern → Matcher → Valueᵒ → Bindings → List Taken
+unfoldable pub searchOf : (dialect : Dialect) → Pattern → Matcher → Valueᵒ → Bindings → List Taken
 unfolding trace
-searchOf p m v e = trace (inner p m v e ∷ [])
+searchOf dialect p m v e = trace dialect (inner dialect p m v e ∷ [])
 
-module _ (p : Pattern) (m : Matcher) (v : Valueᵒ) (older : List Atom) (e : Bindings) where
-  pub short-of : (n : ℕ) → n < length (searchOf p m v e) → inside n (after (never p) m v older e) ≡ spent
+module _ (dialect : Dialect) (p : Pattern) (m : Matcher) (v : Valueᵒ) (older : List Atom) (e : Bindings) where
+  pub short-of : (n : ℕ) → n < length (searchOf dialect p m v e) → inside dialect n (afterIn dialect (never p) m v older e) ≡ spent
   unfolding searchOf
-  short-of n h = not-short p m v older e n h
+  short-of n h = not-short dialect p m v older e n h
 
-  pub none-follows : (w : Way) (d : Bindings) → Follows p m v e w d → (n : ℕ) → length (searchOf p m v e) ≤ n
-      → inside n (after (never p) m v older e) ≡ left (length (searchOf p m v e)) []
+  pub none-follows : (w : Way) (d : Bindings) → Follows dialect p m v e w d → (n : ℕ) → length (searchOf dialect p m v e) ≤ n
+      → inside dialect n (afterIn dialect (never p) m v older e) ≡ left (length (searchOf dialect p m v e)) []
   unfolding searchOf dropIf noSolution
-  none-follows w d f n h = not-whole p m v older e n h ∙ ap (left (length (searchOf p m v e))) (go (solve p m v e) (complete p m v e w d f))
+  none-follows w d f n h = not-whole dialect p m v older e n h ∙ ap (left (length (searchOf dialect p m v e))) (go (solve dialect p m v e) (complete dialect p m v e w d f))
     where
       go : (ss : List Solution) → Mem (record { way = w; bound = d }) ss → dropIf (noSolution ss) older e ≡ []
       go [] i = absurd (List·Memᴰ·not-nil i)
       go (s ∷ ss) i = refl
 
-  pub one-follows : ((w : Way) (d : Bindings) → Follows p m v e w d → ⊥) → (n : ℕ) → length (searchOf p m v e) ≤ n
-      → inside n (after (never p) m v older e) ≡ left (length (searchOf p m v e)) (state false older e ∷ [])
+  pub one-follows : ((w : Way) (d : Bindings) → Follows dialect p m v e w d → ⊥) → (n : ℕ) → length (searchOf dialect p m v e) ≤ n
+      → inside dialect n (afterIn dialect (never p) m v older e) ≡ left (length (searchOf dialect p m v e)) (state false older e ∷ [])
   unfolding searchOf dropIf noSolution
-  one-follows f n h = not-whole p m v older e n h
-      ∙ ap (left (length (searchOf p m v e))) (go (solve p m v e) (λ s i. f (s .way) (s .bound) (sound p m v e s i)))
+  one-follows f n h = not-whole dialect p m v older e n h
+      ∙ ap (left (length (searchOf dialect p m v e))) (go (solve dialect p m v e) (λ s i. f (s .way) (s .bound) (sound dialect p m v e s i)))
     where
       go : (ss : List Solution) → ((s : Solution) → Mem s ss → ⊥) → dropIf (noSolution ss) older e ≡ state false older e ∷ []
       go [] f = refl
@@ -102,52 +104,59 @@ unfolding branch start
 beginning r v = branch (start (r .matcher) (r .pattern) v ∷ [])
 
 -- All states in the order of the rounds.
-unfoldable pub inRounds : Rule → Value → List Taken
+unfoldable pub inRounds : (dialect : Dialect) → Rule → Value → List Taken
 unfolding order beginning
-inRounds r v = order (beginning r v)
+inRounds dialect r v = order dialect (beginning r v)
 
-module _ (r : Rule) (v : Value) where
-  all-beginning : all (beginning r v) ≡ states r v
+module _ (dialect : Dialect) (r : Rule) (v : Value) where
+  all-beginning : all dialect (beginning r v) ≡ states dialect r v
   unfolding all Rounds.states flatMap beginning branch states
-  all-beginning = append-nil (comes (start (r .matcher) (r .pattern) v)) ∙ comes-start (r .matcher) (r .pattern) v
+  all-beginning = append-nil (comes dialect (start (r .matcher) (r .pattern) v)) ∙ comes-start dialect (r .matcher) (r .pattern) v
 
-  pub states-rearranged : Rearranged (states r v) (inRounds r v)
+  pub states-rearranged : Rearranged (states dialect r v) (inRounds dialect r v)
   unfolding inRounds
-  states-rearranged = List·Permᴰ·trans (same (sym all-beginning)) (order-rearranges (beginning r v))
+  states-rearranged = List·Permᴰ·trans (same (sym all-beginning)) (order-rearranges dialect (beginning r v))
 
-  pub rows-rearranged : Rearranged (map (λ s. s .bound) (ways r v)) (founds (inRounds r v))
+  pub rows-rearranged : Rearranged (map (λ s. s .bound) (ways dialect r v)) (founds (inRounds dialect r v))
   unfolding states ways
-  rows-rearranged = List·Permᴰ·trans (same (sym (founds-start (r .matcher) (r .pattern) v))) (founds-rearranged states-rearranged)
+  rows-rearranged = List·Permᴰ·trans (same (sym (founds-start dialect (r .matcher) (r .pattern) v))) (founds-rearranged states-rearranged)
 
-  pub steps-same : length (inRounds r v) ≡ length (states r v)
+  pub steps-same : length (inRounds dialect r v) ≡ length (states dialect r v)
   steps-same = sym (rearranged-length states-rearranged)
 
-  pub rows-same : length (founds (inRounds r v)) ≡ length (ways r v)
-  rows-same = sym (rearranged-length rows-rearranged) ∙ length-map (ways r v) (λ (s : Solution). s .bound)
+  pub rows-same : length (founds (inRounds dialect r v)) ≡ length (ways dialect r v)
+  rows-same = sym (rearranged-length rows-rearranged) ∙ length-map (ways dialect r v) (λ (s : Solution). s .bound)
 
-  pub words-same : (form : Form) → length (rowsOf form (inRounds r v)) ≡ length (rowsOf form (states r v))
+  pub words-same : (form : Form) → length (rowsOf form (inRounds dialect r v)) ≡ length (rowsOf form (states dialect r v))
   unfolding rowsOf
   words-same form = sym (rearranged-length (rearranged-flatMap (row form) (founds-rearranged states-rearranged)))
 
-  pub rounds-end : later (length (states r v)) (beginning r v) ≡ []
-  rounds-end = ends (length (states r v)) (beginning r v) (omega (arith, ap length all-beginning))
+  pub rounds-end : later dialect (length (states dialect r v)) (beginning r v) ≡ []
+  rounds-end = ends dialect (length (states dialect r v)) (beginning r v) (omega (arith, ap length all-beginning))
 
 -- Everything below is of rows in one form.
-module _ (form : Form) where
+module _ (dialect : Dialect) (form : Form) where
   -- ---- Match by rounds.
 
   module _ (ms ps ts : List ℤ) (table budget : ℕ) (room : List ℤ) where
     -- What is turned away is turned away as in the other order.
-    pub turned-alike : (a i : ℕ) → Fault ms ps ts a i → matchRounds form ms ps ts table budget room ≡ matchIn form ms ps ts budget room
-    unfolding matchIn matchRounds
-    turned-alike a i (ofRule f) = ap (roundsRule form table budget room ts) (rule-refused ms ps a i .1 f) ∙ sym (ap (matchRule form budget room ts) (rule-refused ms ps a i .1 f))
-    turned-alike a i (ofTarget r w f) =
-        ap (roundsRule form table budget room ts) (rule-accepted ms ps r .1 w) ∙ ap (roundsTarget form table budget room ts r) (target-refused (r .matcher) ts a i .1 f)
-        ∙ sym (ap (matchRule form budget room ts) (rule-accepted ms ps r .1 w) ∙ ap (matchTarget form budget room ts r) (target-refused (r .matcher) ts a i .1 f))
+    pub rule-alike : (a i : ℕ) → ruleIn dialect ms ps ≡ refused a i → matchRounds dialect form ms ps ts table budget room ≡ matchOf dialect form ms ps ts budget room
+    unfolding matchOf matchRounds
+    rule-alike a i e = ap (roundsRule dialect form table budget room ts) e ∙ sym (ap (matchRuleIn dialect form budget room ts) e)
 
-    module _ (r : Rule) (v : Value) (sane : Sane ms ps ts r v) where
+    pub target-alike : (r : Rule) (a i : ℕ) → ruleIn dialect ms ps ≡ accepted r → targetOf (r .matcher) ts ≡ refused a i
+        → matchRounds dialect form ms ps ts table budget room ≡ matchOf dialect form ms ps ts budget room
+    unfolding matchOf matchRounds
+    target-alike r a i e f =
+        ap (roundsRule dialect form table budget room ts) e ∙ ap (roundsTarget dialect form table budget room ts r) f
+        ∙ sym (ap (matchRuleIn dialect form budget room ts) e ∙ ap (matchTargetIn dialect form budget room ts r) f)
+
+    module _ (r : Rule) (v : Value) (rule : ruleIn dialect ms ps ≡ accepted r) (fitting : targetOf (r .matcher) ts ≡ accepted v) where
+      sane : Sane ms ps ts r v
+      sane = sane-also dialect ms ps ts r v rule fitting
+
       abbrev it : Matched
-      it = matchRounds form ms ps ts table budget room
+      it = matchRounds dialect form ms ps ts table budget room
 
       abbrev free : ℕ
       free = length room
@@ -156,55 +165,55 @@ module _ (form : Form) where
       limit = limitOf table
 
       abbrev ran : Run
-      ran = byLists form budget limit budget (beginning r v) free
+      ran = byLists dialect form budget limit budget (beginning r v) free
 
-      pub defined : it ≡ carriedOut (byRounds form budget limit budget (beginning r v) free) room
+      pub defined : it ≡ carriedOut (byRounds dialect form budget limit budget (beginning r v) free) room
       unfolding matchRounds beginning
-      defined = ap (roundsRule form table budget room ts) (rule-accepted ms ps r .1 (sane .rule)) ∙ ap (roundsTarget form table budget room ts r) (target-accepted (r .matcher) ts v .1 (sane .target))
+      defined = ap (roundsRule dialect form table budget room ts) rule ∙ ap (roundsTarget dialect form table budget room ts r) fitting
 
       pub result : it ≡ carriedOut ran room
-      result = defined ∙ ap (λ x. carriedOut x room) (run-told form budget limit budget (beginning r v) free)
+      result = defined ∙ ap (λ x. carriedOut x room) (run-told dialect form budget limit budget (beginning r v) free)
 
       by-answer : (n : ℕ) (C : Type 0) → ran .answer ≡ n ↔ C → it .answer ≡ n ↔ C
       unfolding carriedOut
       by-answer n C e = let q = ap (λ (x : Matched). x .answer) result in ((λ h. e .0 (sym q ∙ h)), λ c. q ∙ e .1 c)
 
-      pub answer-21 : it .answer ≡ 21 ↔ Overfull form limit budget free (beginning r v)
-      answer-21 = by-answer 21 _ (table-exactly form limit budget (beginning r v) free)
+      pub answer-21 : it .answer ≡ 21 ↔ Overfull dialect form limit budget free (beginning r v)
+      answer-21 = by-answer 21 _ (table-exactly dialect form limit budget (beginning r v) free)
 
-      pub table-stands : (o : Overfull form limit budget free (beginning r v))
-          → it ≡ carriedOut (report form 21 (length (firstRounds (o .rounds) (beginning r v))) (firstRounds (o .rounds) (beginning r v))) room
-      table-stands o = result ∙ ap (λ x. carriedOut x room) (table-is form limit budget (beginning r v) free o)
+      pub table-stands : (o : Overfull dialect form limit budget free (beginning r v))
+          → it ≡ carriedOut (report form 21 (length (firstRounds dialect (o .rounds) (beginning r v))) (firstRounds dialect (o .rounds) (beginning r v))) room
+      table-stands o = result ∙ ap (λ x. carriedOut x room) (table-is dialect form limit budget (beginning r v) free o)
 
-      pub full-stands : (Overfull form limit budget free (beginning r v) → ⊥) → (f : Full form budget free (inRounds r v))
+      pub full-stands : (Overfull dialect form limit budget free (beginning r v) → ⊥) → (f : Full form budget free (inRounds dialect r v))
           → it ≡ carriedOut (report form 8 (suc (length (f .before))) (f .before)) room
       unfolding inRounds
-      full-stands c f = result ∙ ap (λ x. carriedOut x room) (full-is form limit budget (beginning r v) free c f)
+      full-stands c f = result ∙ ap (λ x. carriedOut x room) (full-is dialect form limit budget (beginning r v) free c f)
 
-      pub answer-0 : it .answer ≡ 0 ↔ ((length (inRounds r v) ≤ budget) × (Full form budget free (inRounds r v) → ⊥)) × (Overfull form limit budget free (beginning r v) → ⊥)
+      pub answer-0 : it .answer ≡ 0 ↔ ((length (inRounds dialect r v) ≤ budget) × (Full form budget free (inRounds dialect r v) → ⊥)) × (Overfull dialect form limit budget free (beginning r v) → ⊥)
       unfolding inRounds
-      answer-0 = by-answer 0 _ (done-exactly form limit budget (beginning r v) free)
+      answer-0 = by-answer 0 _ (done-exactly dialect form limit budget (beginning r v) free)
 
-      pub answer-7 : it .answer ≡ 7 ↔ ((budget < length (inRounds r v)) × (Full form budget free (inRounds r v) → ⊥)) × (Overfull form limit budget free (beginning r v) → ⊥)
+      pub answer-7 : it .answer ≡ 7 ↔ ((budget < length (inRounds dialect r v)) × (Full form budget free (inRounds dialect r v) → ⊥)) × (Overfull dialect form limit budget free (beginning r v) → ⊥)
       unfolding inRounds
-      answer-7 = by-answer 7 _ (budget-exactly form limit budget (beginning r v) free)
+      answer-7 = by-answer 7 _ (budget-exactly dialect form limit budget (beginning r v) free)
 
-      pub answer-8 : it .answer ≡ 8 ↔ Full form budget free (inRounds r v) × (Overfull form limit budget free (beginning r v) → ⊥)
+      pub answer-8 : it .answer ≡ 8 ↔ Full form budget free (inRounds dialect r v) × (Overfull dialect form limit budget free (beginning r v) → ⊥)
       unfolding inRounds
-      answer-8 = by-answer 8 _ (full-exactly form limit budget (beginning r v) free)
+      answer-8 = by-answer 8 _ (full-exactly dialect form limit budget (beginning r v) free)
 
       -- The rows found are the first in the order of the rounds; they stand whole from the start of the room, and every word after them is untouched.
-      pub first-found : (it .rows ≤ length (founds (inRounds r v))) × (it .room ≡ flatMap (row form) (take (it .rows) (founds (inRounds r v))) ++ drop (it .words) room)
+      pub first-found : (it .rows ≤ length (founds (inRounds dialect r v))) × (it .room ≡ flatMap (row form) (take (it .rows) (founds (inRounds dialect r v))) ++ drop (it .words) room)
       unfolding carriedOut inRounds
       first-found =
-          let f = rows-first form limit budget (beginning r v) free in
-          subst (λ (x : Matched). (x .rows ≤ length (founds (order (beginning r v)))) × (x .room ≡ flatMap (row form) (take (x .rows) (founds (order (beginning r v)))) ++ drop (x .words) room))
+          let f = rows-first dialect form limit budget (beginning r v) free in
+          subst (λ (x : Matched). (x .rows ≤ length (founds (order dialect (beginning r v)))) × (x .room ≡ flatMap (row form) (take (x .rows) (founds (order dialect (beginning r v)))) ++ drop (x .words) room))
           (sym result) (f .0, ap (λ l. l ++ drop (length (ran .written)) room) (f .1))
 
       -- Where nothing stops it.
-      pub finished : it .answer ≡ 0 → it ≡ carriedOut (report form 0 (length (inRounds r v)) (inRounds r v)) room
+      pub finished : it .answer ≡ 0 → it ≡ carriedOut (report form 0 (length (inRounds dialect r v)) (inRounds dialect r v)) room
       unfolding carriedOut inRounds
-      finished a = result ∙ ap (λ x. carriedOut x room) (all-found form limit budget (beginning r v) free (sym (ap (λ (x : Matched). x .answer) result) ∙ a))
+      finished a = result ∙ ap (λ x. carriedOut x room) (all-found dialect form limit budget (beginning r v) free (sym (ap (λ (x : Matched). x .answer) result) ∙ a))
 
       suits : Suits (r .matcher) v
       suits = fits-suits (r .matcher) v 0 (sane .target .fit)
@@ -217,23 +226,23 @@ module _ (form : Form) where
         unfolding carriedOut inRounds states countOf
         steps-bounded =
             let q = ap (λ (x : Matched). x .steps) result in
-            omega (arith, steps-first form limit budget (beginning r v) free, steps-same r v, steps-bound most (r .matcher) (r .pattern) v fine)
+            omega (arith, steps-first dialect form limit budget (beginning r v) free, steps-same dialect r v, steps-bound dialect most (r .matcher) (r .pattern) v fine)
 
         pub rows-bounded : it .rows ≤ factor most 0 (r .pattern) (r .matcher)
         unfolding ways
-        rows-bounded = le-trans (first-found .0) (le-trans (le-of-eq (rows-same r v)) (rows-bound most 0 (r .pattern) (r .matcher) (target v) [] (fine-target most (r .matcher) v fine)))
+        rows-bounded = le-trans (first-found .0) (le-trans (le-of-eq (rows-same dialect r v)) (rows-bound dialect most 0 (r .pattern) (r .matcher) (target v) [] (fine-target most (r .matcher) v fine)))
 
         pub only-table : countOf most r ≤ budget → factor most 0 (r .pattern) (r .matcher) * variableTags (r .pattern) * widest form (length ts) ≤ length room
             → (it .answer ≡ 0) ⊎ (it .answer ≡ 21)
         unfolding carriedOut inRounds states countOf
         only-table b h =
-            let w = rows-words form most (r .matcher) (r .pattern) v fine in
+            let w = rows-words dialect form most (r .matcher) (r .pattern) v fine in
             let l : length ts ≡ size v = ap length (target-read ts v .0 (sane .target .target) .0) ∙ length-words v in
             let e = ap (λ n. factor most 0 (r .pattern) (r .matcher) * variableTags (r .pattern) * widest form n) l
             ∙ mul-assoc (factor most 0 (r .pattern) (r .matcher)) (variableTags (r .pattern)) (widest form (size v)) in
             subst (λ (x : Matched). (x .answer ≡ 0) ⊎ (x .answer ≡ 21)) (sym result)
-            (enough form limit budget (beginning r v) free (omega (arith, steps-same r v, steps-bound most (r .matcher) (r .pattern) v fine))
-            (omega (arith, words-same r v form, w, e)))
+            (enough dialect form limit budget (beginning r v) free (omega (arith, steps-same dialect r v, steps-bound dialect most (r .matcher) (r .pattern) v fine))
+            (omega (arith, words-same dialect r v form, w, e)))
 
   -- ---- The two orders, where nothing stops either.
 
@@ -268,26 +277,27 @@ module _ (form : Form) where
   depth-first n free ts x (Budget.spent h f q) a = let b = ap (λ (z : Run). z .answer) q in absurd (omega arith)
   depth-first n free ts x (full f q) a = let b = ap (λ (z : Run). z .answer) q in absurd (omega arith)
 
-  module _ (ms ps ts : List ℤ) (r : Rule) (v : Value) (sane : Sane ms ps ts r v) (n : ℕ) (roomX : List ℤ) (table k : ℕ) (roomY : List ℤ) where
-    pub match-finished : (matchIn form ms ps ts n roomX) .answer ≡ 0 → matchIn form ms ps ts n roomX ≡ carriedOut (report form 0 (length (states r v)) (states r v)) roomX
+  module _ (ms ps ts : List ℤ) (r : Rule) (v : Value) (rule : ruleIn dialect ms ps ≡ accepted r)
+      (fitting : targetOf (r .matcher) ts ≡ accepted v) (n : ℕ) (roomX : List ℤ) (table k : ℕ) (roomY : List ℤ) where
+    pub match-finished : (matchOf dialect form ms ps ts n roomX) .answer ≡ 0 → matchOf dialect form ms ps ts n roomX ≡ carriedOut (report form 0 (length (states dialect r v)) (states dialect r v)) roomX
     unfolding carriedOut
     match-finished a =
-        let q = Matching.result form ms ps ts n roomX r v sane in
+        let q = Matching.result dialect form ms ps ts n roomX r v rule fitting in
         q ∙ ap (λ x. carriedOut x roomX)
-        (depth-first n (length roomX) (states r v) _ (Matching.outcome form ms ps ts n roomX r v sane) (sym (ap (λ (x : Matched). x .answer) q) ∙ a))
+        (depth-first n (length roomX) (states dialect r v) _ (Matching.outcome dialect form ms ps ts n roomX r v rule fitting) (sym (ap (λ (x : Matched). x .answer) q) ∙ a))
 
-    pub alike : (matchIn form ms ps ts n roomX) .answer ≡ 0 → (matchRounds form ms ps ts table k roomY) .answer ≡ 0
-        → Alike (matchIn form ms ps ts n roomX) (matchRounds form ms ps ts table k roomY) roomX roomY
+    pub alike : (matchOf dialect form ms ps ts n roomX) .answer ≡ 0 → (matchRounds dialect form ms ps ts table k roomY) .answer ≡ 0
+        → Alike (matchOf dialect form ms ps ts n roomX) (matchRounds dialect form ms ps ts table k roomY) roomX roomY
     unfolding carriedOut report
-    alike a b = subst (λ x. Alike x (matchRounds form ms ps ts table k roomY) roomX roomY) (sym (match-finished a))
-        (subst (λ y. Alike (carriedOut (report form 0 (length (states r v)) (states r v)) roomX) y roomX roomY) (sym (finished ms ps ts table k roomY r v sane b))
+    alike a b = subst (λ x. Alike x (matchRounds dialect form ms ps ts table k roomY) roomX roomY) (sym (match-finished a))
+        (subst (λ y. Alike (carriedOut (report form 0 (length (states dialect r v)) (states dialect r v)) roomX) y roomX roomY) (sym (finished ms ps ts table k roomY r v rule fitting b))
         (record {
-          rowsX = map (row form) (founds (states r v));
-          rowsY = map (row form) (founds (inRounds r v));
-          rearranged = map-rearranged (row form) (founds-rearranged (states-rearranged r v));
-          holdsX = told (states r v) roomX;
-          holdsY = told (inRounds r v) roomY;
-          countX = sym (length-map (founds (states r v)) (row form));
-          countY = sym (length-map (founds (inRounds r v)) (row form));
-          steps = sym (steps-same r v);
+          rowsX = map (row form) (founds (states dialect r v));
+          rowsY = map (row form) (founds (inRounds dialect r v));
+          rearranged = map-rearranged (row form) (founds-rearranged (states-rearranged dialect r v));
+          holdsX = told (states dialect r v) roomX;
+          holdsY = told (inRounds dialect r v) roomY;
+          countX = sym (length-map (founds (states dialect r v)) (row form));
+          countY = sym (length-map (founds (inRounds dialect r v)) (row form));
+          steps = sym (steps-same dialect r v);
         }))

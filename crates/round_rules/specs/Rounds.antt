@@ -7,10 +7,11 @@ use mathlib.Core.List.{List, [], _∷_, _++_, map, flatMap}
 use lib.ListN.{length}
 use lib.Dec.{leb}
 use lib.IntN.{ℤ}
+use Rattle.rules.specs.Dialects.{Dialect, dialectOf}
 use Rattle.rules.specs.Forms.{Value}
 use Rattle.rules.specs.Rows.{Form, formOf, row}
-use Rattle.rules.specs.Search.{Atom, atom, endOfNot, State, state, after, leaveNot, start, Run, stopped, step, rowStep}
-use Rattle.rules.specs.Services.{Rule, Judged, accepted, refused, ruleOf, targetOf, Matched, turnedAway, carriedOut, causeIn}
+use Rattle.rules.specs.Search.{Atom, atom, endOfNot, State, state, afterIn, leaveNot, start, Run, stopped, step, rowStep}
+use Rattle.rules.specs.Services.{Rule, Judged, accepted, refused, ruleIn, targetOf, Matched, turnedAway, carriedOut, causeIn}
 
 -- ---- Lists of states.
 
@@ -55,12 +56,12 @@ searching [] = false
 searching (s ∷ ss) = anyMarked ss
 
 -- The first state is taken up, depth-first.
-unfoldable pub onFirst : List State → List State
-unfolding after leaveNot
-onFirst [] = []
-onFirst (state g [] e ∷ ss) = ss
-onFirst (state g (endOfNot ∷ older) e ∷ ss) = leaveNot ss
-onFirst (state g (atom p m v ∷ older) e ∷ ss) = after p m v older e ++ ss
+unfoldable pub onFirst : Dialect → List State → List State
+unfolding afterIn leaveNot
+onFirst dialect [] = []
+onFirst dialect (state g [] e ∷ ss) = ss
+onFirst dialect (state g (endOfNot ∷ older) e ∷ ss) = leaveNot ss
+onFirst dialect (state g (atom p m v ∷ older) e ∷ ss) = afterIn dialect p m v older e ++ ss
 
 unfoldable pub unmarked : State → State
 unmarked (state g older e) = state false older e
@@ -74,10 +75,10 @@ unfoldable pub oneMore : Inside → Inside
 oneMore spent = spent
 oneMore (left k ss) = left (suc k) ss
 
-unfoldable pub inside : (budget : ℕ) → List State → Inside
+unfoldable pub inside : Dialect → (budget : ℕ) → List State → Inside
 unfolding searching onFirst unmarked oneMore
-inside zero ss = elim (searching ss) [ true ↦ spent | false ↦ left 0 (map unmarked ss) ]
-inside (suc n) ss = elim (searching ss) [ true ↦ oneMore (inside n (onFirst ss)) | false ↦ left 0 (map unmarked ss) ]
+inside dialect zero ss = elim (searching ss) [ true ↦ spent | false ↦ left 0 (map unmarked ss) ]
+inside dialect (suc n) ss = elim (searching ss) [ true ↦ oneMore (inside dialect n (onFirst dialect ss)) | false ↦ left 0 (map unmarked ss) ]
 
 -- ---- A state is taken up.
 
@@ -93,37 +94,37 @@ past n spent free next = stopped 7 n
 past n (left k ss) free next = steps k (next (n - k) ss free)
 
 -- With the budget n after its own step. The end of a search inside a not stands in no state of a round.
-unfoldable pub takeUp : Form → (n : ℕ) → State → (free : ℕ) → (next : ℕ → List State → ℕ → Run) → Run
-unfolding stopped step rowStep row after inside past
-takeUp f n (state g [] e) free next = elim (leb (length (row f e)) free) [
+unfoldable pub takeUp : Dialect → Form → (n : ℕ) → State → (free : ℕ) → (next : ℕ → List State → ℕ → Run) → Run
+unfolding stopped step rowStep row afterIn inside past
+takeUp dialect f n (state g [] e) free next = elim (leb (length (row f e)) free) [
   | true ↦ rowStep (row f e) (next n [] (free - length (row f e)))
   | false ↦ stopped 8 1
 ]
-takeUp f n (state g (endOfNot ∷ older) e) free next = step (next n [] free)
-takeUp f n (state g (atom p m v ∷ older) e) free next = step (past n (inside n (after p m v older e)) free next)
+takeUp dialect f n (state g (endOfNot ∷ older) e) free next = step (next n [] free)
+takeUp dialect f n (state g (atom p m v ∷ older) e) free next = step (past n (inside dialect n (afterIn dialect p m v older e)) free next)
 
 -- ---- A round: the first state of each list, in the order of the lists; `new` are the new lists so far. `rest` comes after it, with the budget, all new
 -- lists and the words then left.
 
-unfoldable pub takeRound : Form → (budget : ℕ) → (lists new : List Branch) → (free : ℕ) → (rest : ℕ → List Branch → ℕ → Run) → Run
+unfoldable pub takeRound : Dialect → Form → (budget : ℕ) → (lists new : List Branch) → (free : ℕ) → (rest : ℕ → List Branch → ℕ → Run) → Run
 unfolding stopped branch takeUp
-takeRound f zero [] new free rest = rest 0 new free
-takeRound f zero (b ∷ bs) new free rest = stopped 7 0
-takeRound f (suc n) [] new free rest = rest (suc n) new free
-takeRound f (suc n) (b ∷ bs) new free rest = takeUp f n (b .first) free (λ left ss room. takeRound f left bs (new ++ branch ss) room rest)
+takeRound dialect f zero [] new free rest = rest 0 new free
+takeRound dialect f zero (b ∷ bs) new free rest = stopped 7 0
+takeRound dialect f (suc n) [] new free rest = rest (suc n) new free
+takeRound dialect f (suc n) (b ∷ bs) new free rest = takeUp dialect f n (b .first) free (λ left ss room. takeRound dialect f left bs (new ++ branch ss) room rest)
 
 -- ---- A run.
 
 -- At most `rounds` rounds. 0: no state remains. 7: the budget is used up and states remain, "also where the budget ends with a round". 21: the round would
 -- begin with more than `limit` waiting states.
-unfoldable pub byRounds : Form → (rounds limit budget : ℕ) → List Branch → (free : ℕ) → Run
+unfoldable pub byRounds : Dialect → Form → (rounds limit budget : ℕ) → List Branch → (free : ℕ) → Run
 unfolding stopped waiting takeRound remainders
-byRounds f zero limit n [] free = stopped 0 0
-byRounds f zero limit n (b ∷ bs) free = stopped 7 0
-byRounds f (suc r) limit n [] free = stopped 0 0
-byRounds f (suc r) limit zero (b ∷ bs) free = stopped 7 0
-byRounds f (suc r) limit (suc n) (b ∷ bs) free = elim (leb (waiting (b ∷ bs)) limit) [
-  | true ↦ takeRound f (suc n) (b ∷ bs) [] free (λ left new room. byRounds f r limit left (new ++ remainders (b ∷ bs)) room)
+byRounds dialect f zero limit n [] free = stopped 0 0
+byRounds dialect f zero limit n (b ∷ bs) free = stopped 7 0
+byRounds dialect f (suc r) limit n [] free = stopped 0 0
+byRounds dialect f (suc r) limit zero (b ∷ bs) free = stopped 7 0
+byRounds dialect f (suc r) limit (suc n) (b ∷ bs) free = elim (leb (waiting (b ∷ bs)) limit) [
+  | true ↦ takeRound dialect f (suc n) (b ∷ bs) [] free (λ left new room. byRounds dialect f r limit left (new ++ remainders (b ∷ bs)) room)
   | false ↦ stopped 21 0
 ]
 
@@ -139,27 +140,30 @@ unfoldable pub statesIn : (size words : ℕ) → ℕ
 statesIn size words = words / size
 
 -- Each round takes a step, so that the budget bounds the rounds too.
-unfoldable pub runRounds : Form → (table budget : ℕ) → List State → (free : ℕ) → Run
+unfoldable pub runRounds : Dialect → Form → (table budget : ℕ) → List State → (free : ℕ) → Run
 unfolding byRounds branch limitOf
-runRounds f table n ss free = byRounds f n (limitOf table) n (branch ss) free
+runRounds dialect f table n ss free = byRounds dialect f n (limitOf table) n (branch ss) free
 
 -- ---- The service: match in the other order, with a table that holds `table` states.
 
-unfoldable pub roundsTarget : Form → (table budget : ℕ) (room : List ℤ) (ts : List ℤ) → Rule → Judged Value → Matched
+unfoldable pub roundsTarget : Dialect → Form → (table budget : ℕ) (room : List ℤ) (ts : List ℤ) → Rule → Judged Value → Matched
 unfolding turnedAway carriedOut causeIn runRounds start
-roundsTarget f table budget room ts r (refused a i) = turnedAway a i (causeIn a ts) room
-roundsTarget f table budget room ts r (accepted v) = carriedOut (runRounds f table budget (start (r .matcher) (r .pattern) v ∷ []) (length room)) room
+roundsTarget dialect f table budget room ts r (refused a i) = turnedAway a i (causeIn a ts) room
+roundsTarget dialect f table budget room ts r (accepted v) = carriedOut (runRounds dialect f table budget (start (r .matcher) (r .pattern) v ∷ []) (length room)) room
 
-unfoldable pub roundsRule : Form → (table budget : ℕ) (room : List ℤ) (ts : List ℤ) → Judged Rule → Matched
+unfoldable pub roundsRule : Dialect → Form → (table budget : ℕ) (room : List ℤ) (ts : List ℤ) → Judged Rule → Matched
 unfolding turnedAway roundsTarget targetOf
-roundsRule f table budget room ts (refused a i) = turnedAway a i 0 room
-roundsRule f table budget room ts (accepted r) = roundsTarget f table budget room ts r (targetOf (r .matcher) ts)
+roundsRule dialect f table budget room ts (refused a i) = turnedAway a i 0 room
+roundsRule dialect f table budget room ts (accepted r) = roundsTarget dialect f table budget room ts r (targetOf (r .matcher) ts)
 
-unfoldable pub matchRounds : Form → (ms ps ts : List ℤ) (table budget : ℕ) (room : List ℤ) → Matched
-unfolding roundsRule ruleOf
-matchRounds f ms ps ts table budget room = roundsRule f table budget room ts (ruleOf ms ps)
+unfoldable pub matchRounds : Dialect → Form → (ms ps ts : List ℤ) (table budget : ℕ) (room : List ℤ) → Matched
+unfolding roundsRule ruleIn
+matchRounds dialect f ms ps ts table budget room = roundsRule dialect f table budget room ts (ruleIn dialect ms ps)
 
--- "20, unknown row form, before 1": with 0 in every further number, and the room as it was.
-unfoldable pub matchRoundsWith : (form : ℕ) (ms ps ts : List ℤ) (table budget : ℕ) (room : List ℤ) → Matched
-unfolding formOf turnedAway matchRounds
-matchRoundsWith n ms ps ts table budget room = elim (formOf n) [ none ↦ turnedAway 20 0 0 room | some f ↦ matchRounds f ms ps ts table budget room ]
+-- "20, unknown row form, before 1"; "22, unknown dialect, before 1 and after 20": with 0 in every further number, and the room as it was.
+unfoldable pub matchRoundsPicked : (form dialect : ℕ) (ms ps ts : List ℤ) (table budget : ℕ) (room : List ℤ) → Matched
+unfolding formOf dialectOf turnedAway matchRounds
+matchRoundsPicked form dialect ms ps ts table budget room = elim (formOf form) [
+  | none ↦ turnedAway 20 0 0 room
+  | some f ↦ elim (dialectOf dialect) [ none ↦ turnedAway 22 0 0 room | some d ↦ matchRounds d f ms ps ts table budget room ]
+]

@@ -5,11 +5,12 @@ use mathlib.Core.List.{List, [], _∷_, _++_, map}
 use lib.ListN.{length, replicate}
 use lib.IntN.{ℤ, pos}
 use Rattle.rules.specs.Tables.{Outcome, held, ofMatch, nums, ints, braces}
-use Rattle.round_rules.specs.Rounds.{statesIn, matchRoundsWith}
+use Rattle.round_rules.specs.Rounds.{statesIn, matchRoundsPicked}
 
--- Row form, matcher, pattern, target; how many states the table holds, budget, room; the six numbers, and the words written.
+-- Row form, dialect, matcher, pattern, target; how many states the table holds, budget, room; the six numbers, and the words written.
 pub record Case : Type 0 where
   pub form : ℕ
+  pub dialect : ℕ
   pub matcher : List ℤ
   pub pattern : List ℤ
   pub target : List ℤ
@@ -19,18 +20,18 @@ pub record Case : Type 0 where
   pub numbers : List ℕ
   pub written : List ℤ
 
-unfoldable pub askedIn : (form : ℕ) (ms ps ts : List ℤ) (table budget room : ℕ) (ns : List ℕ) (ws : List ℤ) → Case
-askedIn form ms ps ts table budget room ns ws =
-    record { form = form; matcher = ms; pattern = ps; target = ts; table = table; budget = budget; room = room; numbers = ns; written = ws }
+unfoldable pub askedIn : (form dialect : ℕ) (ms ps ts : List ℤ) (table budget room : ℕ) (ns : List ℕ) (ws : List ℤ) → Case
+askedIn form dialect ms ps ts table budget room ns ws =
+    record { form = form; dialect = dialect; matcher = ms; pattern = ps; target = ts; table = table; budget = budget; room = room; numbers = ns; written = ws }
 
--- Rows in form 1.
+-- Rows in form 1, dialect 1.
 unfoldable pub asked : (ms ps ts : List ℤ) (table budget room : ℕ) (ns : List ℕ) (ws : List ℤ) → Case
 unfolding askedIn
-asked ms ps ts table budget room ns ws = askedIn 1 ms ps ts table budget room ns ws
+asked ms ps ts table budget room ns ws = askedIn 1 1 ms ps ts table budget room ns ws
 
 unfoldable pub computed : Case → Outcome
-unfolding matchRoundsWith ofMatch held
-computed c = ofMatch (matchRoundsWith (c .form) (c .matcher) (c .pattern) (c .target) (c .table) (c .budget) (held (c .room)))
+unfolding matchRoundsPicked ofMatch held
+computed c = ofMatch (matchRoundsPicked (c .form) (c .dialect) (c .matcher) (c .pattern) (c .target) (c .table) (c .budget) (held (c .room)))
 
 unfoldable pub stated : Case → Outcome
 unfolding held
@@ -78,8 +79,10 @@ table =
     ∷ asked multisetInteger pair (braces (nums (1 ∷ 2 ∷ 3 ∷ []))) 5 14 64 (7 ∷ 0 ∷ 0 ∷ 14 ∷ 0 ∷ 0 ∷ []) []  -- the budget ends with round 6
     ∷ asked multisetInteger pair (braces (nums (1 ∷ 2 ∷ 3 ∷ []))) 5 15 64 (21 ∷ 0 ∷ 0 ∷ 14 ∷ 0 ∷ 0 ∷ []) []
     ∷ asked multisetInteger pair (braces (nums (1 ∷ 2 ∷ 3 ∷ []))) 6 1000 6 (8 ∷ 0 ∷ 1 ∷ 32 ∷ 4 ∷ 0 ∷ []) (ints (nums (1 ∷ 2 ∷ [])))  -- the second row, in round 10, does not fit
-    ∷ askedIn 2 multisetInteger pair (braces (nums (1 ∷ 2 ∷ 3 ∷ []))) 6 40 13 (8 ∷ 0 ∷ 2 ∷ 34 ∷ 12 ∷ 0 ∷ []) (nums (2 ∷ 0 ∷ 0 ∷ 4 ∷ 0 ∷ 0 ∷ 4 ∷ 0 ∷ 0 ∷ 2 ∷ 0 ∷ 0 ∷ []))  -- form 2: where the units stand, in the same order
-    ∷ askedIn 3 [] pair (braces (nums (1 ∷ 2 ∷ 3 ∷ []))) 6 40 13 (20 ∷ 0 ∷ 0 ∷ 0 ∷ 0 ∷ 0 ∷ []) []  -- 20 before 1
+    ∷ askedIn 2 1 multisetInteger pair (braces (nums (1 ∷ 2 ∷ 3 ∷ []))) 6 40 13 (8 ∷ 0 ∷ 2 ∷ 34 ∷ 12 ∷ 0 ∷ []) (nums (2 ∷ 0 ∷ 0 ∷ 4 ∷ 0 ∷ 0 ∷ 4 ∷ 0 ∷ 0 ∷ 2 ∷ 0 ∷ 0 ∷ []))  -- form 2: where the units stand, in the same order
+    ∷ askedIn 3 3 [] pair (braces (nums (1 ∷ 2 ∷ 3 ∷ []))) 6 40 13 (20 ∷ 0 ∷ 0 ∷ 0 ∷ 0 ∷ 0 ∷ []) []  -- 20 before 1
+    ∷ askedIn 1 3 [] pair (braces (nums (1 ∷ 2 ∷ 3 ∷ []))) 6 40 13 (22 ∷ 0 ∷ 0 ∷ 0 ∷ 0 ∷ 0 ∷ []) []  -- 22 after it
+    ∷ askedIn 1 2 multisetInteger pair (braces (nums (2 ∷ 8 ∷ 2 ∷ []))) 257 1000 64 (0 ∷ 0 ∷ 3 ∷ 22 ∷ 12 ∷ 0 ∷ []) (ints (nums (2 ∷ 8 ∷ 8 ∷ 2 ∷ 2 ∷ 2 ∷ [])))  -- dialect 2: (2 8) in round 9, (8 2) and (2 2) in round 10
     ∷ asked listInteger halves (braces (nums (1 ∷ []))) 1 1 99 (7 ∷ 0 ∷ 0 ∷ 1 ∷ 0 ∷ 0 ∷ []) []  -- 7 against 21
     ∷ asked listInteger halves (braces (nums (1 ∷ []))) 1 2 99 (21 ∷ 0 ∷ 0 ∷ 1 ∷ 0 ∷ 0 ∷ []) []
     ∷ asked listInteger halves (braces (nums (1 ∷ []))) 0 0 99 (7 ∷ 0 ∷ 0 ∷ 0 ∷ 0 ∷ 0 ∷ []) []

@@ -11,6 +11,7 @@ use Rattle.rules.specs.Forms.{Pattern, wildcard, variable, constant, val
 use Rattle.rules.specs.Forms.{Value, int, collection, tupled, Values, empty, _▸_, count, size}
 use Rattle.rules.specs.Reading.{Verdict, ok, fault, _then_, entry}
 use Rattle.rules.specs.Variables.{demand}
+use Rattle.rules.specs.Dialects.{Dialect, everyPlace, firstPlaces}
 
 -- ---- Pattern and matcher.
 
@@ -122,32 +123,49 @@ unfoldable pub comparable : ℤ → ℤ → Matcher → List Matcher → Bool
 unfolding withoutSomething alike entry isInteger same
 comparable v c m ms = withoutSomething m && alike m (entry ms v) && (isInteger m || same c (pos 0))
 
+-- "In dialect 2 a cons under a multiset whose element matcher has something in it is 4": its elements could not be told apart.
+unfoldable pub toldApart : Dialect → Matcher → Bool
+unfolding withoutSomething
+toldApart everyPlace m = true
+toldApart firstPlaces something = true
+toldApart firstPlaces integer = true
+toldApart firstPlaces (list m) = true
+toldApart firstPlaces (multiset m) = withoutSomething m
+toldApart firstPlaces (tupleOf ms) = true
+
 -- What is found are the matchers of the variables that stand to the left of what follows. "Unequal widths are 4", at the tag.
 unfoldable mutual
-  unfolding _then_ demand takes comparable element members countᵐ countᵖ span
+  unfolding _then_ demand takes toldApart comparable element members countᵐ countᵖ span
 
-  pub fits : Pattern → Matcher → (at : ℕ) → List Matcher → Verdict (List Matcher)
-  fits wildcard m at ms = demand (takes m 0) at ms
-  fits (variable v) m at ms = demand (takes m 1) at (ms ++ (m ∷ []))
-  fits (constant c) m at ms = demand (takes m 2) at ms
-  fits (value v c) m at ms = demand (takes m 3 && comparable v c m ms) at ms
-  fits nil m at ms = demand (takes m 4) at ms
-  fits (cons p q) m at ms =
-      demand (takes m 5) at ms then λ ks. fits p (element m) (at + 1) ks then λ ls. fits q m (at + 1 + span p) ls
-  fits (join p q) m at ms =
-      demand (takes m 6) at ms then λ ks. fits p m (at + 1) ks then λ ls. fits q m (at + 1 + span p) ls
-  fits (tuple ps) m at ms = demand (takes m 7 && eqb (countᵖ ps) (countᵐ (members m))) at ms then λ ks. fitsParts ps (members m) (at + 2) ks
-  fits (both p q) m at ms =
-      demand (takes m 8) at ms then λ ks. fits p m (at + 1) ks then λ ls. fits q m (at + 1 + span p) ls
-  fits (either p q) m at ms =
-      demand (takes m 9) at ms then λ ks. fits p m (at + 1) ks then λ ls. fits q m (at + 1 + span p) ls
-  fits (never p) m at ms = demand (takes m 10) at ms then λ ks. fits p m (at + 1) ks
+  pub fitsIn : Dialect → Pattern → Matcher → (at : ℕ) → List Matcher → Verdict (List Matcher)
+  fitsIn dialect wildcard m at ms = demand (takes m 0) at ms
+  fitsIn dialect (variable v) m at ms = demand (takes m 1) at (ms ++ (m ∷ []))
+  fitsIn dialect (constant c) m at ms = demand (takes m 2) at ms
+  fitsIn dialect (value v c) m at ms = demand (takes m 3 && comparable v c m ms) at ms
+  fitsIn dialect nil m at ms = demand (takes m 4) at ms
+  fitsIn dialect (cons p q) m at ms =
+      demand (toldApart dialect m && takes m 5) at ms then λ ks. fitsIn dialect p (element m) (at + 1) ks then λ ls. fitsIn dialect q m (at + 1 + span p) ls
+  fitsIn dialect (join p q) m at ms =
+      demand (takes m 6) at ms then λ ks. fitsIn dialect p m (at + 1) ks then λ ls. fitsIn dialect q m (at + 1 + span p) ls
+  fitsIn dialect (tuple ps) m at ms = demand (takes m 7 && eqb (countᵖ ps) (countᵐ (members m))) at ms then λ ks. fitsPartsIn dialect ps (members m) (at + 2) ks
+  fitsIn dialect (both p q) m at ms =
+      demand (takes m 8) at ms then λ ks. fitsIn dialect p m (at + 1) ks then λ ls. fitsIn dialect q m (at + 1 + span p) ls
+  fitsIn dialect (either p q) m at ms =
+      demand (takes m 9) at ms then λ ks. fitsIn dialect p m (at + 1) ks then λ ls. fitsIn dialect q m (at + 1 + span p) ls
+  fitsIn dialect (never p) m at ms = demand (takes m 10) at ms then λ ks. fitsIn dialect p m (at + 1) ks
 
   -- Each part under its matcher.
-  pub fitsParts : Patterns → Matchers → (at : ℕ) → List Matcher → Verdict (List Matcher)
-  fitsParts noPatterns ms at ks = ok ks
-  fitsParts (p ▸ᵖ ps) noMatchers at ks = ok ks
-  fitsParts (p ▸ᵖ ps) (m ▸ᵐ ms) at ks = fits p m at ks then λ ls. fitsParts ps ms (at + span p) ls
+  pub fitsPartsIn : Dialect → Patterns → Matchers → (at : ℕ) → List Matcher → Verdict (List Matcher)
+  fitsPartsIn dialect noPatterns ms at ks = ok ks
+  fitsPartsIn dialect (p ▸ᵖ ps) noMatchers at ks = ok ks
+  fitsPartsIn dialect (p ▸ᵖ ps) (m ▸ᵐ ms) at ks = fitsIn dialect p m at ks then λ ls. fitsPartsIn dialect ps ms (at + span p) ls
+
+-- Dialect 1.
+abbrev pub fits : Pattern → Matcher → (at : ℕ) → List Matcher → Verdict (List Matcher)
+fits p m at ms = fitsIn everyPlace p m at ms
+
+abbrev pub fitsParts : Patterns → Matchers → (at : ℕ) → List Matcher → Verdict (List Matcher)
+fitsParts ps ms at ks = fitsPartsIn everyPlace ps ms at ks
 
 -- ---- Target and matcher.
 

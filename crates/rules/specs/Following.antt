@@ -8,7 +8,9 @@ use Rattle.rules.specs.Forms.{Value}
 use Rattle.rules.specs.Origins.{Valueᵒ, intᵒ, collectionᵒ, tupledᵒ, Valuesᵒ, emptyᵒ, _▸ᵒ_, Bindings, plain, target}
 use Rattle.rules.specs.Fit.{element, members}
 use Rattle.rules.specs.Equality.{isConstant, isValue, isEmpty}
-use Rattle.rules.specs.Search.{Halves, consHalves, joinHalves}
+use Rattle.rules.specs.Search.{Halves, consHalvesIn, joinHalves}
+unfoldable pub use Rattle.rules.specs.Search.{isMultiset}
+use Rattle.rules.specs.Dialects.{Dialect}
 use Rattle.rules.specs.Ways.{Way}
 
 pub record Solution : Type 0 where
@@ -29,13 +31,6 @@ numbered [] = []
 numbered (h ∷ hs) = record { no = 0; halves = h } ∷ map up (numbered hs)
 
 -- A cons under a multiset and a join put their choice into the way; a cons under a list does not.
-unfoldable pub isMultiset : Matcher → Bool
-isMultiset something = false
-isMultiset integer = false
-isMultiset (list m) = false
-isMultiset (multiset m) = true
-isMultiset (tupleOf ms) = false
-
 unfoldable pub mark : Bool → ℕ → Way
 mark true k = k ∷ []
 mark false k = []
@@ -78,29 +73,29 @@ ofParts f (collectionᵒ o vs) = []
 ofParts f (tupledᵒ o vs) = f vs
 
 unfoldable mutual
-  unfolding just whenSo noSolution combine chain onSide plain isConstant isValue isEmpty consHalves joinHalves element members isMultiset ofParts
+  unfolding just whenSo noSolution combine chain onSide plain isConstant isValue isEmpty consHalvesIn joinHalves element members isMultiset ofParts
 
-  pub solve : Pattern → Matcher → Valueᵒ → Bindings → List Solution
-  solve wildcard m v e = just e
-  solve (variable x) m v e = just (e ++ (v ∷ []))
-  solve (constant c) m v e = whenSo (isConstant c (plain v)) e
-  solve (value x c) m v e = whenSo (isValue m (map plain e) x c (plain v)) e
-  solve nil m v e = whenSo (isEmpty (plain v)) e
-  solve (cons p q) m v e = combine (isMultiset m) (λ a. solve p (element m) a e) (λ a d. solve q m a d) (consHalves m v)
-  solve (join p q) m v e = combine true (λ a. solve p m a e) (λ a d. solve q m a d) (joinHalves v)
-  solve (tuple ps) m v e = ofParts (λ vs. solveEach ps (members m) vs e) v
-  solve (both p q) m v e = chain [] (solve p m v e) (λ d. solve q m v d)
-  solve (either p q) m v e = map (onSide 0) (solve p m v e) ++ map (onSide 1) (solve q m v e)
-  solve (never p) m v e = whenSo (noSolution (solve p m v e)) e
+  pub solve : Dialect → Pattern → Matcher → Valueᵒ → Bindings → List Solution
+  solve dialect wildcard m v e = just e
+  solve dialect (variable x) m v e = just (e ++ (v ∷ []))
+  solve dialect (constant c) m v e = whenSo (isConstant c (plain v)) e
+  solve dialect (value x c) m v e = whenSo (isValue m (map plain e) x c (plain v)) e
+  solve dialect nil m v e = whenSo (isEmpty (plain v)) e
+  solve dialect (cons p q) m v e = combine (isMultiset m) (λ a. solve dialect p (element m) a e) (λ a d. solve dialect q m a d) (consHalvesIn dialect m v)
+  solve dialect (join p q) m v e = combine true (λ a. solve dialect p m a e) (λ a d. solve dialect q m a d) (joinHalves v)
+  solve dialect (tuple ps) m v e = ofParts (λ vs. solveEach dialect ps (members m) vs e) v
+  solve dialect (both p q) m v e = chain [] (solve dialect p m v e) (λ d. solve dialect q m v d)
+  solve dialect (either p q) m v e = map (onSide 0) (solve dialect p m v e) ++ map (onSide 1) (solve dialect q m v e)
+  solve dialect (never p) m v e = whenSo (noSolution (solve dialect p m v e)) e
 
   -- A tuple's parts: each part, and then the others.
-  pub solveEach : Patterns → Matchers → Valuesᵒ → Bindings → List Solution
-  solveEach noPatterns ms vs e = just e
-  solveEach (p ▸ᵖ ps) noMatchers vs e = just e
-  solveEach (p ▸ᵖ ps) (m ▸ᵐ ms) emptyᵒ e = just e
-  solveEach (p ▸ᵖ ps) (m ▸ᵐ ms) (v ▸ᵒ vs) e = chain [] (solve p m v e) (λ d. solveEach ps ms vs d)
+  pub solveEach : Dialect → Patterns → Matchers → Valuesᵒ → Bindings → List Solution
+  solveEach dialect noPatterns ms vs e = just e
+  solveEach dialect (p ▸ᵖ ps) noMatchers vs e = just e
+  solveEach dialect (p ▸ᵖ ps) (m ▸ᵐ ms) emptyᵒ e = just e
+  solveEach dialect (p ▸ᵖ ps) (m ▸ᵐ ms) (v ▸ᵒ vs) e = chain [] (solve dialect p m v e) (λ d. solveEach dialect ps ms vs d)
 
 -- The good ways of a rule on a target.
-unfoldable pub goodWays : Matcher → Pattern → Value → List Solution
+unfoldable pub goodWays : Dialect → Matcher → Pattern → Value → List Solution
 unfolding solve target
-goodWays m p v = solve p m (target v) []
+goodWays dialect m p v = solve dialect p m (target v) []

@@ -5,6 +5,7 @@ pub mod Forms
 pub mod Reading
 pub mod Causes
 pub mod Variables
+pub mod Dialects
 pub mod Fit
 pub mod Equality
 pub mod Origins
@@ -24,5 +25,6 @@ pub mod WorkedAlways
 pub mod WorkedCauses
 pub mod WorkedCounts
 pub mod WorkedOrigins
+pub mod WorkedDialects
 pub mod WorkedClauses
 pub mod Refusals

@@ -1,6 +1,6 @@
 -- Document 01, section 4: states, atoms, what follows a state, and a run by a budget.
 use Prim.Native.Nat.{ℕ, zero, suc, _-_}
-use mathlib.Core.Bool.{Bool, true, false}
+use mathlib.Core.Bool.{Bool, true, false, _||_}
 use mathlib.Core.List.{List, [], _∷_, _++_, map}
 use lib.ListN.{length}
 use lib.Dec.{leb}
@@ -11,7 +11,8 @@ use Rattle.rules.specs.Forms.{Value}
 use Rattle.rules.specs.Origins.{Valueᵒ, intᵒ, collectionᵒ, tupledᵒ, Valuesᵒ, emptyᵒ, _▸ᵒ_, Bindings, plain, target}
 use Rattle.rules.specs.Rows.{Form, row}
 use Rattle.rules.specs.Fit.{element, members, isSomething}
-use Rattle.rules.specs.Equality.{isConstant, isValue, isEmpty}
+use Rattle.rules.specs.Equality.{equal, isConstant, isValue, isEmpty}
+use Rattle.rules.specs.Dialects.{Dialect, everyPlace, firstPlaces}
 
 -- ---- What a cons and a join divide a value into, in the order in which the states follow.
 
@@ -47,6 +48,33 @@ consHalves (multiset m) (intᵒ o x) = []
 consHalves (multiset m) (collectionᵒ o vs) = map (λ t. record { first = t .one; second = collectionᵒ o (t .others) }) (takings vs)
 consHalves (multiset m) (tupledᵒ o vs) = []
 consHalves (tupleOf ms) v = []
+
+unfoldable pub isMultiset : Matcher → Bool
+isMultiset something = false
+isMultiset integer = false
+isMultiset (list m) = false
+isMultiset (multiset m) = true
+isMultiset (tupleOf ms) = false
+
+-- One of the values is equal to v.
+unfoldable pub anyEqual : (Value → Value → Bool) → List Value → Value → Bool
+anyEqual eq [] v = false
+anyEqual eq (w ∷ ws) v = eq w v || anyEqual eq ws v
+
+-- Those halves whose first part is not equal to one before it; `before` are the first parts before. They are compared among the elements that remain at the
+-- cons.
+unfoldable pub differing : (Value → Value → Bool) → (before : List Value) → List Halves → List Halves
+unfolding anyEqual plain
+differing eq before [] = []
+differing eq before (h ∷ hs) = elim (anyEqual eq before (plain (h .first))) [
+  | true ↦ differing eq (before ++ (plain (h .first) ∷ [])) hs
+  | false ↦ h ∷ differing eq (before ++ (plain (h .first) ∷ [])) hs
+]
+
+unfoldable pub consHalvesIn : Dialect → Matcher → Valueᵒ → List Halves
+unfolding consHalves isMultiset differing equal element
+consHalvesIn everyPlace m v = consHalves m v
+consHalvesIn firstPlaces m v = elim (isMultiset m) [ true ↦ differing (equal (element m)) [] (consHalves m v) | false ↦ consHalves m v ]
 
 pub record Cut : Type 0 where
   pub front : Valuesᵒ
@@ -101,25 +129,29 @@ apart ps ms (tupledᵒ o vs) older e = state false (atoms ps ms vs ++ older) e �
 -- The states that follow when the atom (p, m, v) is taken up: "new atoms stand before the older ones, first part first". And: "both on the same value,
 -- p first; one state". Or: "two states, p's first". Not: first the state with which the search inside it begins; if that search ends without a row,
 -- the state with the older atoms is next.
-unfoldable pub after : Pattern → Matcher → Valueᵒ → (older : List Atom) → Bindings → List State
-unfolding isSomething dropIf plain isConstant isValue isEmpty element members consHalves joinHalves apart
-after wildcard m v older e = elim (isSomething m) [
+unfoldable pub afterIn : Dialect → Pattern → Matcher → Valueᵒ → (older : List Atom) → Bindings → List State
+unfolding isSomething dropIf plain isConstant isValue isEmpty element members consHalvesIn joinHalves apart
+afterIn dialect wildcard m v older e = elim (isSomething m) [
   | true ↦ state false older e ∷ []
   | false ↦ state false (atom wildcard something v ∷ older) e ∷ []
 ]
-after (variable x) m v older e = elim (isSomething m) [
+afterIn dialect (variable x) m v older e = elim (isSomething m) [
   | true ↦ state false older (e ++ (v ∷ [])) ∷ []
   | false ↦ state false (atom (variable x) something v ∷ older) e ∷ []
 ]
-after (constant c) m v older e = dropIf (isConstant c (plain v)) older e
-after (value x c) m v older e = dropIf (isValue m (map plain e) x c (plain v)) older e
-after nil m v older e = dropIf (isEmpty (plain v)) older e
-after (cons p q) m v older e = map (λ h. state false (atom p (element m) (h .first) ∷ atom q m (h .second) ∷ older) e) (consHalves m v)
-after (join p q) m v older e = map (λ h. state false (atom p m (h .first) ∷ atom q m (h .second) ∷ older) e) (joinHalves v)
-after (tuple ps) m v older e = apart ps (members m) v older e
-after (both p q) m v older e = state false (atom p m v ∷ atom q m v ∷ older) e ∷ []
-after (either p q) m v older e = state false (atom p m v ∷ older) e ∷ state false (atom q m v ∷ older) e ∷ []
-after (never p) m v older e = state false (atom p m v ∷ endOfNot ∷ []) e ∷ state true older e ∷ []
+afterIn dialect (constant c) m v older e = dropIf (isConstant c (plain v)) older e
+afterIn dialect (value x c) m v older e = dropIf (isValue m (map plain e) x c (plain v)) older e
+afterIn dialect nil m v older e = dropIf (isEmpty (plain v)) older e
+afterIn dialect (cons p q) m v older e = map (λ h. state false (atom p (element m) (h .first) ∷ atom q m (h .second) ∷ older) e) (consHalvesIn dialect m v)
+afterIn dialect (join p q) m v older e = map (λ h. state false (atom p m (h .first) ∷ atom q m (h .second) ∷ older) e) (joinHalves v)
+afterIn dialect (tuple ps) m v older e = apart ps (members m) v older e
+afterIn dialect (both p q) m v older e = state false (atom p m v ∷ atom q m v ∷ older) e ∷ []
+afterIn dialect (either p q) m v older e = state false (atom p m v ∷ older) e ∷ state false (atom q m v ∷ older) e ∷ []
+afterIn dialect (never p) m v older e = state false (atom p m v ∷ endOfNot ∷ []) e ∷ state true older e ∷ []
+
+-- Dialect 1.
+abbrev pub after : Pattern → Matcher → Valueᵒ → (older : List Atom) → Bindings → List State
+after p m v older e = afterIn everyPlace p m v older e
 
 -- The search inside a not "ends at its first row": what waits of it is dropped, and with it the state that would have followed the not.
 unfoldable pub leaveNot : List State → List State
@@ -155,14 +187,18 @@ rowStep ws r = record { answer = r .answer; rows = suc (r .rows); steps = suc (r
 -- taken up, each with all that comes from it, before any older one." 0: no state remains. 7: the budget is used up and states remain. 8: the row
 -- of the state just taken up does not fit; it "is not begun; its state counts as a step". The states of a search inside a not "count as steps of the
 -- run, with the budget falling through it"; the row that it finds is not written.
-unfoldable pub run : Form → (budget : ℕ) → List State → (free : ℕ) → Run
-unfolding stopped step rowStep row after leaveNot
-run f zero [] free = stopped 0 0
-run f zero (s ∷ ss) free = stopped 7 0
-run f (suc n) [] free = stopped 0 0
-run f (suc n) (state g [] e ∷ ss) free = elim (leb (length (row f e)) free) [
-  | true ↦ rowStep (row f e) (run f n ss (free - length (row f e)))
+unfoldable pub runIn : Dialect → Form → (budget : ℕ) → List State → (free : ℕ) → Run
+unfolding stopped step rowStep row afterIn leaveNot
+runIn dialect f zero [] free = stopped 0 0
+runIn dialect f zero (s ∷ ss) free = stopped 7 0
+runIn dialect f (suc n) [] free = stopped 0 0
+runIn dialect f (suc n) (state g [] e ∷ ss) free = elim (leb (length (row f e)) free) [
+  | true ↦ rowStep (row f e) (runIn dialect f n ss (free - length (row f e)))
   | false ↦ stopped 8 1
 ]
-run f (suc n) (state g (endOfNot ∷ older) e ∷ ss) free = step (run f n (leaveNot ss) free)
-run f (suc n) (state g (atom p m v ∷ older) e ∷ ss) free = step (run f n (after p m v older e ++ ss) free)
+runIn dialect f (suc n) (state g (endOfNot ∷ older) e ∷ ss) free = step (runIn dialect f n (leaveNot ss) free)
+runIn dialect f (suc n) (state g (atom p m v ∷ older) e ∷ ss) free = step (runIn dialect f n (afterIn dialect p m v older e ++ ss) free)
+
+-- Dialect 1.
+abbrev pub run : Form → (budget : ℕ) → List State → (free : ℕ) → Run
+run f n ss free = runIn everyPlace f n ss free

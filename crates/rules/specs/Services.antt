@@ -11,9 +11,10 @@ use Rattle.rules.specs.Forms.{Matcher, Pattern, Value}
 use Rattle.rules.specs.Reading.{Verdict, ok, fault, readMatcher, readPattern, readTarget}
 use Rattle.rules.specs.Causes.{causeOf}
 use Rattle.rules.specs.Variables.{variables}
-use Rattle.rules.specs.Fit.{fits, fitsValue}
+use Rattle.rules.specs.Fit.{fitsIn, fitsValue}
+use Rattle.rules.specs.Dialects.{Dialect, everyPlace, dialectOf}
 use Rattle.rules.specs.Rows.{Form, asWords, asOrigins, formOf}
-use Rattle.rules.specs.Search.{Run, run, start}
+use Rattle.rules.specs.Search.{Run, runIn, start}
 use Rattle.rules.specs.Review.{formula}
 use Rattle.rules.specs.Always.{alwaysTrue}
 
@@ -32,14 +33,18 @@ pub record Rule : Type 0 where
   pub pattern : Pattern
 
 -- 1 matcher, 2 pattern, 3 variable, 4 misfit: in that order, each over its whole slice.
-unfoldable pub ruleOf : (ms ps : List ℤ) → Judged Rule
-unfolding test readMatcher readPattern variables fits
-ruleOf ms ps =
+unfoldable pub ruleIn : Dialect → (ms ps : List ℤ) → Judged Rule
+unfolding test readMatcher readPattern variables fitsIn
+ruleIn dialect ms ps =
     test 1 (readMatcher ms) λ m.
     test 2 (readPattern ps) λ p.
     test 3 (variables p true 0 0) λ _.
-    test 4 (fits p m 0 []) λ _.
+    test 4 (fitsIn dialect p m 0 []) λ _.
     accepted (record { matcher = m; pattern = p })
+
+-- Dialect 1.
+abbrev pub ruleOf : (ms ps : List ℤ) → Judged Rule
+ruleOf ms ps = ruleIn everyPlace ms ps
 
 -- 5 target, 6 unfit.
 unfoldable pub targetOf : Matcher → (ts : List ℤ) → Judged Value
@@ -81,29 +86,48 @@ carriedOut r room = record {
   room = r .written ++ drop (length (r .written)) room;
 }
 
-unfoldable pub matchTarget : Form → (budget : ℕ) (room : List ℤ) (ts : List ℤ) → Rule → Judged Value → Matched
-unfolding turnedAway carriedOut causeIn run start
-matchTarget f budget room ts r (refused a i) = turnedAway a i (causeIn a ts) room
-matchTarget f budget room ts r (accepted v) = carriedOut (run f budget (start (r .matcher) (r .pattern) v ∷ []) (length room)) room
+unfoldable pub matchTargetIn : Dialect → Form → (budget : ℕ) (room : List ℤ) (ts : List ℤ) → Rule → Judged Value → Matched
+unfolding turnedAway carriedOut causeIn runIn start
+matchTargetIn dialect f budget room ts r (refused a i) = turnedAway a i (causeIn a ts) room
+matchTargetIn dialect f budget room ts r (accepted v) =
+    carriedOut (runIn dialect f budget (start (r .matcher) (r .pattern) v ∷ []) (length room)) room
 
-unfoldable pub matchRule : Form → (budget : ℕ) (room : List ℤ) (ts : List ℤ) → Judged Rule → Matched
-unfolding turnedAway matchTarget targetOf
-matchRule f budget room ts (refused a i) = turnedAway a i 0 room
-matchRule f budget room ts (accepted r) = matchTarget f budget room ts r (targetOf (r .matcher) ts)
+unfoldable pub matchRuleIn : Dialect → Form → (budget : ℕ) (room : List ℤ) (ts : List ℤ) → Judged Rule → Matched
+unfolding turnedAway matchTargetIn targetOf
+matchRuleIn dialect f budget room ts (refused a i) = turnedAway a i 0 room
+matchRuleIn dialect f budget room ts (accepted r) = matchTargetIn dialect f budget room ts r (targetOf (r .matcher) ts)
 
--- A match whose rows are in one of the two forms.
-unfoldable pub matchIn : Form → (ms ps ts : List ℤ) (budget : ℕ) (room : List ℤ) → Matched
-unfolding matchRule ruleOf
-matchIn f ms ps ts budget room = matchRule f budget room ts (ruleOf ms ps)
+-- A match in one of the dialects, whose rows are in one of the two forms.
+unfoldable pub matchOf : Dialect → Form → (ms ps ts : List ℤ) (budget : ℕ) (room : List ℤ) → Matched
+unfolding matchRuleIn ruleIn
+matchOf dialect f ms ps ts budget room = matchRuleIn dialect f budget room ts (ruleIn dialect ms ps)
+
+-- "20, unknown row form, before 1"; "22, unknown dialect, before 1 and after 20": with 0 in every further number, and the room as it was.
+unfoldable pub matchPicked : (form dialect : ℕ) (ms ps ts : List ℤ) (budget : ℕ) (room : List ℤ) → Matched
+unfolding formOf dialectOf turnedAway matchOf
+matchPicked form dialect ms ps ts budget room = elim (formOf form) [
+  | none ↦ turnedAway 20 0 0 room
+  | some f ↦ elim (dialectOf dialect) [ none ↦ turnedAway 22 0 0 room | some d ↦ matchOf d f ms ps ts budget room ]
+]
+
+-- Dialect 1.
+abbrev pub matchTarget : Form → (budget : ℕ) (room : List ℤ) (ts : List ℤ) → Rule → Judged Value → Matched
+matchTarget f budget room ts r x = matchTargetIn everyPlace f budget room ts r x
+
+abbrev pub matchRule : Form → (budget : ℕ) (room : List ℤ) (ts : List ℤ) → Judged Rule → Matched
+matchRule f budget room ts x = matchRuleIn everyPlace f budget room ts x
+
+abbrev pub matchIn : Form → (ms ps ts : List ℤ) (budget : ℕ) (room : List ℤ) → Matched
+matchIn f ms ps ts budget room = matchOf everyPlace f ms ps ts budget room
 
 -- Rows in form 1, as document 01 has them.
 unfoldable pub match : (ms ps ts : List ℤ) (budget : ℕ) (room : List ℤ) → Matched
-unfolding matchIn
+unfolding matchOf
 match ms ps ts budget room = matchIn asWords ms ps ts budget room
 
 -- "20, unknown row form, before 1": with 0 in every further number, and the room as it was.
 unfoldable pub matchWith : (form : ℕ) (ms ps ts : List ℤ) (budget : ℕ) (room : List ℤ) → Matched
-unfolding formOf turnedAway matchIn
+unfolding formOf turnedAway matchOf
 matchWith n ms ps ts budget room = elim (formOf n) [ none ↦ turnedAway 20 0 0 room | some f ↦ matchIn f ms ps ts budget room ]
 
 -- ---- Review: three numbers.
@@ -138,5 +162,14 @@ reviewRule cap (refused a i) = declined a i
 reviewRule cap (accepted r) = unlessAlwaysTrue cap r
 
 unfoldable pub review : (ms ps : List ℤ) (cap : ℤ) → Reviewed
-unfolding reviewRule ruleOf
+unfolding reviewRule ruleIn
 review ms ps cap = reviewRule cap (ruleOf ms ps)
+
+-- Review is told the dialect; its figure is the same in either.
+unfoldable pub reviewOf : Dialect → (ms ps : List ℤ) (cap : ℤ) → Reviewed
+unfolding reviewRule ruleIn
+reviewOf dialect ms ps cap = reviewRule cap (ruleIn dialect ms ps)
+
+unfoldable pub reviewPicked : (dialect : ℕ) (ms ps : List ℤ) (cap : ℤ) → Reviewed
+unfolding dialectOf declined reviewOf
+reviewPicked dialect ms ps cap = elim (dialectOf dialect) [ none ↦ declined 22 0 | some d ↦ reviewOf d ms ps cap ]

@@ -2,15 +2,19 @@
 use Prim.Native.Nat.{ℕ, zero, suc, _≤_, _<_}
 use mathlib.Core.Path.{_≡_}
 use mathlib.Core.Logic.{_⊎_}
+use mathlib.Core.Bool.{Bool, true, false}
 use mathlib.Core.Option.{Option, none, some}
 use mathlib.Core.List.{List, [], _∷_, _++_, map}
+use lib.ListN.{getElem?}
 use lib.Dec.{T}
 use Rattle.rules.specs.Forms.{Matcher, something, integer, list, multiset, tupleOf, Matchers, noMatchers, _▸ᵐ_}
 use Rattle.rules.specs.Forms.{Pattern, wildcard, variable, constant, value, nil, cons, join, tuple, both, either, never, Patterns, noPatterns, _▸ᵖ_}
 use Rattle.rules.specs.Forms.{Value, count}
 use Rattle.rules.specs.Origins.{Valueᵒ, intᵒ, collectionᵒ, tupledᵒ, Valuesᵒ, emptyᵒ, _▸ᵒ_, Bindings, plain, plainAll, target}
 use Rattle.rules.specs.Fit.{element, members}
-use Rattle.rules.specs.Equality.{isConstant, isValue, isEmpty}
+use Rattle.rules.specs.Equality.{equal, isConstant, isValue, isEmpty}
+use Rattle.rules.specs.Dialects.{Dialect, everyPlace, firstPlaces}
+use Rattle.rules.specs.Search.{anyEqual}
 
 -- "A way names, for each cons under a multiset and each join in pattern order left to right, which of its states was chosen, counted in section
 -- 4's order." (Counted from 0.) "A way also records the side of each or it meets, and no choice in the other side or in a not."
@@ -47,19 +51,40 @@ back vs zero = vs
 back emptyᵒ (suc k) = emptyᵒ
 back (v ▸ᵒ vs) (suc k) = back vs k
 
+-- The values of the elements, in order.
+unfoldable pub elements : Valuesᵒ → List Value
+unfolding plain
+elements emptyᵒ = []
+elements (v ▸ᵒ vs) = plain v ∷ elements vs
+
+-- The first places: those before which no equal element stands; `before` are the elements before, `k` is the place.
+unfoldable pub placesFrom : (Value → Value → Bool) → (before : List Value) → (k : ℕ) → List Value → List ℕ
+unfolding anyEqual
+placesFrom eq before k [] = []
+placesFrom eq before k (v ∷ vs) = elim (anyEqual eq before v) [
+  | true ↦ placesFrom eq (before ++ (v ∷ [])) (suc k) vs
+  | false ↦ k ∷ placesFrom eq (before ++ (v ∷ [])) (suc k) vs
+]
+
+-- The place that a choice at a cons under a multiset of m names: in dialect 1 the place itself, in dialect 2 that of the first places.
+unfoldable pub placeOf : Dialect → Matcher → Valuesᵒ → (choice : ℕ) → Option ℕ
+unfolding elements placesFrom equal
+placeOf everyPlace m vs c = some c
+placeOf firstPlaces m vs c = getElem? (placesFrom (equal m) [] 0 (elements vs)) c
+
 -- By the choices `here` (none under a list, one under a multiset) a cons under m takes a from v and leaves b.
-unfoldable pub ConsBy : Matcher → Valueᵒ → (here : Way) → (a b : Valueᵒ) → Type 0
-unfolding at without
-ConsBy something v here a b = ⊥
-ConsBy integer v here a b = ⊥
-ConsBy (list m) (intᵒ o x) here a b = ⊥
-ConsBy (list m) (collectionᵒ o emptyᵒ) here a b = ⊥
-ConsBy (list m) (collectionᵒ o (x ▸ᵒ xs)) here a b = (here ≡ []) × (a ≡ x) × (b ≡ collectionᵒ o xs)
-ConsBy (list m) (tupledᵒ o vs) here a b = ⊥
-ConsBy (multiset m) (intᵒ o x) here a b = ⊥
-ConsBy (multiset m) (collectionᵒ o vs) here a b = (k : ℕ) × (here ≡ k ∷ []) × (at vs k ≡ some a) × (b ≡ collectionᵒ o (without vs k))
-ConsBy (multiset m) (tupledᵒ o vs) here a b = ⊥
-ConsBy (tupleOf ms) v here a b = ⊥
+unfoldable pub ConsBy : Dialect → Matcher → Valueᵒ → (here : Way) → (a b : Valueᵒ) → Type 0
+unfolding at without placeOf
+ConsBy dialect something v here a b = ⊥
+ConsBy dialect integer v here a b = ⊥
+ConsBy dialect (list m) (intᵒ o x) here a b = ⊥
+ConsBy dialect (list m) (collectionᵒ o emptyᵒ) here a b = ⊥
+ConsBy dialect (list m) (collectionᵒ o (x ▸ᵒ xs)) here a b = (here ≡ []) × (a ≡ x) × (b ≡ collectionᵒ o xs)
+ConsBy dialect (list m) (tupledᵒ o vs) here a b = ⊥
+ConsBy dialect (multiset m) (intᵒ o x) here a b = ⊥
+ConsBy dialect (multiset m) (collectionᵒ o vs) here a b = (c k : ℕ) × (here ≡ c ∷ []) × (placeOf dialect m vs c ≡ some k) × (at vs k ≡ some a) × (b ≡ collectionᵒ o (without vs k))
+ConsBy dialect (multiset m) (tupledᵒ o vs) here a b = ⊥
+ConsBy dialect (tupleOf ms) v here a b = ⊥
 
 -- By the choice `here` a join cuts v into a front a and a back b.
 unfoldable pub JoinBy : Valueᵒ → (here : Way) → (a b : Valueᵒ) → Type 0
@@ -107,26 +132,26 @@ Parts P (tupledᵒ o vs) = P vs
 unfoldable mutual
   unfolding ConsBy JoinBy Parts plain isConstant isValue isEmpty element members
 
-  pub Follows : Pattern → Matcher → Valueᵒ → Bindings → Way → Bindings → Type 0
-  Follows wildcard m v e w d = (w ≡ []) × (d ≡ e)
-  Follows (variable x) m v e w d = (w ≡ []) × (d ≡ e ++ (v ∷ []))
-  Follows (constant c) m v e w d = T (isConstant c (plain v)) × (w ≡ []) × (d ≡ e)
-  Follows (value x c) m v e w d = T (isValue m (map plain e) x c (plain v)) × (w ≡ []) × (d ≡ e)
-  Follows nil m v e w d = T (isEmpty (plain v)) × (w ≡ []) × (d ≡ e)
-  Follows (cons p q) m v e w d = Halved (ConsBy m v) (λ a x y z. Follows p (element m) a x y z) (λ b x y z. Follows q m b x y z) e w d
-  Follows (join p q) m v e w d = Halved (JoinBy v) (λ a x y z. Follows p m a x y z) (λ b x y z. Follows q m b x y z) e w d
-  Follows (tuple ps) m v e w d = Parts (λ vs. FollowsAll ps (members m) vs e w d) v
-  Follows (both p q) m v e w d = Next (λ x y z. Follows p m v x y z) (λ x y z. Follows q m v x y z) e w d
-  Follows (either p q) m v e w d = Side 0 (λ u. Follows p m v e u d) w ⊎ Side 1 (λ u. Follows q m v e u d) w
-  Follows (never p) m v e w d = ((u : Way) (c : Bindings) → Follows p m v e u c → ⊥) × (w ≡ []) × (d ≡ e)
+  pub Follows : Dialect → Pattern → Matcher → Valueᵒ → Bindings → Way → Bindings → Type 0
+  Follows dialect wildcard m v e w d = (w ≡ []) × (d ≡ e)
+  Follows dialect (variable x) m v e w d = (w ≡ []) × (d ≡ e ++ (v ∷ []))
+  Follows dialect (constant c) m v e w d = T (isConstant c (plain v)) × (w ≡ []) × (d ≡ e)
+  Follows dialect (value x c) m v e w d = T (isValue m (map plain e) x c (plain v)) × (w ≡ []) × (d ≡ e)
+  Follows dialect nil m v e w d = T (isEmpty (plain v)) × (w ≡ []) × (d ≡ e)
+  Follows dialect (cons p q) m v e w d = Halved (ConsBy dialect m v) (λ a x y z. Follows dialect p (element m) a x y z) (λ b x y z. Follows dialect q m b x y z) e w d
+  Follows dialect (join p q) m v e w d = Halved (JoinBy v) (λ a x y z. Follows dialect p m a x y z) (λ b x y z. Follows dialect q m b x y z) e w d
+  Follows dialect (tuple ps) m v e w d = Parts (λ vs. FollowsAll dialect ps (members m) vs e w d) v
+  Follows dialect (both p q) m v e w d = Next (λ x y z. Follows dialect p m v x y z) (λ x y z. Follows dialect q m v x y z) e w d
+  Follows dialect (either p q) m v e w d = Side 0 (λ u. Follows dialect p m v e u d) w ⊎ Side 1 (λ u. Follows dialect q m v e u d) w
+  Follows dialect (never p) m v e w d = ((u : Way) (c : Bindings) → Follows dialect p m v e u c → ⊥) × (w ≡ []) × (d ≡ e)
 
-  pub FollowsAll : Patterns → Matchers → Valuesᵒ → Bindings → Way → Bindings → Type 0
-  FollowsAll noPatterns ms vs e w d = (w ≡ []) × (d ≡ e)
-  FollowsAll (p ▸ᵖ ps) noMatchers vs e w d = (w ≡ []) × (d ≡ e)
-  FollowsAll (p ▸ᵖ ps) (m ▸ᵐ ms) emptyᵒ e w d = (w ≡ []) × (d ≡ e)
-  FollowsAll (p ▸ᵖ ps) (m ▸ᵐ ms) (v ▸ᵒ vs) e w d = Next (λ x y z. Follows p m v x y z) (λ x y z. FollowsAll ps ms vs x y z) e w d
+  pub FollowsAll : Dialect → Patterns → Matchers → Valuesᵒ → Bindings → Way → Bindings → Type 0
+  FollowsAll dialect noPatterns ms vs e w d = (w ≡ []) × (d ≡ e)
+  FollowsAll dialect (p ▸ᵖ ps) noMatchers vs e w d = (w ≡ []) × (d ≡ e)
+  FollowsAll dialect (p ▸ᵖ ps) (m ▸ᵐ ms) emptyᵒ e w d = (w ≡ []) × (d ≡ e)
+  FollowsAll dialect (p ▸ᵖ ps) (m ▸ᵐ ms) (v ▸ᵒ vs) e w d = Next (λ x y z. Follows dialect p m v x y z) (λ x y z. FollowsAll dialect ps ms vs x y z) e w d
 
 -- A way is good if with it the whole pattern matches the target; `e` are its bindings.
-unfoldable pub Good : Matcher → Pattern → Value → Way → Bindings → Type 0
+unfoldable pub Good : Dialect → Matcher → Pattern → Value → Way → Bindings → Type 0
 unfolding Follows target
-Good m p v w e = Follows p m (target v) [] w e
+Good dialect m p v w e = Follows dialect p m (target v) [] w e

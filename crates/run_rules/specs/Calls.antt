@@ -10,7 +10,7 @@ use lib.ListN.{length, length-append, take, drop, take-append-drop}
 use lib.Dec.{T, eqb, eqb→eq, eqb-refl}
 use lib.IntN.{ℤ}
 use Rattle.rules.specs.Rows.{Form}
-use Rattle.rules.specs.Search.{State, Run, stopped, run}
+use Rattle.rules.specs.Search.{State, Run, stopped, run, runIn}
 use Rattle.forms.specs.Tests.{is-true, is-false}
 use Rattle.run_rules.specs.Lent.{Numbers, Held, ended, going, Lent, remaining, holding, allowed, since, writtenAt, told, heldAfter, roomAfter, Advanced, goOn, unlike, advanced}
 use Rattle.run_rules.specs.Splits.{behind, Split, over, further, split}
@@ -128,7 +128,7 @@ unfolding writtenAt
 none-written at room = ap (λ i. take at room ++ drop i room) (add-zero at) ∙ take-append-drop at room
 
 pub held-zero : (size : ℕ) (h : Held) → heldAfter 0 size h ≡ h
-unfolding heldAfter told holding since run remaining stopped
+unfolding heldAfter told holding since runIn remaining stopped
 held-zero size (ended k) = refl
 held-zero size (going f s ss rows steps words) =
     ap (λ i. holding f (since rows steps words (run f i (s ∷ ss) (size - words))) (remaining f i (s ∷ ss) (size - words))) (no-steps steps)
@@ -138,7 +138,7 @@ held-zero size (going f s ss rows steps words) =
     go a b c i = going f s ss (a i) (b i) (c i)
 
 pub room-zero : (size : ℕ) (h : Held) (room : List ℤ) → roomAfter 0 size h room ≡ room
-unfolding roomAfter run stopped
+unfolding roomAfter runIn stopped
 room-zero size (ended k) room = refl
 room-zero size (going f s ss rows steps words) room =
     ap (λ i. writtenAt words ((run f i (s ∷ ss) (size - words)) .written) room) (no-steps steps) ∙ none-written words room

@@ -8,8 +8,8 @@ use lib.Dec.{leb, eqb}
 use lib.IntN.{ℤ}
 use Rattle.rules.specs.Forms.{Value}
 use Rattle.rules.specs.Rows.{Form, formOf, row}
-use Rattle.rules.specs.Search.{atom, endOfNot, State, state, after, leaveNot, start, Run, run}
-use Rattle.rules.specs.Services.{Rule, Judged, accepted, refused, ruleOf, targetOf, causeIn}
+use Rattle.rules.specs.Search.{atom, endOfNot, State, state, after, afterIn, leaveNot, start, Run, run, runIn}
+use Rattle.rules.specs.Services.{Rule, Judged, accepted, refused, ruleOf, ruleIn, targetOf, causeIn}
 
 -- "The portions' sum, cut at 4,294,967,295."
 abbrev pub mostSteps : ℕ
@@ -75,7 +75,7 @@ openRule f size ts (accepted r) = openTarget f size ts r (targetOf (r .matcher) 
 
 -- "Opening makes the checks 1 to 6."
 unfoldable pub openedIn : Form → (ms ps ts : List ℤ) (size : ℕ) → Opened
-unfolding openRule ruleOf
+unfolding openRule ruleIn
 openedIn f ms ps ts size = openRule f size ts (ruleOf ms ps)
 
 -- The opening is told the row form: "20, unknown row form, before 1".
@@ -87,7 +87,7 @@ opened n ms ps ts size = elim (formOf n) [ none ↦ turnedAway size 20 0 0 | som
 
 -- The states that wait after a run by a budget over the waiting states, with `free` words of the room left. None where it ends with 8.
 unfoldable pub remaining : Form → (budget : ℕ) → List State → (free : ℕ) → List State
-unfolding row after leaveNot
+unfolding row afterIn leaveNot
 remaining f zero ss free = ss
 remaining f (suc n) [] free = []
 remaining f (suc n) (state g [] e ∷ ss) free = elim (leb (length (row f e)) free) [ true ↦ remaining f n ss (free - length (row f e)) | false ↦ [] ]
@@ -115,7 +115,7 @@ writtenAt at new room = take at room ++ (new ++ drop (at + length new) room)
 -- An advance is a run over the held states, with the words of the room that are left: what it tells, what is held after it, and what it leaves in the room.
 -- "A run that has ended gives its answer again and touches nothing."
 unfoldable pub told : (portion size : ℕ) → Held → Numbers
-unfolding run allowed since
+unfolding runIn allowed since
 told n size (ended k) = k
 told n size (going f s ss rows steps words) = since rows steps words (run f (allowed n steps) (s ∷ ss) (size - words))
 
@@ -126,7 +126,7 @@ heldAfter n size (going f s ss rows steps words) =
     holding f (told n size (going f s ss rows steps words)) (remaining f (allowed n steps) (s ∷ ss) (size - words))
 
 unfoldable pub roomAfter : (portion size : ℕ) → Held → (room : List ℤ) → List ℤ
-unfolding run allowed writtenAt
+unfolding runIn allowed writtenAt
 roomAfter n size (ended k) room = room
 roomAfter n size (going f s ss rows steps words) room = writtenAt words ((run f (allowed n steps) (s ∷ ss) (size - words)) .written) room
 

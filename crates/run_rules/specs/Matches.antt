@@ -13,8 +13,8 @@ use lib.Dec.{leb}
 use lib.IntN.{ℤ}
 use Rattle.rules.specs.Forms.{Value}
 use Rattle.rules.specs.Rows.{Form, formOf, row}
-use Rattle.rules.specs.Search.{atom, endOfNot, State, state, after, leaveNot, start, Run, stopped, rowStep, run}
-use Rattle.rules.specs.Services.{Rule, Judged, accepted, refused, ruleOf, targetOf, Matched, carriedOut, causeIn, matchIn, matchWith, matchRule, matchTarget}
+use Rattle.rules.specs.Search.{atom, endOfNot, State, state, after, leaveNot, start, Run, stopped, rowStep, run, runIn}
+use Rattle.rules.specs.Services.{Rule, Judged, accepted, refused, ruleOf, targetOf, Matched, carriedOut, causeIn, matchIn, matchOf, matchWith, matchRule, matchRuleIn, matchTarget, matchTargetIn}
 use Rattle.rules.specs.Services
 use Rattle.forms.specs.Faults.{Fault, Sane, rule-accepted, target-accepted, refused-exactly, Judgement, match-turned, match-judged, turned, ran}
 use Rattle.run_rules.specs.Lent.{cut, Numbers, Held, ended, going, Lent, Opened, turnedAway, begun, openTarget, openRule, openedIn, opened, allowed}
@@ -45,17 +45,17 @@ pub data Beside (size : ℕ) (o : Opened) (m : ℕ → List ℤ → Matched) : T
 
 beside-target : (form : Form) (size : ℕ) (ts : List ℤ) (r : Rule) (x : Judged Value)
     → Beside size (openTarget form size ts r x) (λ budget room. matchTarget form budget room ts r x)
-unfolding openTarget matchTarget
+unfolding openTarget matchTargetIn
 beside-target form size ts r (refused a i) = away a i (causeIn a ts) refl (λ budget room. refl)
 beside-target form size ts r (accepted v) = fresh form r v refl (λ budget room. refl)
 
 beside-rule : (form : Form) (size : ℕ) (ts : List ℤ) (x : Judged Rule) → Beside size (openRule form size ts x) (λ budget room. matchRule form budget room ts x)
-unfolding openRule matchRule
+unfolding openRule matchRuleIn
 beside-rule form size ts (refused a i) = away a i 0 refl (λ budget room. refl)
 beside-rule form size ts (accepted r) = beside-target form size ts r (targetOf (r .matcher) ts)
 
 pub beside : (n : ℕ) (ms ps ts : List ℤ) (size : ℕ) → Beside size (opened n ms ps ts size) (matchWith n ms ps ts)
-unfolding opened openedIn matchWith matchIn
+unfolding opened openedIn matchWith matchOf
 beside n ms ps ts size = go (formOf n)
   where
     go : (x : Option Form) → Beside size (elim x as (λ _. Opened) [ none ↦ turnedAway size 20 0 0 | some f ↦ openedIn f ms ps ts size ])
@@ -85,7 +85,7 @@ module _ (form : Form) (size : ℕ) (s : State) where
 
   -- What a run from the beginning writes with a sum of portions.
   unfoldable wordsBy : ℕ → List ℤ
-  unfolding allowed run
+  unfolding allowed runIn
   wordsBy n = (run form (allowed n 0) (s ∷ []) (size - 0)) .written
 
   -- A further portion adds some words, and writes these.
@@ -332,7 +332,7 @@ module _ (form : ℕ) (ms ps ts : List ℤ) (size : ℕ) where
 
     -- "The checks 1 to 6."
     pub opening-refused : (a i : ℕ) → Fault ms ps ts a i → opened form ms ps ts size ≡ turnedAway size a i (causeIn a ts)
-    unfolding Services.turnedAway carriedOut run stopped
+    unfolding Services.turnedAway carriedOut runIn stopped
     opening-refused a i w = go (beside form ms ps ts size)
       where
         q : matchWith form ms ps ts 0 [] ≡ Services.turnedAway a i (causeIn a ts) []
@@ -359,7 +359,7 @@ module _ (form : ℕ) (ms ps ts : List ℤ) (size : ℕ) where
 -- ---- 19 is no answer of a match.
 
 run-most : (form : Form) (n : ℕ) (ss : List State) (free : ℕ) → (run form n ss free) .answer ≤ 8
-unfolding run
+unfolding runIn
 run-most form zero [] free = omega arith
 run-most form zero (s ∷ ss) free = omega arith
 run-most form (suc n) [] free = omega arith

@@ -9,7 +9,7 @@ use lib.ListN.{length, length-append}
 use lib.Dec.{T, leb, leb→le}
 use lib.IntN.{ℤ}
 use Rattle.rules.specs.Rows.{Form, row}
-use Rattle.rules.specs.Search.{atom, endOfNot, State, state, after, leaveNot, Run, stopped, step, rowStep, run}
+use Rattle.rules.specs.Search.{atom, endOfNot, State, state, after, leaveNot, Run, stopped, step, rowStep, run, runIn}
 use Rattle.run_rules.specs.Lent.{remaining}
 
 -- A run after what another has done.
@@ -78,7 +78,7 @@ module _ (form : Form) where
   -- ---- No step.
 
   none-run : (n free : ℕ) → run form n [] free ≡ stopped 0 0
-  unfolding run
+  unfolding runIn
   none-run zero free = refl
   none-run (suc n) free = refl
 
@@ -96,7 +96,7 @@ module _ (form : Form) where
       clash h = omega arith
 
   first-split : (q : ℕ) (s : State) (ss : List State) (free : ℕ) → Split 0 q (s ∷ ss) free
-  unfolding run remaining stopped behind
+  unfolding runIn remaining stopped behind
   first-split q s ss free = further s ss refl refl refl
       (ap (λ i. remaining form i (s ∷ ss) free) (zero-add q) ∙ ap (λ i. remaining form q (s ∷ ss) i) (sym (sub-zero free)))
       (ap (λ i. run form i (s ∷ ss) free) (zero-add q) ∙ ap (λ i. run form q (s ∷ ss) i) (sym (sub-zero free))
@@ -105,7 +105,7 @@ module _ (form : Form) where
   -- ---- Every run is so divided.
 
   pub split : (p q : ℕ) (ss : List State) (free : ℕ) → Split p q ss free
-  unfolding run remaining
+  unfolding runIn remaining
   split zero q [] free = none-split 0 q free
   split zero q (s ∷ ss) free = first-split q s ss free
   split (suc p) q [] free = none-split (suc p) q free
@@ -134,7 +134,7 @@ module _ (form : Form) where
   -- ---- What is written has its place in the room.
 
   pub written-fits : (n : ℕ) (ss : List State) (free : ℕ) → length ((run form n ss free) .written) ≤ free
-  unfolding run
+  unfolding runIn
   written-fits zero [] free = zero-le
   written-fits zero (s ∷ ss) free = zero-le
   written-fits (suc n) [] free = zero-le

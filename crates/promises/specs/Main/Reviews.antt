@@ -5,12 +5,13 @@ use mathlib.Core.Bool.{false}
 use mathlib.Core.Logic.{_↔_}
 use mathlib.Core.List.{List}
 use lib.IntN.{ℤ, pos}
+use Rattle.rules.specs.Dialects.{Dialect}
 use Rattle.rules.specs.Forms.{Value}
 use Rattle.rules.specs.Reading.{ok}
 use Rattle.rules.specs.Fit.{fitsValue}
 use Rattle.rules.specs.Origins.{Bindings}
 use Rattle.rules.specs.Ways.{Way, Good}
-use Rattle.rules.specs.Services.{accepted, Rule, ruleOf, targetOf, matchIn, review}
+use Rattle.rules.specs.Services.{accepted, Rule, ruleIn, ruleOf, targetOf, matchOf, review}
 use Rattle.rules.specs.Rows.{Form}
 use Rattle.forms.specs.Faults.{sane-exactly, rule-accepted}
 use Rattle.promises.specs.Reviewing.{Review, TooBig, AlwaysTrue, countOf, review-judged, count-is, answer-10, answer-11, everybody}
@@ -49,12 +50,12 @@ formula-given ms ps cap r e a = review-counts ms ps cap r (record { wellFormed =
 
 -- ---- Rules that everybody passes: a pattern that review turns away with 11 has a good way on every value that fits its matcher, whatever its words.
 
-pub everybody-passes : (ms ps : List ℤ) (cap : ℤ) (r : Rule) → ruleOf ms ps ≡ accepted r → (review ms ps cap) .answer ≡ 11
-    → (v : Value) → fitsValue (r .matcher) v 0 ≡ ok tt → (w : Way) × (e : Bindings) × Good (r .matcher) (r .pattern) v w e
-everybody-passes ms ps cap r e = everybody ms ps cap r (rule-accepted ms ps r .0 e)
+pub everybody-passes : (dialect : Dialect) (ms ps : List ℤ) (cap : ℤ) (r : Rule) → ruleOf ms ps ≡ accepted r → (review ms ps cap) .answer ≡ 11
+    → (v : Value) → fitsValue (r .matcher) v 0 ≡ ok tt → (w : Way) × (e : Bindings) × Good dialect (r .matcher) (r .pattern) v w e
+everybody-passes dialect ms ps cap r e = everybody dialect ms ps cap r (rule-accepted ms ps r .0 e)
 
 -- So match finds a row on every target that is not refused, wherever it comes to an end by itself (answer 0).
-pub everybody-has-a-row : (form : Form) (ms ps ts : List ℤ) (cap : ℤ) (budget : ℕ) (room : List ℤ) (r : Rule) (v : Value)
-    → ruleOf ms ps ≡ accepted r → targetOf (r .matcher) ts ≡ accepted v → (review ms ps cap) .answer ≡ 11
-    → (matchIn form ms ps ts budget room) .answer ≡ 0 → 1 ≤ (matchIn form ms ps ts budget room) .rows
-everybody-has-a-row form ms ps ts cap budget room r v rule target = some-row form ms ps ts budget room r v (sane-exactly ms ps ts r v .0 (rule, target)) cap
+pub everybody-has-a-row : (dialect : Dialect) (form : Form) (ms ps ts : List ℤ) (cap : ℤ) (budget : ℕ) (room : List ℤ) (r : Rule) (v : Value)
+    → ruleIn dialect ms ps ≡ accepted r → targetOf (r .matcher) ts ≡ accepted v → (review ms ps cap) .answer ≡ 11
+    → (matchOf dialect form ms ps ts budget room) .answer ≡ 0 → 1 ≤ (matchOf dialect form ms ps ts budget room) .rows
+everybody-has-a-row dialect form ms ps ts cap budget room r v rule target = some-row dialect form ms ps ts budget room r v rule target cap

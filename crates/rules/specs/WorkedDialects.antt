@@ -4,8 +4,8 @@ use mathlib.Core.Path.{_≡_, refl}
 use mathlib.Core.List.{List, [], _∷_, _++_, map}
 use lib.ListN.{length, replicate}
 use lib.IntN.{ℤ, pos}
 use Rattle.rules.specs.Tables.{Outcome, held, ofMatch, ofReview, nums, ints, braces}
-use Rattle.dialect_rules.specs.Asked.{matchPicked, reviewPicked}
+use Rattle.rules.specs.Services.{matchPicked, reviewPicked}
 
 -- Row form, dialect, matcher, pattern, target, budget, room; or dialect, matcher, pattern, cap. The numbers, and the words written.
 pub data Case : Type 0 where

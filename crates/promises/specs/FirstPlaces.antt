@@ -3,15 +3,16 @@ use Prim.Native.Nat.{ℕ, suc, _≤_, zero-le, suc-le-suc}
 use native.Mathlib.Omega.{arith}
 use mathlib.Core.Path.{_≡_, refl, sym, ap, _∙_}
 use mathlib.Core.Bool.{Bool, true, false}
-use mathlib.Core.List.{List, [], _∷_, _++_, map, append-nil, append-assoc}
+use mathlib.Core.List.{List, [], _∷_, _++_, map, append-nil, append-assoc, List·Memᴰ·head, List·Memᴰ·tail, List·Memᴰ·not-nil, List·Memᴰ·cases-cons}
+use mathlib.Core.Logic.{⊎-elim}
 use lib.ListN.{length}
 use Rattle.rules.specs.Forms.{Matcher, multiset, Value}
 use Rattle.rules.specs.Origins.{Valueᵒ, plain}
 use Rattle.rules.specs.Fit.{element}
 use Rattle.rules.specs.Equality.{equal}
-use Rattle.rules.specs.Search.{Halves, consHalves}
-use Rattle.rules.specs.Following.{isMultiset}
-use Rattle.dialect_rules.specs.Dialects.{Dialect, everyPlace, firstPlaces, anyEqual, differing, consHalvesIn}
+use Rattle.rules.specs.Search.{Halves, consHalves, consHalvesIn, anyEqual, differing, isMultiset}
+use Rattle.rules.specs.Dialects.{Dialect, everyPlace, firstPlaces}
+use Rattle.forms.specs.Lists.{Mem}
 
 -- Some of a list's elements, in their order.
 pub data Some {A : Type 0} : List A → List A → Type 0 where
@@ -28,6 +29,11 @@ module _ {A : Type 0} where
   some-length nothing = zero-le
   some-length (kept s) = suc-le-suc (some-length s)
   some-length (left s) = let k = some-length s in omega arith
+
+  pub some-member : {xs ys : List A} → Some xs ys → (x : A) → Mem x xs → Mem x ys
+  some-member nothing x i = absurd (List·Memᴰ·not-nil i)
+  some-member (kept s) x i = ⊎-elim (λ e. List·Memᴰ·head e) (λ j. List·Memᴰ·tail (some-member s x j)) (List·Memᴰ·cases-cons i)
+  some-member (left s) x i = List·Memᴰ·tail (some-member s x i)
 
 differing-some : (eq : Value → Value → Bool) (before : List Value) (hs : List Halves) → Some (differing eq before hs) hs
 unfolding differing
