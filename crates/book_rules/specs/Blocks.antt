@@ -5,7 +5,7 @@ use mathlib.Core.List.{List, [], _∷_, _++_}
 use lib.ListN.{length, take, drop, replicate}
 use lib.Dec.{eqb, leb, ltb}
 use lib.IntN.{ℤ, pos, negsuc}
-use Rattle.rules.specs.Services.{Judged, accepted, refused, Rule, ruleOf}
+use Rattle.rules.specs.Services.{Judged, accepted, refused, Rule, ruleOf, ruleIn}
 use Rattle.book_rules.specs.Sums.{word, due, checked}
 
 abbrev pub Block : Type 0
@@ -114,7 +114,7 @@ isAccepted (refused a i) = false
 
 -- Review's 1 to 4.
 unfoldable pub isRule : (ms ps : List ℤ) → Bool
-unfolding isAccepted ruleOf
+unfolding isAccepted ruleIn
 isRule ms ps = isAccepted (ruleOf ms ps)
 
 -- A live block: n at most 124, the matcher's length at most n, every word after the rule zero, and review's 1 to 4 (reading 69).

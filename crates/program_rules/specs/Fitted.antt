@@ -13,7 +13,7 @@ use Rattle.rules.specs.Forms.{Pattern, wildcard, nil, variable, constant, value
 use Rattle.rules.specs.Reading.{Verdict, ok, fault, _then_, entry}
 use Rattle.rules.specs.Numbers.{same}
 use Rattle.rules.specs.Variables.{demand}
-use Rattle.rules.specs.Fit.{anywhere, tagsOf, among, takes, element, members, isInteger, isSomething, withoutSomething, sameShape, alike, comparable, fits, fitsParts}
+use Rattle.rules.specs.Fit.{anywhere, tagsOf, among, takes, element, members, isInteger, isSomething, withoutSomething, sameShape, alike, comparable, fits, fitsParts, fitsIn, fitsPartsIn, toldApart}
 use Rattle.forms.specs.Tests.{is-true, and-split}
 use Rattle.forms.specs.Readers.{then-ok}
 use Rattle.forms.specs.Numbering.{demand-ok}
@@ -74,7 +74,7 @@ good-reserved (suc n) g = good-reserve (good-reserved n g)
 -- The parts of a tuple, as many as the matchers.
 goods-parts : (ps : Patterns) (ks : Matchers) {ms ls : List Matcher} {ts : List Item} (at c : ℕ) → countᵖ ps ≡ countᵐ ks → fitsParts ps ks at ms ≡ ok ls
     → WidthsAllᵖ ps → ClosedAll ps → Goods ls ts → Goods ms (items ps ks c ts)
-unfolding fitsParts WidthsAllᵖ ClosedAll items firstOf othersOf countᵖ countᵐ
+unfolding fitsPartsIn fitsIn toldApart WidthsAllᵖ ClosedAll items firstOf othersOf countᵖ countᵐ
 goods-parts noPatterns ks {ms} {ls} at c n h w d g = let e : ms ≡ ls = cc in rw e g
 goods-parts (p ▸ᵖ ps) noMatchers at c n h w d g = absurd (omega arith)
 goods-parts (p ▸ᵖ ps) (k ▸ᵐ ks) {ls = ls} at c n h w d g =
@@ -131,7 +131,7 @@ two pc i j h l w d g = good (record { at = i; fit = h; widths = w .0; closed = d
 -- A tuple's tag and width, and then its parts.
 tuple-ok : (ps : Patterns) (ks : Matchers) (at : ℕ) (ms ls : List Matcher) → fits (tuple ps) (tupleOf ks) at ms ≡ ok ls
     → (countᵖ ps ≡ countᵐ ks) × (fitsParts ps ks (at + 2) ms ≡ ok ls)
-unfolding fits members takes tagsOf among
+unfolding fitsIn fitsPartsIn toldApart members takes tagsOf among
 tuple-ok ps ks at ms ls h =
     let r = then-ok (demand (eqb (countᵖ ps) (countᵐ ks)) at ms) (λ l. fitsParts ps ks (at + 2) l) ls h in
     let d = demand-ok (eqb (countᵖ ps) (countᵐ ks)) at ms (r .0) (r .1) in
@@ -148,7 +148,7 @@ two-ok b at ms ks f g h = then-ok (f ms) g ks (one-ok b at ms ks (λ l. f l then
 tuple-next : {points : ℕ → Point} (pc : ℕ) (ps : Patterns) (ks : Matchers) {ms ls : List Matcher} {ts : List Item} (at : ℕ) → countᵖ ps ≡ countᵐ ks → fitsParts ps ks at ms ≡ ok ls
     → IsWidth (countᵖ ps) → WidthsAllᵖ ps → ClosedAll ps → Ahead points pc (point ms (tuple ps) (tupleOf ks) (tupleOf ks) ts) → Goods ls ts
     → Next points pc (point ms (tuple ps) (tupleOf ks) (tupleOf ks) ts)
-unfolding instrOf followOf members parted items firstOf othersOf IsWidth countᵖ countᵐ fitsParts WidthsAllᵖ ClosedAll walk
+unfolding instrOf followOf members parted items firstOf othersOf IsWidth countᵖ countᵐ fitsPartsIn fitsIn toldApart WidthsAllᵖ ClosedAll walk
 tuple-next pc noPatterns ks at n h w v d a g = absurd (omega (arith, w .0))
 tuple-next pc (p ▸ᵖ noPatterns) ks at n h w v d a g = absurd (omega (arith, w .0))
 tuple-next pc (p ▸ᵖ q ▸ᵖ ps) noMatchers at n h w v d a g = absurd (omega arith)
@@ -167,7 +167,7 @@ tuple-next {points} pc (p ▸ᵖ q ▸ᵖ ps) (m ▸ᵐ k ▸ᵐ ks) {ms} {ls} {
 
 next : {points : ℕ → Point} (pc : ℕ) (p : Pattern) (m : Matcher) {ms ks : List Matcher} {ts : List Item} (at : ℕ) → fits p m at ms ≡ ok ks → Widthsᵖ p → Closed p
     → Ahead points pc (point ms p m m ts) → Goods ks ts → Next points pc (point ms p m m ts)
-unfolding instrOf followOf fits isSomething element members takes tagsOf among demand _then_ over firstBy whole tested testBy Sound entry Widthsᵖ Closed anywhere walk beside
+unfolding instrOf followOf fitsIn fitsPartsIn toldApart isSomething element members takes tagsOf among demand _then_ over firstBy whole tested testBy Sound entry Widthsᵖ Closed anywhere walk beside
 next pc wildcard something {ms} at h w d a g = record { follows = drops (past pc _) (land ms a refl g); fine = kept h g }
 next pc wildcard integer at h w d a g = record { follows = strips loose-wildcard refl (one a); fine = good-bare loose-wildcard (record { at = at; fit = h; widths = w; closed = d }) g }
 next pc wildcard (list m) at h w d a g = record { follows = strips loose-wildcard refl (one a); fine = good-bare loose-wildcard (record { at = at; fit = h; widths = w; closed = d }) g }
@@ -223,7 +223,7 @@ next pc (never p) m {ms} {ks} {ts} at h w d a g =
     record { follows = denies p (past pc _) (one a) f; fine = good (record { at = at + 1; fit = r; widths = w; closed = none-closed p d }) (goods-stop g) }
 
 pub good-next : {points : ℕ → Point} (pc : ℕ) {P : Point} → Ahead points pc P → Good P → Next points pc P
-unfolding instrOf followOf fits isSomething
+unfolding instrOf followOf fitsIn fitsPartsIn toldApart isSomething
 good-next pc a (good {p = p} {m = m} f g) = next pc p m (f .at) (f .fit) (f .widths) (f .closed) a g
 good-next pc a (good-bare {ms} {ks} {m = m} loose-wildcard f g) =
     record { follows = drops (past pc _) (land ms a refl g); fine = rw (demand-ok (takes m 0) (f .at) ms ks (f .fit) .1) (good-beside g) }

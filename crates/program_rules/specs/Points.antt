@@ -11,11 +11,11 @@ use Rattle.rules.specs.Forms.{Pattern, wildcard, nil, variable, constant, value
 use Rattle.rules.specs.Fit.{element, takes, withoutSomething, sameShape, isSomething}
 use Rattle.rules.specs.Equality.{isConstant, isValue, isEmpty}
 use Rattle.rules.specs.Origins.{Valueᵒ, Bindings, plain}
-use Rattle.rules.specs.Search.{Halves, consHalves, joinHalves, Atom, atom, endOfNot, State, state, dropIf, after, leaveNot}
+use Rattle.rules.specs.Search.{Halves, consHalves, joinHalves, Atom, atom, endOfNot, State, state, dropIf, after, leaveNot, afterIn, consHalvesIn}
 
 -- What waits when a state has been taken up and `ss` waited behind it.
 unfoldable pub resume : State → List State → List State
-unfolding after leaveNot
+unfolding afterIn consHalvesIn leaveNot
 resume (state g [] e) ss = ss
 resume (state g (endOfNot ∷ older) e) ss = leaveNot ss
 resume (state g (atom p m v ∷ older) e) ss = after p m v older e ++ ss
@@ -51,7 +51,7 @@ branch k p q older e h = state false (atom p (firstBy k) (h .first) ∷ atom q (
 
 pub after-whole : (k : Kind) (p q : Pattern) (v : Valueᵒ) (older : List Atom) (e : Bindings)
     → after (whole k p q) (over k) v older e ≡ map (branch k p q older e) (halves k v)
-unfolding after whole over firstBy halves branch element
+unfolding afterIn consHalvesIn whole over firstBy halves branch element
 after-whole (listCons m) p q v older e = refl
 after-whole (multisetCons m) p q v older e = refl
 after-whole (joins m) p q v older e = refl
@@ -87,7 +87,7 @@ Sound (asNil m) ms = takes m 4 ≡ true
 
 pub after-test : (t : Test) (v : Valueᵒ) (older : List Atom) (e : Bindings)
     → after (tested t) (testBy t) v older e ≡ dropIf (passes t e v) older e
-unfolding after tested testBy passes
+unfolding afterIn consHalvesIn tested testBy passes
 after-test (asConstant c) v older e = refl
 after-test (asValue m x c) v older e = refl
 after-test (asNil m) v older e = refl
@@ -99,7 +99,7 @@ pub data Loose : Pattern → Type 0 where
 
 pub after-loose : {p : Pattern} → Loose p → (m : Matcher) (v : Valueᵒ) (older : List Atom) (e : Bindings) → isSomething m ≡ false
     → after p m v older e ≡ state false (atom p something v ∷ older) e ∷ []
-unfolding after
+unfolding afterIn consHalvesIn
 after-loose loose-wildcard m v older e h = ap (λ b. elim b as (λ _. List State) [ true ↦ state false older e ∷ [] | false ↦ state false (atom wildcard something v ∷ older) e ∷ [] ]) h
 after-loose (loose-variable {x}) m v older e h =
     ap (λ b. elim b as (λ _. List State) [ true ↦ state false older (e ++ (v ∷ [])) ∷ [] | false ↦ state false (atom (variable x) something v ∷ older) e ∷ [] ]) h

@@ -11,7 +11,7 @@ use Rattle.rules.specs.Variables.{variables}
 use Rattle.rules.specs.Review.{factor, formula}
 use Rattle.rules.specs.Always.{alwaysTrue}
 use Rattle.rules.specs.Rows.{Form, asWords, asOrigins, formOf}
-use Rattle.rules.specs.Services.{Judged, accepted, refused, Rule, ruleOf, review}
+use Rattle.rules.specs.Services.{Judged, accepted, refused, Rule, ruleOf, review, ruleIn}
 
 -- ---- The product of the factors, where review accepts the rule with this cap; else 0.
 
@@ -56,7 +56,7 @@ pub record Roomed : Type 0 where
   pub words : ℕ
 
 unfoldable pub roomBy : (width : ℕ) (ms ps : List ℤ) (cap : ℤ) → Roomed
-unfolding review ruleOf rowsReviewed variablesIn
+unfolding review ruleIn rowsReviewed variablesIn
 roomBy width ms ps cap = record {
   answer = review ms ps cap .answer;
   place = review ms ps cap .place;

@@ -9,7 +9,7 @@ use lib.ListN.{length}
 use lib.Dec.{leb}
 use lib.IntN.{ℤ}
 use Rattle.rules.specs.Rows.{Form, row}
-use Rattle.rules.specs.Search.{atom, endOfNot, State, state, after, leaveNot, Run, stopped, step, rowStep, run}
+use Rattle.rules.specs.Search.{atom, endOfNot, State, state, after, leaveNot, Run, stopped, step, rowStep, run, runIn}
 use Rattle.run_rules.specs.Lent.{remaining}
 use Rattle.search_machine.specs.Machine.{Machine, passing, writing, filling, stepOn, once, times, answerBy}
 
@@ -73,7 +73,7 @@ module _ (form : Form) where
 
   pub goes : (n : ℕ) (ss : List State) (left rows steps : ℕ) (written : List ℤ)
       → After rows steps written (run form n ss left) (remaining form n ss left) (times form n (machine ss left rows steps written false))
-  unfolding times run remaining answerBy stopped filling
+  unfolding times runIn remaining answerBy stopped filling
   goes zero [] left rows steps written = rests 0 rows steps written [] _ refl refl refl refl refl refl
   goes zero (s ∷ ss) left rows steps written = rests 7 rows steps written (s ∷ ss) _ refl refl refl refl refl refl
   goes (suc n) [] left rows steps written =

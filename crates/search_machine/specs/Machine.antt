@@ -10,7 +10,7 @@ use lib.ListN.{length}
 use lib.Dec.{leb}
 use lib.IntN.{ℤ}
 use Rattle.rules.specs.Rows.{Form, row}
-use Rattle.rules.specs.Search.{atom, endOfNot, State, state, after, leaveNot, Run, stopped, step, rowStep, run}
+use Rattle.rules.specs.Search.{atom, endOfNot, State, state, after, leaveNot, Run, stopped, step, rowStep, run, afterIn, consHalvesIn, runIn}
 
 -- The waiting states, the free words, the rows, steps and words so far; `full` is set by a row that does not fit.
 pub record Machine : Type 0 where
@@ -33,7 +33,7 @@ filling k ss = record { waiting = ss; left = k .left; rows = k .rows; steps = su
 
 -- One step. A machine that has ended stays as it is.
 unfoldable pub stepOn : Form → Machine → List State → Machine
-unfolding passing writing filling after leaveNot row
+unfolding passing writing filling afterIn consHalvesIn leaveNot row
 stepOn form k [] = k
 stepOn form k (state g [] e ∷ ss) = elim (leb (length (row form e)) (k .left)) [ true ↦ writing k (row form e) ss | false ↦ filling k ss ]
 stepOn form k (state g (endOfNot ∷ older) e ∷ ss) = passing k (leaveNot ss)
@@ -95,7 +95,7 @@ on-row rows steps written ws r = same-run (r .answer) (omega arith) (omega arith
 -- n steps give what the run gives.
 goes-on : (form : Form) (n : ℕ) (ss : List State) (left rows steps : ℕ) (written : List ℤ)
     → told (times form n (machine ss left rows steps written false)) ≡ on rows steps written (run form n ss left)
-unfolding told times run machine on
+unfolding told times runIn machine on
 goes-on form zero [] left rows steps written = same-run 0 (sym (add-zero rows)) (sym (add-zero steps)) (sym (append-nil written))
 goes-on form zero (s ∷ ss) left rows steps written = same-run 7 (sym (add-zero rows)) (sym (add-zero steps)) (sym (append-nil written))
 goes-on form (suc n) [] left rows steps written =

@@ -14,7 +14,7 @@ use Rattle.rules.specs.Forms.{Pattern, Patterns, noPatterns, _▸ᵖ_, countᵖ
 use Rattle.rules.specs.Fit.{members, isSomething}
 use Rattle.rules.specs.Reading.{entry}
 use Rattle.rules.specs.Equality.{raised, equalTo, isValue}
-use Rattle.rules.specs.Search.{Halves, Atom, State, state, dropIf, atoms, apart as takeApart, after, leaveNot}
+use Rattle.rules.specs.Search.{Halves, Atom, State, state, dropIf, atoms, apart as takeApart, after, leaveNot, afterIn, consHalvesIn}
 use Rattle.program_rules.specs.Points.{Kind, over, firstBy, halves, branch, after-whole, Test, asConstant, asValue, asNil, testBy, passes, Sound, after-test}
 use Rattle.program_rules.specs.Points.{Instr, split, apart, Item, item, orElse, endOr, stop, Point, point, cutting, finish, enter, from, known, within, inside, firstOf, othersOf, items}
 use Rattle.program_rules.specs.Points.{resume, Follows, after-loose, strips, drops, binds, tests, splits, aparts, keeps, chooses, denies, cuts, ends}
@@ -226,7 +226,7 @@ module _ (D : Data) where
     pub step-rep : (c : Conf D) (i : Instr) {P : Point} {s : State} (ss : List State) → code (c .pc) ≡ i → Follows points (c .pc) i P
         → c .top ≤ c .pc → At D (c .slots) (c .binds) (c .pc) (c .cur) P s → Chain D code points (c .slots) (c .binds) (c .top) (length (known P)) (inside P) ss
         → Rep D code points (settle D code (exec D i c)) (resume s ss)
-    unfolding settle exec resume after members known inside within isSomething next keptHere kept framedHere framed without
+    unfolding settle exec resume afterIn consHalvesIn members known inside within isSomething next keptHere kept framedHere framed without
     step-rep c i ss cd (strips {ms = ms} {p = p} {m = m} {ts = ts} h n pt) l (at {v = v} {older = older} {e = e} x ws bs) ch =
         rw (after-loose h m v older e n) (live-at (point ms p something m ts) pt (omega arith) (at x (waits-agree D (omega arith) (λ i h. refl) ws) bs) ch)
     step-rep c i ss cd (drops {ms = ms} r pt) l (at x ws bs) ch = entered _ false (c .pc) ms pt (omega arith) (omega arith) ws bs ch refl

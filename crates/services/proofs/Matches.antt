@@ -8,7 +8,7 @@ use lib.ListN.{length}
 use lib.IntN.{ℤ}
 use Rattle.rules.specs.Forms.{Matcher, Value}
 use Rattle.rules.specs.Reading.{Verdict, ok, fault, readMatcher}
-use Rattle.rules.specs.Services.{Judged, accepted, refused, test, Rule, ruleOf, targetOf, causeIn, turnedAway, matchTarget, matchRule, matchIn, match, matchWith}
+use Rattle.rules.specs.Services.{Judged, accepted, refused, test, Rule, ruleOf, targetOf, causeIn, turnedAway, matchTarget, matchRule, matchIn, match, matchWith, matchOf, matchRuleIn}
 use Rattle.rules.specs.Rows.{Form, asWords, asOrigins, formOf}
 use Rattle.rules.specs.Services as paper
 use Rattle.forms.specs.Faults.{rule-accepted, Sane, sane-exactly}
@@ -73,12 +73,12 @@ rule-whole ms ps x p q = let r = was-accepted (ruleOf ms ps) x p q in record { m
 
 module _ (form : Form) (ms ps ts : List ℤ) (budget : ℕ) (room : List ℤ) (x : Judgement) (p : x ≡ judgement (ruleOf ms ps)) where
   pub rule-away : (a i : ℕ) → x ≡ Refused a i → (r : Matched) → r ≡ away a i 0 → told r room ≡ matchIn form ms ps ts budget room
-  unfolding matchIn told away turnedAway
+  unfolding matchOf told away turnedAway
   rule-away a i q r e = ap (λ (y : Matched). told y room) e ∙ sym (ap (matchRule form budget room ts) (was-refused (ruleOf ms ps) x a i p q))
 
   module _ (ok : x ≡ Accepted) (y : TargetJudgement) (k : y ≡ targetJudgement ts (targetUnder ms ts)) where
     pub target-away : (a i c : ℕ) → y ≡ targets.Refused a i c → (r : Matched) → r ≡ away a i c → told r room ≡ matchIn form ms ps ts budget room
-    unfolding matchIn matchRule told away turnedAway
+    unfolding matchOf matchRuleIn told away turnedAway
     target-away a i c q m e =
         let r = was-accepted (ruleOf ms ps) x p ok in
         let t = target-refused ts (targetOf (r .0 .matcher) ts) y a i c (k ∙ ap (targetJudgement ts) (under ms ps ts (r .0) (r .1))) q in

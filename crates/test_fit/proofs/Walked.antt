@@ -15,7 +15,7 @@ use Rattle.rules.specs.Forms.{Matcher, something, integer, list, multiset, tupl
 use Rattle.rules.specs.Forms.{Pattern, wildcard, variable, constant, value, nil, cons, join, tuple, both, either, never, Patterns, noPatterns, _▸ᵖ_, countᵖ, span, spanAll}
 use Rattle.rules.specs.Reading.{Verdict, ok, fault, _then_, entry, matcherTags, patternTags, readMatcher, readPattern}
 use Rattle.rules.specs.Variables.{demand}
-use Rattle.rules.specs.Fit.{takes, tagsOf, element, members, withoutSomething, isInteger, alike, comparable, fits, fitsParts}
+use Rattle.rules.specs.Fit.{takes, tagsOf, element, members, withoutSomething, isInteger, alike, comparable, fits, fitsParts, fitsIn, fitsPartsIn, toldApart}
 use Rattle.forms.specs.Written.{matcherWords, patternWords, patternWordsAll, Widthsᵐ}
 use Rattle.forms.specs.ReadPattern.{pattern-read}
 use Rattle.words.specs.Words.{tagAt}
@@ -214,7 +214,7 @@ module _ (m : List ℤ) where
       rw (← add-one p, ← e) (x i k g js ks s st (p + 1) ws)
 
   more : (a : Pattern) (ps : Patterns) → Follows a → FollowsAll ps → FollowsAll (a ▸ᵖ ps)
-  unfolding Follows FollowsAll patternWords fits span countᵖ countᵐ membersAt
+  unfolding Follows FollowsAll patternWords fitsIn fitsPartsIn toldApart span countᵖ countᵐ membersAt
   more a ps x y i noMatchers t c js ks s st p ws = absurd (omega arith)
   more a ps x y i (l ▸ᵐ ms) t c js ks s st p ws =
       let e : p + span a + spanAll ps ≡ p + (span a + spanAll ps) = omega arith in
@@ -224,7 +224,7 @@ module _ (m : List ℤ) where
       (λ js₁ ks₁ z. y (i + length (matcherWords l)) ms (at-others m i l ms t) (omega arith) js₁ ks₁ z st (p + span a) ws))
 
   none-left : FollowsAll noPatterns
-  unfolding FollowsAll patternWords fits span countᵖ countᵐ membersAt
+  unfolding FollowsAll patternWords fitsIn fitsPartsIn toldApart span countᵖ countᵐ membersAt
   none-left i noMatchers t c js ks s st p ws = leaf js ks s st p (p + 0) ws (omega arith)
   none-left i (l ▸ᵐ ms) t c js ks s st p ws = absurd (omega arith)
 
@@ -240,7 +240,7 @@ module _ (m : List ℤ) where
       rw (← e, ← add-two p, n) (y (i + 2) (members k) (at-members m i k a (c .0)) n js ks s st (p + 2) ws)
 
   mutual
-    unfolding Follows FollowsAll fitP patternWords fits span hereOf asked rowOf rowIn patternTags byParts firstOf on
+    unfolding Follows FollowsAll fitP patternWords fitsIn fitsPartsIn toldApart span hereOf asked rowOf rowIn patternTags byParts firstOf on
 
     walked : (a : Pattern) → Follows a
     walked wildcard i k a js ks s st p ws =

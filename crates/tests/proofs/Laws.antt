@@ -11,7 +11,7 @@ use Rattle.rules.specs.Reading.{Verdict, ok, fault, readMatcher, readPattern, r
 use Rattle.rules.specs.Variables.{variables}
 use Rattle.rules.specs.Fit.{fits, fitsValue}
 use Rattle.rules.specs.Causes.{causeOf}
-use Rattle.rules.specs.Services.{test, ruleOf, targetOf, causeIn}
+use Rattle.rules.specs.Services.{test, ruleOf, targetOf, causeIn, ruleIn}
 use Rattle.test_forms.specs.Tests.{tested}
 use Rattle.test_target.specs.Targets.{found}
 use Rattle.test_variables.specs.Variables.{counted, varsOf}
@@ -69,12 +69,12 @@ unended (fault j) e i q = let r : j ≡ i = cc in ap fault r
 
 module _ (ms ps : List ℤ) (a : Tested) (ea : a ≡ tested (readMatcher ms)) where
   pub ret-matcher : (i : ℕ) → a ≡ Fault i → Refused 1 i ≡ judgement (ruleOf ms ps)
-  unfolding ruleOf test judgement
+  unfolding ruleIn test judgement
   ret-matcher i f = rw (failed (readMatcher ms) i (sym f ∙ ea))
 
   module _ (fa : a ≡ Passed) (b : Tested) (eb : b ≡ tested (readPattern ps)) where
     pub ret-pattern : (i : ℕ) → b ≡ Fault i → Refused 2 i ≡ judgement (ruleOf ms ps)
-    unfolding ruleOf test judgement
+    unfolding ruleIn test judgement
     ret-pattern i f = rw (passed (readMatcher ms) (sym fa ∙ ea) .1, failed (readPattern ps) i (sym f ∙ eb))
 
     module _ (fb : b ≡ Passed) (c : Counted) (ec : c ≡ varsOf ps) where
@@ -85,7 +85,7 @@ module _ (ms ps : List ℤ) (a : Tested) (ea : a ≡ tested (readMatcher ms)) wh
       p = passed (readPattern ps) (sym fb ∙ eb)
 
       pub ret-variable : (i : ℕ) → c ≡ counts.Fault i → Refused 3 i ≡ judgement (ruleOf ms ps)
-      unfolding ruleOf test judgement
+      unfolding ruleIn test judgement
       ret-variable i f = rw (m .1, p .1, uncounted (variables (p .0) true 0 0) i (sym f ∙ ec ∙ walked.of-pattern ps (p .0) (p .1)))
 
       module _ (n : ℕ) (fc : c ≡ counts.Number n) (d : Tested) (ed : d ≡ fitOf ms ps) where
@@ -93,11 +93,11 @@ module _ (ms ps : List ℤ) (a : Tested) (ea : a ≡ tested (readMatcher ms)) wh
         v = number (variables (p .0) true 0 0) n (sym fc ∙ ec ∙ walked.of-pattern ps (p .0) (p .1))
 
         pub ret-misfit : (i : ℕ) → d ≡ Fault i → Refused 4 i ≡ judgement (ruleOf ms ps)
-        unfolding ruleOf test judgement
+        unfolding ruleIn test judgement
         ret-misfit i f = rw (m .1, p .1, v, failed (fits (p .0) (m .0) 0 []) i (sym f ∙ ed ∙ fitted.of-rule ms ps (m .0) (p .0) (m .1) (p .1)))
 
         pub ret-rule : d ≡ Passed → Accepted ≡ judgement (ruleOf ms ps)
-        unfolding ruleOf test judgement
+        unfolding ruleIn test judgement
         ret-rule f = rw (m .1, p .1, v, passed (fits (p .0) (m .0) 0 []) (sym f ∙ ed ∙ fitted.of-rule ms ps (m .0) (p .0) (m .1) (p .1)) .1)
 
 pub ruleset rule-rules = (ret-matcher, ret-pattern, ret-variable, ret-misfit, ret-rule, needs)

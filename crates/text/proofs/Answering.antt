@@ -10,7 +10,7 @@ use lib.ListN.{length, take, drop, replicate, length-append, length-drop, length
 use Rattle.rules.specs.Search.{run, start}
 use lib.Seq.{length-take-le}
 use Rattle.rules.specs.Forms.{Value}
-use Rattle.rules.specs.Services.{Judged, accepted, refused, Rule, turnedAway, carriedOut, targetOf, ruleOf, matchTarget, matchRule, matchIn, match}
+use Rattle.rules.specs.Services.{Judged, accepted, refused, Rule, turnedAway, carriedOut, targetOf, ruleOf, matchTarget, matchRule, matchIn, match, matchOf, matchRuleIn, matchTargetIn}
 use Rattle.rules.specs.Rows.{asWords}
 use Rattle.rules.specs.Services as paper
 use Rattle.services.specs.Matches.{told}
@@ -33,7 +33,7 @@ WordsIn : List ℤ → paper.Matched → Type 0
 WordsIn room m = length (m .room) ≡ length room → m .words ≤ length room
 
 words-target : (budget : ℕ) (room ts : List ℤ) (r : Rule) (v : Judged Value) → WordsIn room (matchTarget asWords budget room ts r v)
-unfolding WordsIn matchTarget turnedAway carriedOut
+unfolding WordsIn matchTargetIn turnedAway carriedOut
 words-target budget room ts r (refused a i) e = omega arith
 words-target budget room ts r (accepted v) e =
     let ws = run asWords budget (start (r .matcher) (r .pattern) v ∷ []) (length room) .written in
@@ -42,12 +42,12 @@ words-target budget room ts r (accepted v) e =
     omega arith
 
 words-rule : (budget : ℕ) (room ts : List ℤ) (r : Judged Rule) → WordsIn room (matchRule asWords budget room ts r)
-unfolding WordsIn matchRule turnedAway
+unfolding WordsIn matchRuleIn turnedAway
 words-rule budget room ts (refused a i) e = omega arith
 words-rule budget room ts (accepted r) e = words-target budget room ts r (targetOf (r .matcher) ts) e
 
 words-in : (ms ps ts : List ℤ) (budget : ℕ) (room : List ℤ) → WordsIn room (match ms ps ts budget room)
-unfolding match matchIn
+unfolding match matchOf
 words-in ms ps ts budget room = words-rule budget room ts (ruleOf ms ps)
 
 empty-is : (r : Matched) (new : List ℤ) (values : ℕ) → emptyReport values (told r new) ≡ emptyRows values (r .rows) (take (r .words) new)
