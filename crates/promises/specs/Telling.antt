@@ -4,15 +4,20 @@ use Prim.Native.Nat.{ℕ, zero, suc, _+_, _≤_, _<_}
 use native.Mathlib.Omega.{arith}
 use mathlib.Core.Path.{_≡_, refl, sym, ap, ap₂, _∙_, subst}
 use mathlib.Core.Option.{some}
+use mathlib.Core.Bool.{Bool, true, false}
 use mathlib.Core.Logic.{inl, inr}
 use mathlib.Core.List.{List, [], _∷_, _++_, append-assoc, append-nil}
+use lib.ListN.{getElem?}
 use lib.IntN.{ℤ, pos}
 use Rattle.rules.specs.Forms.{Matcher, something, integer, list, multiset, tupleOf, Matchers, noMatchers, _▸ᵐ_, Value, int, collection, tupled, Values, empty, _▸_, size}
 use Rattle.rules.specs.Forms.{Pattern, wildcard, nil, variable, constant, value, cons, join, tuple, both, either, never, Patterns, noPatterns, _▸ᵖ_}
+use Rattle.rules.specs.Dialects.{Dialect, everyPlace, firstPlaces}
 use Rattle.rules.specs.Fit.{element, members}
 use Rattle.rules.specs.Origins.{Origin, Valueᵒ, intᵒ, collectionᵒ, tupledᵒ, Valuesᵒ, emptyᵒ, _▸ᵒ_, Bindings, placed, placedAll, target, origin}
 use Rattle.rules.specs.Rows.{asOrigins, told, row}
-use Rattle.rules.specs.Ways.{Way, at, without, ConsBy, Parts, Follows, FollowsAll, Good}
+use Rattle.rules.specs.Equality.{equal}
+use Rattle.rules.specs.Search.{anyEqual}
+use Rattle.rules.specs.Ways.{Way, at, without, elements as elementsOf, placesFrom, placeOf, ConsBy, Parts, Follows, FollowsAll, Good}
 use Rattle.promises.specs.Parts.{Among, none, kept, left, Part, element as one, elements, cons-parts}
 use Rattle.promises.specs.Room.{cons-member, row-append}
 
@@ -165,67 +170,110 @@ as-it-was e d q = ([], q ∙ sym (append-nil e))
 mutual
   unfolding Follows Extends
 
-  extends : (p : Pattern) (m : Matcher) (v : Valueᵒ) (e : Bindings) (w : Way) (d : Bindings) → Follows p m v e w d → Extends e d
-  extends wildcard m v e w d h = as-it-was e d (h .1)
-  extends nil m v e w d h = as-it-was e d (h .2)
-  extends (variable x) m v e w d h = (v ∷ [], h .1)
-  extends (constant c) m v e w d h = as-it-was e d (h .2)
-  extends (value x c) m v e w d h = as-it-was e d (h .2)
-  extends (cons p q) m v e w d h =
-      further e (h .between) d (extends p (element m) (h .a) e (h .one) (h .between) (h .first)) (extends q m (h .b) (h .between) (h .two) d (h .second))
-  extends (join p q) m v e w d h =
-      further e (h .between) d (extends p m (h .a) e (h .one) (h .between) (h .first)) (extends q m (h .b) (h .between) (h .two) d (h .second))
-  extends (tuple ps) m (intᵒ o x) e w d h = absurd h
-  extends (tuple ps) m (collectionᵒ o vs) e w d h = absurd h
-  extends (tuple ps) m (tupledᵒ o vs) e w d h = extends-all ps (members m) vs e w d h
-  extends (both p q) m v e w d h =
-      further e (h .between) d (extends p m v e (h .one) (h .between) (h .first)) (extends q m v (h .between) (h .two) d (h .others))
-  extends (either p q) m v e w d (inl h) = extends p m v e (h .rest) d (h .inside)
-  extends (either p q) m v e w d (inr h) = extends q m v e (h .rest) d (h .inside)
-  extends (never p) m v e w d h = as-it-was e d (h .2)
+  extends : (dialect : Dialect) (p : Pattern) (m : Matcher) (v : Valueᵒ) (e : Bindings) (w : Way) (d : Bindings) → Follows dialect p m v e w d → Extends e d
+  extends dialect wildcard m v e w d h = as-it-was e d (h .1)
+  extends dialect nil m v e w d h = as-it-was e d (h .2)
+  extends dialect (variable x) m v e w d h = (v ∷ [], h .1)
+  extends dialect (constant c) m v e w d h = as-it-was e d (h .2)
+  extends dialect (value x c) m v e w d h = as-it-was e d (h .2)
+  extends dialect (cons p q) m v e w d h =
+      further e (h .between) d (extends dialect p (element m) (h .a) e (h .one) (h .between) (h .first)) (extends dialect q m (h .b) (h .between) (h .two) d (h .second))
+  extends dialect (join p q) m v e w d h =
+      further e (h .between) d (extends dialect p m (h .a) e (h .one) (h .between) (h .first)) (extends dialect q m (h .b) (h .between) (h .two) d (h .second))
+  extends dialect (tuple ps) m (intᵒ o x) e w d h = absurd h
+  extends dialect (tuple ps) m (collectionᵒ o vs) e w d h = absurd h
+  extends dialect (tuple ps) m (tupledᵒ o vs) e w d h = extends-all dialect ps (members m) vs e w d h
+  extends dialect (both p q) m v e w d h =
+      further e (h .between) d (extends dialect p m v e (h .one) (h .between) (h .first)) (extends dialect q m v (h .between) (h .two) d (h .others))
+  extends dialect (either p q) m v e w d (inl h) = extends dialect p m v e (h .rest) d (h .inside)
+  extends dialect (either p q) m v e w d (inr h) = extends dialect q m v e (h .rest) d (h .inside)
+  extends dialect (never p) m v e w d h = as-it-was e d (h .2)
 
-  extends-all : (ps : Patterns) (ms : Matchers) (vs : Valuesᵒ) (e : Bindings) (w : Way) (d : Bindings) → FollowsAll ps ms vs e w d → Extends e d
-  extends-all noPatterns ms vs e w d h = as-it-was e d (h .1)
-  extends-all (p ▸ᵖ ps) noMatchers vs e w d h = as-it-was e d (h .1)
-  extends-all (p ▸ᵖ ps) (m ▸ᵐ ms) emptyᵒ e w d h = as-it-was e d (h .1)
-  extends-all (p ▸ᵖ ps) (m ▸ᵐ ms) (v ▸ᵒ vs) e w d h =
-      further e (h .between) d (extends p m v e (h .one) (h .between) (h .first)) (extends-all ps ms vs (h .between) (h .two) d (h .others))
+  extends-all : (dialect : Dialect) (ps : Patterns) (ms : Matchers) (vs : Valuesᵒ) (e : Bindings) (w : Way) (d : Bindings) → FollowsAll dialect ps ms vs e w d → Extends e d
+  extends-all dialect noPatterns ms vs e w d h = as-it-was e d (h .1)
+  extends-all dialect (p ▸ᵖ ps) noMatchers vs e w d h = as-it-was e d (h .1)
+  extends-all dialect (p ▸ᵖ ps) (m ▸ᵐ ms) emptyᵒ e w d h = as-it-was e d (h .1)
+  extends-all dialect (p ▸ᵖ ps) (m ▸ᵐ ms) (v ▸ᵒ vs) e w d h =
+      further e (h .between) d (extends dialect p m v e (h .one) (h .between) (h .first)) (extends-all dialect ps ms vs (h .between) (h .two) d (h .others))
 
 -- ---- A choice is told by the variable behind it.
 
-variable-follows : (p : Pattern) (m : Matcher) (v : Valueᵒ) (e : Bindings) (w : Way) (d : Bindings) → IsVariable p → Follows p m v e w d
+variable-follows : (dialect : Dialect) (p : Pattern) (m : Matcher) (v : Valueᵒ) (e : Bindings) (w : Way) (d : Bindings) → IsVariable p → Follows dialect p m v e w d
     → (w ≡ []) × (d ≡ e ++ (v ∷ []))
 unfolding IsVariable Follows
-variable-follows wildcard m v e w d i h = absurd i
-variable-follows nil m v e w d i h = absurd i
-variable-follows (variable x) m v e w d i h = h
-variable-follows (constant c) m v e w d i h = absurd i
-variable-follows (value x c) m v e w d i h = absurd i
-variable-follows (cons p q) m v e w d i h = absurd i
-variable-follows (join p q) m v e w d i h = absurd i
-variable-follows (tuple ps) m v e w d i h = absurd i
-variable-follows (both p q) m v e w d i h = absurd i
-variable-follows (either p q) m v e w d i h = absurd i
-variable-follows (never p) m v e w d i h = absurd i
+variable-follows dialect wildcard m v e w d i h = absurd i
+variable-follows dialect nil m v e w d i h = absurd i
+variable-follows dialect (variable x) m v e w d i h = h
+variable-follows dialect (constant c) m v e w d i h = absurd i
+variable-follows dialect (value x c) m v e w d i h = absurd i
+variable-follows dialect (cons p q) m v e w d i h = absurd i
+variable-follows dialect (join p q) m v e w d i h = absurd i
+variable-follows dialect (tuple ps) m v e w d i h = absurd i
+variable-follows dialect (both p q) m v e w d i h = absurd i
+variable-follows dialect (either p q) m v e w d i h = absurd i
+variable-follows dialect (never p) m v e w d i h = absurd i
+
+-- A choice names one place, and a place is named by one choice: the first places rise.
+abbrev firstOr : Bool → ℕ → List ℕ → List ℕ
+firstOr t k l = elim t as (λ _. List ℕ) [ true ↦ l | false ↦ k ∷ l ]
+
+above-by : (k p : ℕ) (l : List ℕ) (t : Bool) (n : ℕ) → ((i : ℕ) → getElem? l i ≡ some p → suc k ≤ p) → getElem? (firstOr t k l) n ≡ some p → k ≤ p
+above-by k p l true n h e = let g = h n e in omega arith
+above-by k p l false zero h e = let q : k ≡ p = cc in omega arith
+above-by k p l false (suc n) h e = let g = h n e in omega arith
+
+places-above : (eq : Value → Value → Bool) (before : List Value) (k : ℕ) (vs : List Value) (c p : ℕ) → getElem? (placesFrom eq before k vs) c ≡ some p → k ≤ p
+unfolding placesFrom
+places-above eq before k [] c p e = absurd (clash cc)
+  where
+    clash : _≡_ {A = ℕ} 0 1 → ⊥
+    clash z = omega arith
+places-above eq before k (v ∷ vs) c p e =
+    above-by k p (placesFrom eq (before ++ (v ∷ [])) (suc k) vs) (anyEqual eq before v) c (λ i f. places-above eq (before ++ (v ∷ [])) (suc k) vs i p f) e
+
+once-by : (k p : ℕ) (l : List ℕ) (t : Bool) (c d : ℕ) → ((i : ℕ) → getElem? l i ≡ some p → suc k ≤ p)
+    → ((i j : ℕ) → getElem? l i ≡ some p → getElem? l j ≡ some p → i ≡ j) → getElem? (firstOr t k l) c ≡ some p → getElem? (firstOr t k l) d ≡ some p → c ≡ d
+once-by k p l true c d h g e f = g c d e f
+once-by k p l false zero zero h g e f = refl
+once-by k p l false zero (suc d) h g e f = let q : k ≡ p = cc in absurd (omega (arith, h d f))
+once-by k p l false (suc c) zero h g e f = let q : k ≡ p = cc in absurd (omega (arith, h c e))
+once-by k p l false (suc c) (suc d) h g e f = ap suc (g c d e f)
+
+places-once : (eq : Value → Value → Bool) (before : List Value) (k : ℕ) (vs : List Value) (c d p : ℕ) → getElem? (placesFrom eq before k vs) c ≡ some p
+    → getElem? (placesFrom eq before k vs) d ≡ some p → c ≡ d
+unfolding placesFrom
+places-once eq before k [] c d p e f = absurd (clash cc)
+  where
+    clash : _≡_ {A = ℕ} 0 1 → ⊥
+    clash z = omega arith
+places-once eq before k (v ∷ vs) c d p e f =
+    once-by k p (placesFrom eq (before ++ (v ∷ [])) (suc k) vs) (anyEqual eq before v) c d (λ i g. places-above eq (before ++ (v ∷ [])) (suc k) vs i p g)
+    (λ i j g h. places-once eq (before ++ (v ∷ [])) (suc k) vs i j p g h) e f
+
+one-choice : (dialect : Dialect) (m : Matcher) (vs : Valuesᵒ) (c d k : ℕ) → placeOf dialect m vs c ≡ some k → placeOf dialect m vs d ≡ some k → c ≡ d
+unfolding placeOf
+one-choice everyPlace m vs c d k e f = let p : c ≡ k = cc in let q : d ≡ k = cc f in p ∙ sym q
+one-choice firstPlaces m vs c d k e f = places-once (equal m) [] 0 (elementsOf vs) c d k e f
 
 -- What a cons under a list takes is one; and under a multiset by its index.
-list-once : (m : Matcher) (v : Valueᵒ) (h g : Way) (a x b y : Valueᵒ) → ConsBy (list m) v h a b → ConsBy (list m) v g x y → (h ≡ g) × (a ≡ x) × (b ≡ y)
+list-once : (dialect : Dialect) (m : Matcher) (v : Valueᵒ) (h g : Way) (a x b y : Valueᵒ) → ConsBy dialect (list m) v h a b → ConsBy dialect (list m) v g x y → (h ≡ g) × (a ≡ x) × (b ≡ y)
 unfolding ConsBy
-list-once m (intᵒ o n) h g a x b y p q = absurd p
-list-once m (collectionᵒ o emptyᵒ) h g a x b y p q = absurd p
-list-once m (collectionᵒ o (v ▸ᵒ vs)) h g a x b y p q = (p .0 ∙ sym (q .0), p .1 ∙ sym (q .1), p .2 ∙ sym (q .2))
-list-once m (tupledᵒ o vs) h g a x b y p q = absurd p
+list-once dialect m (intᵒ o n) h g a x b y p q = absurd p
+list-once dialect m (collectionᵒ o emptyᵒ) h g a x b y p q = absurd p
+list-once dialect m (collectionᵒ o (v ▸ᵒ vs)) h g a x b y p q = (p .0 ∙ sym (q .0), p .1 ∙ sym (q .1), p .2 ∙ sym (q .2))
+list-once dialect m (tupledᵒ o vs) h g a x b y p q = absurd p
 
-multiset-once : (m : Matcher) (v : Valueᵒ) (h g : Way) (a x b y : Valueᵒ) → Rises v → ConsBy (multiset m) v h a b → ConsBy (multiset m) v g x y
+multiset-once : (dialect : Dialect) (m : Matcher) (v : Valueᵒ) (h g : Way) (a x b y : Valueᵒ) → Rises v → ConsBy dialect (multiset m) v h a b → ConsBy dialect (multiset m) v g x y
     → origin a .at ≡ origin x .at → (h ≡ g) × (a ≡ x) × (b ≡ y)
 unfolding ConsBy Rises
-multiset-once m (intᵒ o n) h g a x b y r p q e = absurd p
-multiset-once m (collectionᵒ o vs) h g a x b y r p q e =
-    let k = one-place 0 vs (p .0) (q .0) a x (r .0) (p .2) (q .2) e in
-    let s : some a ≡ some x = sym (p .2) ∙ ap (at vs) k ∙ q .2 in
+multiset-once dialect m (intᵒ o n) h g a x b y r p q e = absurd p
+multiset-once dialect m (collectionᵒ o vs) h g a x b y r p q e =
+    let k = one-place 0 vs (p .1) (q .1) a x (r .0) (p .4) (q .4) e in
+    let s : some a ≡ some x = sym (p .4) ∙ ap (at vs) k ∙ q .4 in
     let z : a ≡ x = cc in
-    (p .1 ∙ ap (λ n. n ∷ []) k ∙ sym (q .1), z, p .3 ∙ ap (λ n. collectionᵒ o (without vs n)) k ∙ sym (q .3))
-multiset-once m (tupledᵒ o vs) h g a x b y r p q e = absurd p
+    let c = one-choice dialect m vs (p .0) (q .0) (p .1) (p .3) (q .3 ∙ ap some (sym k)) in
+    (p .2 ∙ ap (λ n. n ∷ []) c ∙ sym (q .2), z, p .5 ∙ ap (λ n. collectionᵒ o (without vs n)) k ∙ sym (q .5))
+multiset-once dialect m (tupledᵒ o vs) h g a x b y r p q e = absurd p
 
 -- ---- Rows.
 
@@ -247,73 +295,73 @@ regroup b c x z q = ap (λ l. l ++ x) q ∙ append-assoc b z x
 mutual
   unfolding Tells Rises Follows Extends element members ConsBy
 
-  tells : (p : Pattern) (m : Matcher) (v : Valueᵒ) (e : Bindings) → Tells p m → Rises v → (u : Way) (c : Bindings) (w : Way) (d : Bindings)
-      → Follows p m v e u c → Follows p m v e w d → (x y : Bindings) → row asOrigins (c ++ x) ≡ row asOrigins (d ++ y) → (u ≡ w) × (c ≡ d)
-  tells wildcard m v e t r u c w d h g x y s = (h .0 ∙ sym (g .0), h .1 ∙ sym (g .1))
-  tells nil m v e t r u c w d h g x y s = (h .1 ∙ sym (g .1), h .2 ∙ sym (g .2))
-  tells (variable z) m v e t r u c w d h g x y s = (h .0 ∙ sym (g .0), h .1 ∙ sym (g .1))
-  tells (constant z) m v e t r u c w d h g x y s = (h .1 ∙ sym (g .1), h .2 ∙ sym (g .2))
-  tells (value z a) m v e t r u c w d h g x y s = (h .1 ∙ sym (g .1), h .2 ∙ sym (g .2))
-  tells (cons p q) something v e t r u c w d h g x y s = absurd (h .divided)
-  tells (cons p q) integer v e t r u c w d h g x y s = absurd (h .divided)
-  tells (cons p q) (list m) v e t r u c w d h g x y s =
-      let z = list-once m v (h .here) (g .here) (h .a) (g .a) (h .b) (g .b) (h .divided) (g .divided) in
-      let k = cons-parts (list m) v (record { first = h .a; second = h .b }) (cons-member (list m) v (h .here) (h .a) (h .b) (h .divided)) in
-      let i = extends q (list m) (h .b) (h .between) (h .two) c (h .second) in
-      let j = extends q (list m) (g .b) (g .between) (g .two) d (g .second) in
-      let f = tells p m (h .a) e (t .0) (part-rises (k .first) r) (h .one) (h .between) (g .one) (g .between) (h .first)
-      (subst (λ (a : Valueᵒ). Follows p m a e (g .one) (g .between)) (sym (z .1)) (g .first)) (i .0 ++ x) (j .0 ++ y)
+  tells : (dialect : Dialect) (p : Pattern) (m : Matcher) (v : Valueᵒ) (e : Bindings) → Tells p m → Rises v → (u : Way) (c : Bindings) (w : Way) (d : Bindings)
+      → Follows dialect p m v e u c → Follows dialect p m v e w d → (x y : Bindings) → row asOrigins (c ++ x) ≡ row asOrigins (d ++ y) → (u ≡ w) × (c ≡ d)
+  tells dialect wildcard m v e t r u c w d h g x y s = (h .0 ∙ sym (g .0), h .1 ∙ sym (g .1))
+  tells dialect nil m v e t r u c w d h g x y s = (h .1 ∙ sym (g .1), h .2 ∙ sym (g .2))
+  tells dialect (variable z) m v e t r u c w d h g x y s = (h .0 ∙ sym (g .0), h .1 ∙ sym (g .1))
+  tells dialect (constant z) m v e t r u c w d h g x y s = (h .1 ∙ sym (g .1), h .2 ∙ sym (g .2))
+  tells dialect (value z a) m v e t r u c w d h g x y s = (h .1 ∙ sym (g .1), h .2 ∙ sym (g .2))
+  tells dialect (cons p q) something v e t r u c w d h g x y s = absurd (h .divided)
+  tells dialect (cons p q) integer v e t r u c w d h g x y s = absurd (h .divided)
+  tells dialect (cons p q) (list m) v e t r u c w d h g x y s =
+      let z = list-once dialect m v (h .here) (g .here) (h .a) (g .a) (h .b) (g .b) (h .divided) (g .divided) in
+      let k = cons-parts (list m) v (record { first = h .a; second = h .b }) (cons-member dialect (list m) v (h .here) (h .a) (h .b) (h .divided)) in
+      let i = extends dialect q (list m) (h .b) (h .between) (h .two) c (h .second) in
+      let j = extends dialect q (list m) (g .b) (g .between) (g .two) d (g .second) in
+      let f = tells dialect p m (h .a) e (t .0) (part-rises (k .first) r) (h .one) (h .between) (g .one) (g .between) (h .first)
+      (subst (λ (a : Valueᵒ). Follows dialect p m a e (g .one) (g .between)) (sym (z .1)) (g .first)) (i .0 ++ x) (j .0 ++ y)
       (ap (row asOrigins) (sym (regroup (h .between) c x (i .0) (i .1))) ∙ s ∙ ap (row asOrigins) (regroup (g .between) d y (j .0) (j .1))) in
-      let n = tells q (list m) (h .b) (h .between) (t .1) (part-rises (k .second) r) (h .two) c (g .two) d (h .second)
-      (subst (λ (b : Valueᵒ). Follows q (list m) b (h .between) (g .two) d) (sym (z .2))
-      (subst (λ (b : Bindings). Follows q (list m) (g .b) b (g .two) d) (sym (f .1)) (g .second))) x y s in
+      let n = tells dialect q (list m) (h .b) (h .between) (t .1) (part-rises (k .second) r) (h .two) c (g .two) d (h .second)
+      (subst (λ (b : Valueᵒ). Follows dialect q (list m) b (h .between) (g .two) d) (sym (z .2))
+      (subst (λ (b : Bindings). Follows dialect q (list m) (g .b) b (g .two) d) (sym (f .1)) (g .second))) x y s in
       (sym (h .way) ∙ ap₂ (λ a b. a ++ b) (z .0) (ap₂ (λ a b. a ++ b) (f .0) (n .0)) ∙ g .way, n .1)
-  tells (cons p q) (multiset m) v e t r u c w d h g x y s =
-      let f₁ = variable-follows p m (h .a) e (h .one) (h .between) (t .0) (h .first) in
-      let f₂ = variable-follows p m (g .a) e (g .one) (g .between) (t .0) (g .first) in
-      let i = extends q (multiset m) (h .b) (h .between) (h .two) c (h .second) in
-      let j = extends q (multiset m) (g .b) (g .between) (g .two) d (g .second) in
+  tells dialect (cons p q) (multiset m) v e t r u c w d h g x y s =
+      let f₁ = variable-follows dialect p m (h .a) e (h .one) (h .between) (t .0) (h .first) in
+      let f₂ = variable-follows dialect p m (g .a) e (g .one) (g .between) (t .0) (g .first) in
+      let i = extends dialect q (multiset m) (h .b) (h .between) (h .two) c (h .second) in
+      let j = extends dialect q (multiset m) (g .b) (g .between) (g .two) d (g .second) in
       let l₁ = regroup (h .between) c x (i .0) (i .1) ∙ regroup e (h .between) (i .0 ++ x) (h .a ∷ []) (f₁ .1) in
       let l₂ = regroup (g .between) d y (j .0) (j .1) ∙ regroup e (g .between) (j .0 ++ y) (g .a ∷ []) (f₂ .1) in
       let o = next-index e (h .a) (g .a) (i .0 ++ x) (j .0 ++ y) (ap (row asOrigins) (sym l₁) ∙ s ∙ ap (row asOrigins) l₂) in
-      let z = multiset-once m v (h .here) (g .here) (h .a) (g .a) (h .b) (g .b) r (h .divided) (g .divided) o in
-      let k = cons-parts (multiset m) v (record { first = h .a; second = h .b }) (cons-member (multiset m) v (h .here) (h .a) (h .b) (h .divided)) in
+      let z = multiset-once dialect m v (h .here) (g .here) (h .a) (g .a) (h .b) (g .b) r (h .divided) (g .divided) o in
+      let k = cons-parts (multiset m) v (record { first = h .a; second = h .b }) (cons-member dialect (multiset m) v (h .here) (h .a) (h .b) (h .divided)) in
       let b : h .between ≡ g .between = f₁ .1 ∙ ap (λ a. e ++ (a ∷ [])) (z .1) ∙ sym (f₂ .1) in
-      let n = tells q (multiset m) (h .b) (h .between) (t .1) (part-rises (k .second) r) (h .two) c (g .two) d (h .second)
-      (subst (λ (a : Valueᵒ). Follows q (multiset m) a (h .between) (g .two) d) (sym (z .2))
-      (subst (λ (l : Bindings). Follows q (multiset m) (g .b) l (g .two) d) (sym b) (g .second))) x y s in
+      let n = tells dialect q (multiset m) (h .b) (h .between) (t .1) (part-rises (k .second) r) (h .two) c (g .two) d (h .second)
+      (subst (λ (a : Valueᵒ). Follows dialect q (multiset m) a (h .between) (g .two) d) (sym (z .2))
+      (subst (λ (l : Bindings). Follows dialect q (multiset m) (g .b) l (g .two) d) (sym b) (g .second))) x y s in
       (sym (h .way) ∙ ap₂ (λ a b. a ++ b) (z .0) (ap₂ (λ a b. a ++ b) (f₁ .0 ∙ sym (f₂ .0)) (n .0)) ∙ g .way, n .1)
-  tells (cons p q) (tupleOf ms) v e t r u c w d h g x y s = absurd (h .divided)
-  tells (join p q) m v e t r u c w d h g x y s = absurd t
-  tells (tuple ps) m (intᵒ o z) e t r u c w d h g x y s = absurd h
-  tells (tuple ps) m (collectionᵒ o vs) e t r u c w d h g x y s = absurd h
-  tells (tuple ps) m (tupledᵒ o vs) e t r u c w d h g x y s = tells-all ps (members m) vs e t r u c w d h g x y s
-  tells (both p q) m v e t r u c w d h g x y s =
-      let i = extends q m v (h .between) (h .two) c (h .others) in
-      let j = extends q m v (g .between) (g .two) d (g .others) in
-      let f = tells p m v e (t .0) r (h .one) (h .between) (g .one) (g .between) (h .first) (g .first) (i .0 ++ x) (j .0 ++ y)
+  tells dialect (cons p q) (tupleOf ms) v e t r u c w d h g x y s = absurd (h .divided)
+  tells dialect (join p q) m v e t r u c w d h g x y s = absurd t
+  tells dialect (tuple ps) m (intᵒ o z) e t r u c w d h g x y s = absurd h
+  tells dialect (tuple ps) m (collectionᵒ o vs) e t r u c w d h g x y s = absurd h
+  tells dialect (tuple ps) m (tupledᵒ o vs) e t r u c w d h g x y s = tells-all dialect ps (members m) vs e t r u c w d h g x y s
+  tells dialect (both p q) m v e t r u c w d h g x y s =
+      let i = extends dialect q m v (h .between) (h .two) c (h .others) in
+      let j = extends dialect q m v (g .between) (g .two) d (g .others) in
+      let f = tells dialect p m v e (t .0) r (h .one) (h .between) (g .one) (g .between) (h .first) (g .first) (i .0 ++ x) (j .0 ++ y)
       (ap (row asOrigins) (sym (regroup (h .between) c x (i .0) (i .1))) ∙ s ∙ ap (row asOrigins) (regroup (g .between) d y (j .0) (j .1))) in
-      let n = tells q m v (h .between) (t .1) r (h .two) c (g .two) d (h .others) (subst (λ (b : Bindings). Follows q m v b (g .two) d) (sym (f .1)) (g .others)) x y s in
+      let n = tells dialect q m v (h .between) (t .1) r (h .two) c (g .two) d (h .others) (subst (λ (b : Bindings). Follows dialect q m v b (g .two) d) (sym (f .1)) (g .others)) x y s in
       (sym (h .way) ∙ ap₂ (λ a b. a ++ b) (f .0) (n .0) ∙ g .way, n .1)
-  tells (either p q) m v e t r u c w d h g x y s = absurd t
-  tells (never p) m v e t r u c w d h g x y s = (h .1 ∙ sym (g .1), h .2 ∙ sym (g .2))
+  tells dialect (either p q) m v e t r u c w d h g x y s = absurd t
+  tells dialect (never p) m v e t r u c w d h g x y s = (h .1 ∙ sym (g .1), h .2 ∙ sym (g .2))
 
-  tells-all : (ps : Patterns) (ms : Matchers) (vs : Valuesᵒ) (e : Bindings) → TellsAll ps ms → RiseAll vs → (u : Way) (c : Bindings) (w : Way) (d : Bindings)
-      → FollowsAll ps ms vs e u c → FollowsAll ps ms vs e w d → (x y : Bindings) → row asOrigins (c ++ x) ≡ row asOrigins (d ++ y) → (u ≡ w) × (c ≡ d)
-  tells-all noPatterns ms vs e t r u c w d h g x y s = (h .0 ∙ sym (g .0), h .1 ∙ sym (g .1))
-  tells-all (p ▸ᵖ ps) noMatchers vs e t r u c w d h g x y s = (h .0 ∙ sym (g .0), h .1 ∙ sym (g .1))
-  tells-all (p ▸ᵖ ps) (m ▸ᵐ ms) emptyᵒ e t r u c w d h g x y s = (h .0 ∙ sym (g .0), h .1 ∙ sym (g .1))
-  tells-all (p ▸ᵖ ps) (m ▸ᵐ ms) (v ▸ᵒ vs) e t r u c w d h g x y s =
-      let i = extends-all ps ms vs (h .between) (h .two) c (h .others) in
-      let j = extends-all ps ms vs (g .between) (g .two) d (g .others) in
-      let f = tells p m v e (t .0) (r .0) (h .one) (h .between) (g .one) (g .between) (h .first) (g .first) (i .0 ++ x) (j .0 ++ y)
+  tells-all : (dialect : Dialect) (ps : Patterns) (ms : Matchers) (vs : Valuesᵒ) (e : Bindings) → TellsAll ps ms → RiseAll vs → (u : Way) (c : Bindings) (w : Way) (d : Bindings)
+      → FollowsAll dialect ps ms vs e u c → FollowsAll dialect ps ms vs e w d → (x y : Bindings) → row asOrigins (c ++ x) ≡ row asOrigins (d ++ y) → (u ≡ w) × (c ≡ d)
+  tells-all dialect noPatterns ms vs e t r u c w d h g x y s = (h .0 ∙ sym (g .0), h .1 ∙ sym (g .1))
+  tells-all dialect (p ▸ᵖ ps) noMatchers vs e t r u c w d h g x y s = (h .0 ∙ sym (g .0), h .1 ∙ sym (g .1))
+  tells-all dialect (p ▸ᵖ ps) (m ▸ᵐ ms) emptyᵒ e t r u c w d h g x y s = (h .0 ∙ sym (g .0), h .1 ∙ sym (g .1))
+  tells-all dialect (p ▸ᵖ ps) (m ▸ᵐ ms) (v ▸ᵒ vs) e t r u c w d h g x y s =
+      let i = extends-all dialect ps ms vs (h .between) (h .two) c (h .others) in
+      let j = extends-all dialect ps ms vs (g .between) (g .two) d (g .others) in
+      let f = tells dialect p m v e (t .0) (r .0) (h .one) (h .between) (g .one) (g .between) (h .first) (g .first) (i .0 ++ x) (j .0 ++ y)
       (ap (row asOrigins) (sym (regroup (h .between) c x (i .0) (i .1))) ∙ s ∙ ap (row asOrigins) (regroup (g .between) d y (j .0) (j .1))) in
-      let n = tells-all ps ms vs (h .between) (t .1) (r .1) (h .two) c (g .two) d (h .others)
-      (subst (λ (b : Bindings). FollowsAll ps ms vs b (g .two) d) (sym (f .1)) (g .others)) x y s in
+      let n = tells-all dialect ps ms vs (h .between) (t .1) (r .1) (h .two) c (g .two) d (h .others)
+      (subst (λ (b : Bindings). FollowsAll dialect ps ms vs b (g .two) d) (sym (f .1)) (g .others)) x y s in
       (sym (h .way) ∙ ap₂ (λ a b. a ++ b) (f .0) (n .0) ∙ g .way, n .1)
 
-pub ways-told : (m : Matcher) (p : Pattern) (v : Value) → Tells p m → (u w : Way) (c d : Bindings) → Good m p v u c → Good m p v w d
+pub ways-told : (dialect : Dialect) (m : Matcher) (p : Pattern) (v : Value) → Tells p m → (u w : Way) (c d : Bindings) → Good dialect m p v u c → Good dialect m p v w d
     → row asOrigins c ≡ row asOrigins d → u ≡ w
 unfolding Good target
-ways-told m p v t u w c d h g s =
-    tells p m (target v) [] t (placed-rises 0 0 v) u c w d h g [] [] (ap (row asOrigins) (append-nil c) ∙ s ∙ ap (row asOrigins) (sym (append-nil d))) .0
+ways-told dialect m p v t u w c d h g s =
+    tells dialect p m (target v) [] t (placed-rises 0 0 v) u c w d h g [] [] (ap (row asOrigins) (append-nil c) ∙ s ∙ ap (row asOrigins) (sym (append-nil d))) .0
