@@ -12,6 +12,7 @@ use lib.Seq.{take-at, length-take-le}
 use Rattle.rules.specs.Forms.{Value}
 use Rattle.rules.specs.Reading.{ok, _then_, readPattern}
 use Rattle.rules.specs.Variables.{variables}
+use Rattle.rules.specs.Dialects.{everyPlace}
 use Rattle.rules.specs.Origins.{Bindings}
 use Rattle.rules.specs.Rows.{asWords, row}
 use Rattle.rules.specs.Following.{Solution}
@@ -56,7 +57,7 @@ module _ (ms ps ts : List ℤ) (budget : ℕ) (room : List ℤ) (r : Rule) (v : 
   it = match ms ps ts budget room
 
   abbrev first : List Solution
-  first = take (it .rows) (ways r v)
+  first = take (it .rows) (ways everyPlace r v)
 
   values-are : variablesOf ps ≡ variableTags (r .pattern)
   unfolding variablesOf orZero _then_
@@ -65,18 +66,18 @@ module _ (ms ps ts : List ℤ) (budget : ℕ) (room : List ℤ) (r : Rule) (v : 
   words-are : take (it .words) (it .room) ≡ rowsOfWays asWords first
   unfolding match
   words-are =
-      let h = room-holds asWords ms ps ts budget room r v rule target in
+      let h = room-holds everyPlace asWords ms ps ts budget room r v rule target in
       ap (take (it .words)) (h .2) ∙ take-at (rowsOfWays asWords first) (drop (it .words) room) (it .words) (sym (h .1))
 
   count-is : length (bounds first) ≡ it .rows
   unfolding match
   count-is =
-      let h = room-holds asWords ms ps ts budget room r v rule target in
-      length-map first (λ (s : Solution). s .bound) ∙ length-take-le (it .rows) (ways r v) (h .0)
+      let h = room-holds everyPlace asWords ms ps ts budget room r v rule target in
+      length-map first (λ (s : Solution). s .bound) ∙ length-take-le (it .rows) (ways everyPlace r v) (h .0)
 
   each : Each (variablesOf ps) (bounds first)
   each = each-of (variablesOf ps) first (λ s m.
-      rows-whole asWords ms ps ts budget room r v rule target (s .way) (s .bound) (ways-listed r v .sound s (mem-take (it .rows) (ways r v) m)) ∙ sym values-are)
+      rows-whole everyPlace asWords ms ps ts budget room r v rule target (s .way) (s .bound) (ways-listed everyPlace r v .sound s (mem-take (it .rows) (ways everyPlace r v) m)) ∙ sym values-are)
 
   pub rows-on-lines : report (variablesOf ps) it ≡ firstLine it ++ lines (map (λ (s : Solution). row asWords (s .bound)) first)
   unfolding report

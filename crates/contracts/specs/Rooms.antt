@@ -15,8 +15,9 @@ use Rattle.rules.specs.Limits.{tooBig}
 use Rattle.rules.specs.Reading.{_then_}
 use Rattle.rules.specs.Review.{factor, formula}
 use Rattle.rules.specs.Always.{alwaysTrue}
+use Rattle.rules.specs.Dialects.{everyPlace}
 use Rattle.rules.specs.Rows.{Form, asWords, asOrigins, formOf}
-use Rattle.rules.specs.Services.{accepted, Rule, ruleOf, targetOf, Matched, turnedAway, matchIn, matchWith, Reviewed, declined, counted, capped, unlessAlwaysTrue, reviewRule, review}
+use Rattle.rules.specs.Services.{accepted, Rule, ruleOf, targetOf, Matched, turnedAway, matchIn, matchWith, Reviewed, declined, counted, capped, unlessAlwaysTrue, reviewRule, review, reviewOf}
 use Rattle.forms.specs.Written.{largest, variableTags}
 use Rattle.forms.specs.Faults.{rule-accepted, sane-exactly}
 use Rattle.forms.specs.ReadTarget.{target-read}
@@ -78,11 +79,11 @@ module _ (ms ps ts : List ℤ) (budget : ℕ) (given : List ℤ) (r : Rule) (v :
 
   in-form : (form : Form) → (roomBy (widthOf form longest) ms ps (pos cap)) .answer ≡ 0 → (roomBy (widthOf form longest) ms ps (pos cap)) .words ≤ length given
       → (matchIn form ms ps ts budget given) .answer ≡ 0
-  unfolding roomBy
+  unfolding roomBy review reviewOf
   in-form form a h =
       let rows = factor cap 0 (r .pattern) (r .matcher) * variableTags (r .pattern) in
       let k : rows * widthOf form longest ≤ length given = rw (rows-are a, variables-are) at h in
-      enough-reviewed form ms ps ts budget given r v rule target cap small a steps (le-trans (mul-le-mul-left rows (wide-enough form)) k)
+      enough-reviewed everyPlace form ms ps ts budget given r v rule target cap small a steps (le-trans (mul-le-mul-left rows (wide-enough form)) k)
 
   pub room-suffices : (form : ℕ) → (room form ms ps (pos cap) longest) .answer ≡ 0 → (room form ms ps (pos cap) longest) .words ≤ length given
       → (matchWith form ms ps ts budget given) .answer ≡ 0
