@@ -1,0 +1,219 @@
+-- An advance of a run in which a state stands, as the code asks for it. Assumes nothing.
+use Prim.Native.Nat.{ℕ, zero, suc, _+_, _-_, _*_, _≤_, _<_, min}
+use native.Mathlib.Omega.{arith}
+use mathlib.Core.Path.{_≡_, refl, sym, ap, ap₂, _∙_, subst}
+use mathlib.Core.Bool.{Bool, true, false, not}
+use mathlib.Core.List.{List}
+use lib.ListN.{length, getD, replicate}
+use lib.Dec.{ltb}
+use lib.IntN.{ℤ, pos}
+use borrow.Author.Needs.{needs}
+use borrow.Author.Tests.{ltb-true, ltb-false}
+use Rattle.words.specs.Words.{entries}
+use Rattle.tables.specs.Slot.{slotCount, Tables, section, byLine, viewOf}
+use Rattle.tables.specs.SlotLaws.{long-list, long-line}
+use Rattle.value_rows.specs.declared.Binding.{Binding}
+use Rattle.search_step.specs.declared.State.{State}
+use Rattle.search.specs.Run.{Env, env, Run, run, runOf}
+use Rattle.search.specs.Valid.{Long, Valid}
+use Rattle.run_rules.specs.Lent.{allowed}
+use Rattle.rules.specs.Services.{Rule, accepted, ruleOf}
+use Rattle.forms.specs.Faults.{Sane}
+use Rattle.program_rules.specs.Points.{Instr, end, Point, Follows, strips, drops, binds, tests, splits, aparts, keeps, chooses, denies, cuts, elses, closes, reserves, ends, after-end}
+use Rattle.program_rules.specs.Program.{program, pointAt}
+use Rattle.program_rules.specs.Length.{instrs, toCome}
+use Rattle.program_rules.specs.Walk.{in-range}
+use Rattle.program_rules.specs.Fitted.{program-follows}
+use Rattle.program_rules.specs.Meaning.{Means, means-end, means-strip, means-drop, means-bind, means-constant, means-integer, means-value, means-nil, means-list, means-multiset, means-join, means-tuple}
+use Rattle.program_rules.specs.Meaning.{means-keep, means-choice, means-deny, means-cut, means-other, means-close}
+use Rattle.program_rules.specs.Closed.{closed-is}
+use Rattle.forms.specs.ReadPattern.{pattern-read}
+use Rattle.program_rules.specs.Lines.{Line, Columns, columns, linesOf, laid}
+use Rattle.program_rules.specs.Slots.{numbered}
+use Rattle.program_rules.specs.Link.{opsIn, bindingsIn, tosBy, placed}
+use Rattle.program_rules.specs.Columns.{lineIn, Holds, compiled-zeros}
+use Rattle.services.specs.Matches.{Ready}
+use Rattle.services.proofs.Matches.{ready-sane, ready-fine, ready-target, matcher-few, pattern-few}
+use Rattle.search.specs.Valid.{Fine}
+use Rattle.run_sound.specs.Tested.{Decides}
+use Rattle.run_sound.specs.Sound.{Numbered, Closes, Sound}
+use Rattle.run_sound.proofs.Tests.{refuted, upheld}
+use Rattle.service_runs.specs.Going.{Tries, columnsOf, envOf, runIn, Carries}
+
+-- ---- The budget.
+
+module _ (steps portion : ℕ) where
+  pub budget-none : 4294967295 ≤ steps → 0 - steps ≡ allowed portion steps
+  unfolding allowed
+  budget-none h = omega arith
+
+  pub budget-cut : steps < 4294967295 → (n : ℕ) → n ≡ portion → 4294967295 - steps < n → 4294967295 - steps ≡ allowed portion steps
+  unfolding allowed
+  budget-cut h n e l = omega arith
+
+  pub budget-sum : steps < 4294967295 → (n : ℕ) → n ≡ portion → n ≤ 4294967295 - steps → (steps + n) - steps ≡ allowed portion steps
+  unfolding allowed
+  budget-sum h n e l = omega arith
+
+pub ruleset budget-rules = (budget-none, budget-cut, budget-sum, needs)
+
+-- ---- A sound run is a valid one.
+
+long-tables : (arg slots : List ℕ) → Numbered arg slots → Long (viewOf arg slots)
+unfolding viewOf
+long-tables arg slots n =
+    let l = long-list arg slots (n .long) in
+    record {
+      ats = long-line 0 arg slots (omega arith) l;
+      wholes = long-line 1 arg slots (omega arith) l;
+      lefts = long-line 2 arg slots (omega arith) l;
+      lows = long-line 3 arg slots (omega arith) l;
+      backs = long-line 4 arg slots (omega arith) l;
+    }
+
+module _ (e : Env) (slots : List ℕ) (x : State) (b : List Binding) (room : List ℤ) (live : x .live ≡ 1) where
+  sound-valid : Numbered (e .arg) slots → Sound (e .op) (e .words) (viewOf (e .arg) slots) x b (length room) → Valid e (run x (viewOf (e .arg) slots) b room)
+  sound-valid n s = record {
+    place = s .place;
+    held = s .held;
+    frames = record { last = s .last; below = λ i h. s .lines .each i h .below };
+    waits = record { held = λ j h z. s .lines .each j h .held };
+    binds = s .binds;
+    room = s .room;
+    counts = s .counts;
+    long = long-tables (e .arg) slots n;
+  }
+
+  valid-sound : Valid e (run x (viewOf (e .arg) slots) b room) → Sound (e .op) (e .words) (viewOf (e .arg) slots) x b (length room)
+  valid-sound v = record {
+    place = v .place;
+    held = v .held;
+    last = v .frames .last;
+    room = v .room;
+    counts = v .counts;
+    binds = v .binds;
+    lines = record {
+      each = λ j h. record {
+        held = v .waits .held j h (λ z. absurd (omega arith));
+        below = v .frames .below j h;
+      };
+    };
+  }
+
+  module _ (r : Bool) (d : Decides r (Sound (e .op) (e .words) (viewOf (e .arg) slots) x b (length room))) where
+    pub try-valid : Numbered (e .arg) slots → not r ≡ false → Valid e (run x (viewOf (e .arg) slots) b room)
+    try-valid n q = sound-valid n (d .sound (upheld r q))
+
+    pub try-unsound : (n : ℕ) → not r ≡ true → Tries e n (run x (viewOf (e .arg) slots) b room) false (run x (viewOf (e .arg) slots) b room)
+    try-unsound n q = record {
+      went = λ z. let y : _≡_ {A = ℕ} 0 1 = cc in absurd (omega arith);
+      kept = λ z. (λ v. refuted r q (d .whole (valid-sound v)), refl);
+    }
+
+pub try-went : (e : Env) (n : ℕ) (r next : Run) → next ≡ runOf e n r → Tries e n r true next
+try-went e n r next h = record { went = λ z. h; kept = λ z. let y : _≡_ {A = ℕ} 0 1 = cc in absurd (omega arith) }
+
+pub ruleset try-rules = (try-valid, try-unsound, try-went, needs)
+
+-- ---- The lines of a rule that is accepted.
+
+-- A line without an instruction is an end; and an end is the last line, or after it.
+ended-line : {ms : List ℤ} {vars : ℕ} {l : Line} {to : ℕ} {i : Instr} → Means ms vars l to i → l .op ≡ 0 → i ≡ end vars
+ended-line (means-end e) z = refl
+ended-line (means-strip e) z = absurd (omega arith)
+ended-line (means-drop e) z = absurd (omega arith)
+ended-line (means-bind e) z = absurd (omega arith)
+ended-line (means-constant e) z = absurd (omega arith)
+ended-line (means-integer e) z = absurd (omega arith)
+ended-line (means-value m e n a) z = absurd (omega arith)
+ended-line (means-nil m e) z = absurd (omega arith)
+ended-line (means-list m e) z = absurd (omega arith)
+ended-line (means-multiset m e) z = absurd (omega arith)
+ended-line (means-join m e) z = absurd (omega arith)
+ended-line (means-tuple n e h) z = absurd (omega arith)
+ended-line (means-keep e) z = absurd (omega arith)
+ended-line (means-choice e) z = absurd (omega arith)
+ended-line (means-deny e) z = absurd (omega arith)
+ended-line (means-cut e) z = absurd (omega arith)
+ended-line (means-other e) z = absurd (omega arith)
+ended-line (means-close e) z = absurd (omega arith)
+
+at-end : {points : ℕ → Point} {pc : ℕ} {i : Instr} {P : Point} → Follows points pc i P → (n : ℕ) → i ≡ end n → toCome P ≤ 1
+unfolding toCome
+at-end (strips h k e) n z = let y : _≡_ {A = ℕ} 0 1 = cc in absurd (omega arith)
+at-end (drops h e) n z = let y : _≡_ {A = ℕ} 0 1 = cc in absurd (omega arith)
+at-end (binds h e) n z = let y : _≡_ {A = ℕ} 0 1 = cc in absurd (omega arith)
+at-end (tests t h k e) n z = let y : _≡_ {A = ℕ} 0 1 = cc in absurd (omega arith)
+at-end (splits k p q e) n z = let y : _≡_ {A = ℕ} 0 1 = cc in absurd (omega arith)
+at-end (aparts p q ps m k ks a b e) n z = let y : _≡_ {A = ℕ} 0 1 = cc in absurd (omega arith)
+at-end (keeps p q e) n z = let y : _≡_ {A = ℕ} 0 1 = cc in absurd (omega arith)
+at-end (chooses p q h e f) n z = let y : _≡_ {A = ℕ} 0 1 = cc in absurd (omega arith)
+at-end (denies p h e f) n z = let y : _≡_ {A = ℕ} 0 1 = cc in absurd (omega arith)
+at-end cuts n z = let y : _≡_ {A = ℕ} 0 1 = cc in absurd (omega arith)
+at-end elses n z = let y : _≡_ {A = ℕ} 0 1 = cc in absurd (omega arith)
+at-end closes n z = let y : _≡_ {A = ℕ} 0 1 = cc in absurd (omega arith)
+at-end reserves n z = let y : _≡_ {A = ℕ} 0 1 = cc in absurd (omega arith)
+at-end ends n z = omega arith
+at-end after-end n z = omega arith
+
+module _ (ms ps ts : List ℤ) (n : ℕ) (op from to arg mat : List ℕ) (con : List ℤ) (g : Ready ms ps ts) (vars : n ≡ bindingsIn (opsIn op 0 (length (linesOf ms ps))))
+    (is : columns op from arg mat con ≡ numbered (length (linesOf ms ps)) (laid 0 (linesOf ms ps) (columns (replicate entries 0) (replicate entries 0) (replicate entries 0) (replicate entries 0) (replicate entries (pos 0)))))
+    (tos : to ≡ placed 0 (tosBy (opsIn op 0 (length (linesOf ms ps)))) (replicate entries 0)) where
+  holds : Holds ms (g .rule) n (columns op from arg mat con) to
+  holds = compiled-zeros ms ps (g .rule) (g .rule-is) n (columns op from arg mat con) to vars is tos
+
+  end-last : (i : ℕ) → getD op i 0 ≡ 0 → instrs (g .rule .pattern) (g .rule .matcher) ≤ i
+  unfolding lineIn
+  end-last i z = go (ltb i (instrs (g .rule .pattern) (g .rule .matcher))) refl
+    where
+      sane : Sane ms ps ts (g .rule) (g .value)
+      sane = ready-sane g
+
+      follow : Follows (pointAt (g .rule .matcher) (g .rule .pattern)) i (program (g .rule .matcher) (g .rule .pattern) i) (pointAt (g .rule .matcher) (g .rule .pattern) i)
+      follow = program-follows (g .rule .matcher) (g .rule .pattern) 0 (sane .rule .fitting .0) (sane .rule .fitting .1) (pattern-read ps (g .rule .pattern) .0 (sane .rule .pattern) .2)
+          (closed-is (g .rule .pattern) true 0 0 (sane .rule .numbered .0) (sane .rule .numbered .1)) i
+
+      go : (b : Bool) → ltb i (instrs (g .rule .pattern) (g .rule .matcher)) ≡ b → instrs (g .rule .pattern) (g .rule .matcher) ≤ i
+      go true h =
+          let l = ltb-true i _ h in
+          let a = at-end follow n (ended-line (holds .means i (omega arith)) z) in
+          let r = in-range (g .rule .matcher) (g .rule .pattern) i in
+          absurd (omega arith)
+      go false h = ltb-false i _ h
+
+  fine-is : Fine (env op from to arg mat con ms ts n)
+  fine-is = ready-fine ms ps ts n op from to arg mat con g vars is tos
+
+  pub lines-close : Closes op arg
+  unfolding lineIn
+  lines-close = record {
+    last = fine-is .last;
+    after = λ i j z l. let k = end-last i z in ap (λ (y : Line). y .arg) (holds .after j (omega arith));
+  }
+
+  pub slots-numbered : (slots : List ℕ) → length slots ≡ 5 * slotCount → Numbered arg slots
+  unfolding viewOf
+  slots-numbered slots l = record { slot = fine-is .slot; long = long-line 4 arg slots (omega arith) (omega arith) }
+
+  -- What does not change is what the rule and the target say.
+  columns-are : (f : Columns → List ℕ) → f (columns op from arg mat con) ≡ f (columnsOf ms ps)
+  unfolding columnsOf
+  columns-are f = ap f is
+
+  env-is : env op from to arg mat con ms ts n ≡ envOf ms ps ts
+  unfolding envOf columnsOf
+  env-is = tos-and-vars ∙ ap (λ (k : Columns). env (k .op) (k .from) (placed 0 (tosBy (opsIn (k .op) 0 (length (linesOf ms ps)))) (replicate entries 0))
+      (k .arg) (k .mat) (k .con) ms ts (bindingsIn (opsIn (k .op) 0 (length (linesOf ms ps))))) is
+    where
+      tos-and-vars : env op from to arg mat con ms ts n
+          ≡ env op from (placed 0 (tosBy (opsIn op 0 (length (linesOf ms ps)))) (replicate entries 0)) arg mat con ms ts (bindingsIn (opsIn op 0 (length (linesOf ms ps))))
+      tos-and-vars = ap₂ (λ a b. env op from a arg mat con ms ts b) tos vars
+
+  pub carry-tried : (budget portion : ℕ) (x x′ : State) (slots slots′ : List ℕ) (b b′ : List Binding) (room room′ : List ℤ) (sound : Bool) → budget - x .steps ≡ allowed portion (x .steps)
+      → Tries (env op from to arg mat con ms ts n) (budget - x .steps) (run x (viewOf arg slots) b room) sound (run x′ (viewOf arg slots′) b′ room′)
+      → Carries ms ps ts portion x slots b room sound x′ slots′ b′ room′
+  unfolding runIn
+  carry-tried budget portion x x′ slots slots′ b b′ room room′ sound k t = record {
+    tries = subst (λ (e : Env). Tries e (allowed portion (x .steps)) (run x (viewOf (e .arg) slots) b room) sound (run x′ (viewOf (e .arg) slots′) b′ room′)) env-is
+        (subst (λ i. Tries (env op from to arg mat con ms ts n) i (run x (viewOf arg slots) b room) sound (run x′ (viewOf arg slots′) b′ room′)) k t);
+  }

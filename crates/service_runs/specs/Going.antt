@@ -1,0 +1,43 @@
+-- An advance of a run in which a state stands.
+use Prim.Native.Nat.{ℕ}
+use mathlib.Core.Path.{_≡_}
+use mathlib.Core.Bool.{Bool, true, false}
+use mathlib.Core.List.{List}
+use lib.ListN.{length, replicate}
+use lib.IntN.{ℤ, pos}
+use Rattle.words.specs.Words.{entries}
+use Rattle.program_rules.specs.Lines.{linesOf, Columns, columns, laid}
+use Rattle.program_rules.specs.Slots.{numbered}
+use Rattle.program_rules.specs.Link.{opsIn, bindingsIn, tosBy, placed}
+use Rattle.tables.specs.Slot.{viewOf}
+use Rattle.value_rows.specs.declared.Binding.{Binding}
+use Rattle.search_step.specs.declared.State.{State}
+use Rattle.search.specs.Run.{Env, env, Run, run, runOf}
+use Rattle.search.specs.Valid.{Valid}
+use Rattle.run_rules.specs.Lent.{allowed}
+
+-- From the run r, by n steps: the run that is left. A run that is not valid is not sound, and its room is left as it was.
+pub record Tries (e : Env) (n : ℕ) (r : Run) (sound : Bool) (next : Run) : Type 0 where
+  pub went : sound ≡ true → next ≡ runOf e n r
+  pub kept : sound ≡ false → (Valid e r → ⊥) × (next .room ≡ r .room)
+
+-- The lines of a rule, laid into arrays of zeros, and what does not change in a run over them.
+unfoldable pub columnsOf : (ms ps : List ℤ) → Columns
+unfolding numbered
+columnsOf ms ps = numbered (length (linesOf ms ps))
+    (laid 0 (linesOf ms ps) (columns (replicate entries 0) (replicate entries 0) (replicate entries 0) (replicate entries 0) (replicate entries (pos 0))))
+
+unfoldable pub envOf : (ms ps ts : List ℤ) → Env
+unfolding columnsOf
+envOf ms ps ts =
+    env (columnsOf ms ps .op) (columnsOf ms ps .from) (placed 0 (tosBy (opsIn (columnsOf ms ps .op) 0 (length (linesOf ms ps)))) (replicate entries 0))
+    (columnsOf ms ps .arg) (columnsOf ms ps .mat) (columnsOf ms ps .con) ms ts (bindingsIn (opsIn (columnsOf ms ps .op) 0 (length (linesOf ms ps))))
+
+-- The run that the numbers are, over the slots of a rule's lines.
+unfoldable pub runIn : (ms ps ts : List ℤ) → State → (slots : List ℕ) → List Binding → (room : List ℤ) → Run
+unfolding envOf
+runIn ms ps ts x slots b room = run x (viewOf (envOf ms ps ts .arg) slots) b room
+
+-- By a portion of n steps.
+pub record Carries (ms ps ts : List ℤ) (n : ℕ) (x : State) (slots : List ℕ) (b : List Binding) (room : List ℤ) (sound : Bool) (x′ : State) (slots′ : List ℕ) (b′ : List Binding) (room′ : List ℤ) : Type 0 where
+  pub tries : Tries (envOf ms ps ts) (allowed n (x .steps)) (runIn ms ps ts x slots b room) sound (runIn ms ps ts x′ slots′ b′ room′)

@@ -1,0 +1,2 @@
+// Document 02, No. 8: a run that is opened once and then advanced by some steps at a time.
+pub mod going;
