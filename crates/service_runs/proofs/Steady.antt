@@ -17,6 +17,7 @@ use Rattle.search_step.specs.declared.State.{State}
 use Rattle.search.specs.Run.{Env, env, Run, run, runOf}
 use Rattle.search.specs.Valid.{Long, Valid}
 use Rattle.run_rules.specs.Lent.{allowed}
+use Rattle.rules.specs.Rows.{Form}
 use Rattle.rules.specs.Services.{Rule, accepted, ruleOf}
 use Rattle.forms.specs.Faults.{Sane}
 use Rattle.program_rules.specs.Points.{Instr, end, Point, Follows, strips, drops, binds, tests, splits, aparts, keeps, chooses, denies, cuts, elses, closes, reserves, ends, after-end}
@@ -156,7 +157,7 @@ at-end reserves n z = let y : _≡_ {A = ℕ} 0 1 = cc in absurd (omega arith)
 at-end ends n z = omega arith
 at-end after-end n z = omega arith
 
-module _ (ms ps ts : List ℤ) (n : ℕ) (op from to arg mat : List ℕ) (con : List ℤ) (g : Ready ms ps ts) (vars : n ≡ bindingsIn (opsIn op 0 (length (linesOf ms ps))))
+module _ (form : Form) (ms ps ts : List ℤ) (n : ℕ) (op from to arg mat : List ℕ) (con : List ℤ) (g : Ready ms ps ts) (vars : n ≡ bindingsIn (opsIn op 0 (length (linesOf ms ps))))
     (is : columns op from arg mat con ≡ numbered (length (linesOf ms ps)) (laid 0 (linesOf ms ps) (columns (replicate entries 0) (replicate entries 0) (replicate entries 0) (replicate entries 0) (replicate entries (pos 0)))))
     (tos : to ≡ placed 0 (tosBy (opsIn op 0 (length (linesOf ms ps)))) (replicate entries 0)) where
   holds : Holds ms (g .rule) n (columns op from arg mat con) to
@@ -181,8 +182,8 @@ module _ (ms ps ts : List ℤ) (n : ℕ) (op from to arg mat : List ℕ) (con : 
           absurd (omega arith)
       go false h = ltb-false i _ h
 
-  fine-is : Fine (env op from to arg mat con ms ts n)
-  fine-is = ready-fine ms ps ts n op from to arg mat con g vars is tos
+  fine-is : Fine (env op from to arg mat con ms ts n form)
+  fine-is = ready-fine ms ps ts n op from to arg mat con form g vars is tos
 
   pub lines-close : Closes op arg
   unfolding lineIn
@@ -200,20 +201,20 @@ module _ (ms ps ts : List ℤ) (n : ℕ) (op from to arg mat : List ℕ) (con : 
   unfolding columnsOf
   columns-are f = ap f is
 
-  env-is : env op from to arg mat con ms ts n ≡ envOf ms ps ts
+  env-is : env op from to arg mat con ms ts n form ≡ envOf form ms ps ts
   unfolding envOf columnsOf
   env-is = tos-and-vars ∙ ap (λ (k : Columns). env (k .op) (k .from) (placed 0 (tosBy (opsIn (k .op) 0 (length (linesOf ms ps)))) (replicate entries 0))
-      (k .arg) (k .mat) (k .con) ms ts (bindingsIn (opsIn (k .op) 0 (length (linesOf ms ps))))) is
+      (k .arg) (k .mat) (k .con) ms ts (bindingsIn (opsIn (k .op) 0 (length (linesOf ms ps)))) form) is
     where
-      tos-and-vars : env op from to arg mat con ms ts n
-          ≡ env op from (placed 0 (tosBy (opsIn op 0 (length (linesOf ms ps)))) (replicate entries 0)) arg mat con ms ts (bindingsIn (opsIn op 0 (length (linesOf ms ps))))
-      tos-and-vars = ap₂ (λ a b. env op from a arg mat con ms ts b) tos vars
+      tos-and-vars : env op from to arg mat con ms ts n form
+          ≡ env op from (placed 0 (tosBy (opsIn op 0 (length (linesOf ms ps)))) (replicate entries 0)) arg mat con ms ts (bindingsIn (opsIn op 0 (length (linesOf ms ps)))) form
+      tos-and-vars = ap₂ (λ a b. env op from a arg mat con ms ts b form) tos vars
 
   pub carry-tried : (budget portion : ℕ) (x x′ : State) (slots slots′ : List ℕ) (b b′ : List Binding) (room room′ : List ℤ) (sound : Bool) → budget - x .steps ≡ allowed portion (x .steps)
-      → Tries (env op from to arg mat con ms ts n) (budget - x .steps) (run x (viewOf arg slots) b room) sound (run x′ (viewOf arg slots′) b′ room′)
-      → Carries ms ps ts portion x slots b room sound x′ slots′ b′ room′
-  unfolding runIn
+      → Tries (env op from to arg mat con ms ts n form) (budget - x .steps) (run x (viewOf arg slots) b room) sound (run x′ (viewOf arg slots′) b′ room′)
+      → Carries form ms ps ts portion x slots b room sound x′ slots′ b′ room′
+  unfolding runIn envOf
   carry-tried budget portion x x′ slots slots′ b b′ room room′ sound k t = record {
     tries = subst (λ (e : Env). Tries e (allowed portion (x .steps)) (run x (viewOf (e .arg) slots) b room) sound (run x′ (viewOf (e .arg) slots′) b′ room′)) env-is
-        (subst (λ i. Tries (env op from to arg mat con ms ts n) i (run x (viewOf arg slots) b room) sound (run x′ (viewOf arg slots′) b′ room′)) k t);
+        (subst (λ i. Tries (env op from to arg mat con ms ts n form) i (run x (viewOf arg slots) b room) sound (run x′ (viewOf arg slots′) b′ room′)) k t);
   }

@@ -5,6 +5,7 @@ use mathlib.Core.Bool.{Bool, true, false}
 use mathlib.Core.List.{List}
 use lib.ListN.{length, replicate}
 use lib.IntN.{ℤ, pos}
+use Rattle.rules.specs.Rows.{Form}
 use Rattle.words.specs.Words.{entries}
 use Rattle.program_rules.specs.Lines.{linesOf, Columns, columns, laid}
 use Rattle.program_rules.specs.Slots.{numbered}
@@ -27,17 +28,17 @@ unfolding numbered
 columnsOf ms ps = numbered (length (linesOf ms ps))
     (laid 0 (linesOf ms ps) (columns (replicate entries 0) (replicate entries 0) (replicate entries 0) (replicate entries 0) (replicate entries (pos 0))))
 
-unfoldable pub envOf : (ms ps ts : List ℤ) → Env
+unfoldable pub envOf : Form → (ms ps ts : List ℤ) → Env
 unfolding columnsOf
-envOf ms ps ts =
+envOf form ms ps ts =
     env (columnsOf ms ps .op) (columnsOf ms ps .from) (placed 0 (tosBy (opsIn (columnsOf ms ps .op) 0 (length (linesOf ms ps)))) (replicate entries 0))
-    (columnsOf ms ps .arg) (columnsOf ms ps .mat) (columnsOf ms ps .con) ms ts (bindingsIn (opsIn (columnsOf ms ps .op) 0 (length (linesOf ms ps))))
+    (columnsOf ms ps .arg) (columnsOf ms ps .mat) (columnsOf ms ps .con) ms ts (bindingsIn (opsIn (columnsOf ms ps .op) 0 (length (linesOf ms ps)))) form
 
 -- The run that the numbers are, over the slots of a rule's lines.
-unfoldable pub runIn : (ms ps ts : List ℤ) → State → (slots : List ℕ) → List Binding → (room : List ℤ) → Run
-unfolding envOf
-runIn ms ps ts x slots b room = run x (viewOf (envOf ms ps ts .arg) slots) b room
+unfoldable pub runIn : (ms ps : List ℤ) → State → (slots : List ℕ) → List Binding → (room : List ℤ) → Run
+unfolding columnsOf
+runIn ms ps x slots b room = run x (viewOf (columnsOf ms ps .arg) slots) b room
 
 -- By a portion of n steps.
-pub record Carries (ms ps ts : List ℤ) (n : ℕ) (x : State) (slots : List ℕ) (b : List Binding) (room : List ℤ) (sound : Bool) (x′ : State) (slots′ : List ℕ) (b′ : List Binding) (room′ : List ℤ) : Type 0 where
-  pub tries : Tries (envOf ms ps ts) (allowed n (x .steps)) (runIn ms ps ts x slots b room) sound (runIn ms ps ts x′ slots′ b′ room′)
+pub record Carries (form : Form) (ms ps ts : List ℤ) (n : ℕ) (x : State) (slots : List ℕ) (b : List Binding) (room : List ℤ) (sound : Bool) (x′ : State) (slots′ : List ℕ) (b′ : List Binding) (room′ : List ℤ) : Type 0 where
+  pub tries : Tries (envOf form ms ps ts) (allowed n (x .steps)) (runIn ms ps x slots b room) sound (runIn ms ps x′ slots′ b′ room′)

@@ -14,6 +14,7 @@ use words::casts::wide;
 ghost use mathlib.Core.Path.{_≡_};
 ghost use Prim.Native.Nat.{_-_};
 ghost use Rattle.run_rules.specs.Lent.{allowed};
+ghost use Rattle.value_rows.specs.Row.{formBy};
 ghost use Rattle.services.specs.Matches.{Ready};
 ghost use Rattle.tables.specs.Slot.{viewOf};
 ghost use Rattle.value_places.specs.Places.{Target};
@@ -45,6 +46,7 @@ fn search_on(
     b: [Binding; 16],
     budget: u64,
     n: usize,
+    origins: bool,
     m: &[i32],
     t: &[i32],
     op: &[u8; ENTRIES],
@@ -56,8 +58,8 @@ fn search_on(
     slots: &mut Slots,
     room: &mut [i32],
 ) -> Found
-    requires { ⌜ Target (now t) ⌝ ∗ ⌜ Fine (env (now op) (now from) (now to) (now arg) (now mat) (now con) (now m) (now t) n) ⌝ ∗ ⌜ Valid (env (now op) (now from) (now to) (now arg) (now mat) (now con) (now m) (now t) n) (run x (viewOf (now arg) (now slots)) b (now room)) ⌝ }
-    ensures { λ r. ⌜ run (r .state) (viewOf (now (arg .entry)) (now (slots .exit))) (r .binds) (now (room .exit)) ≡ runOf (env (now (op .entry)) (now (from .entry)) (now (to .entry)) (now (arg .entry)) (now (mat .entry)) (now (con .entry)) (now (m .entry)) (now (t .entry)) n) (budget - x .steps) (run x (viewOf (now (arg .entry)) (now (slots .entry))) b (now (room .entry))) ⌝ }
+    requires { ⌜ Target (now t) ⌝ ∗ ⌜ Fine (env (now op) (now from) (now to) (now arg) (now mat) (now con) (now m) (now t) n (formBy origins)) ⌝ ∗ ⌜ Valid (env (now op) (now from) (now to) (now arg) (now mat) (now con) (now m) (now t) n (formBy origins)) (run x (viewOf (now arg) (now slots)) b (now room)) ⌝ }
+    ensures { λ r. ⌜ run (r .state) (viewOf (now (arg .entry)) (now (slots .exit))) (r .binds) (now (room .exit)) ≡ runOf (env (now (op .entry)) (now (from .entry)) (now (to .entry)) (now (arg .entry)) (now (mat .entry)) (now (con .entry)) (now (m .entry)) (now (t .entry)) n (formBy origins)) (budget - x .steps) (run x (viewOf (now (arg .entry)) (now (slots .entry))) b (now (room .entry))) ⌝ }
 {
     let mut ends = [0u16; 512];
     let mut base = [0u16; 512];
@@ -69,6 +71,7 @@ fn search_on(
         b,
         budget,
         n,
+        origins,
         m,
         t,
         &ends,
@@ -98,6 +101,7 @@ fn try_on(
     b: [Binding; 16],
     budget: u64,
     n: usize,
+    origins: bool,
     m: &[i32],
     t: &[i32],
     op: &[u8; ENTRIES],
@@ -109,8 +113,8 @@ fn try_on(
     slots: &mut Slots,
     room: &mut [i32],
 ) -> Tried
-    requires { ⌜ Target (now t) ⌝ ∗ ⌜ Fine (env (now op) (now from) (now to) (now arg) (now mat) (now con) (now m) (now t) n) ⌝ ∗ ⌜ Numbered (now arg) (now slots) ⌝ ∗ ⌜ Closes (now op) (now arg) ⌝ ∗ ⌜ x .live ≡ 1 ⌝ }
-    ensures { λ r. ⌜ Tries (env (now (op .entry)) (now (from .entry)) (now (to .entry)) (now (arg .entry)) (now (mat .entry)) (now (con .entry)) (now (m .entry)) (now (t .entry)) n) (budget - x .steps) (run x (viewOf (now (arg .entry)) (now (slots .entry))) b (now (room .entry))) (r .sound) (run (r .state) (viewOf (now (arg .entry)) (now (slots .exit))) (r .binds) (now (room .exit))) ⌝ }
+    requires { ⌜ Target (now t) ⌝ ∗ ⌜ Fine (env (now op) (now from) (now to) (now arg) (now mat) (now con) (now m) (now t) n (formBy origins)) ⌝ ∗ ⌜ Numbered (now arg) (now slots) ⌝ ∗ ⌜ Closes (now op) (now arg) ⌝ ∗ ⌜ x .live ≡ 1 ⌝ }
+    ensures { λ r. ⌜ Tries (env (now (op .entry)) (now (from .entry)) (now (to .entry)) (now (arg .entry)) (now (mat .entry)) (now (con .entry)) (now (m .entry)) (now (t .entry)) n (formBy origins)) (budget - x .steps) (run x (viewOf (now (arg .entry)) (now (slots .entry))) b (now (room .entry))) (r .sound) (run (r .state) (viewOf (now (arg .entry)) (now (slots .exit))) (r .binds) (now (room .exit))) ⌝ }
 {
     if !is_sound(x, b, room.len(), t, op, arg, slots) {
         return Tried {
@@ -124,6 +128,7 @@ fn try_on(
         b,
         budget,
         n,
+        origins,
         m,
         t,
         op,
@@ -158,13 +163,14 @@ pub fn carry_on(
     b: [Binding; 16],
     slots: Slots,
     portion: u32,
+    origins: bool,
     m: &[i32],
     p: &[i32],
     t: &[i32],
     room: &mut [i32],
 ) -> Carried
     requires { ⌜ Ready (now m) (now p) (now t) ⌝ ∗ ⌜ x .live ≡ 1 ⌝ }
-    ensures { λ r. ⌜ Carries (now (m .entry)) (now (p .entry)) (now (t .entry)) portion x slots b (now (room .entry)) (r .sound) (r .state) (r .slots) (r .binds) (now (room .exit)) ⌝ }
+    ensures { λ r. ⌜ Carries (formBy origins) (now (m .entry)) (now (p .entry)) (now (t .entry)) portion x slots b (now (room .entry)) (r .sound) (r .state) (r .slots) (r .binds) (now (room .exit)) ⌝ }
 {
     let mut left = slots;
     let mut op = [0u8; ENTRIES];
@@ -189,6 +195,7 @@ pub fn carry_on(
         b,
         budget,
         n,
+        origins,
         m,
         t,
         &op,

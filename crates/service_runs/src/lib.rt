@@ -1,2 +1,3 @@
 // Document 02, No. 8: a run that is opened once and then advanced by some steps at a time.
 pub mod going;
+pub mod run;

@@ -1,0 +1,150 @@
+-- What a run keeps, and an advance of it in the words of `run_rules`.
+use Prim.Native.Nat.{ℕ, _+_, _-_, _≤_, _<_}
+use mathlib.Core.Path.{_≡_, refl, sym, ap, _∙_, subst}
+use mathlib.Core.Bool.{Bool, true, false}
+use mathlib.Core.List.{List, []}
+use lib.ListN.{length, getD, take}
+use lib.Dec.{eqb}
+use lib.IntN.{ℤ}
+use Rattle.rules.specs.Forms.{Matcher, Pattern, Value}
+use Rattle.rules.specs.Rows.{Form}
+use Rattle.rules.specs.Reading.{ok}
+use Rattle.rules.specs.Fit.{fits}
+use Rattle.forms.specs.Faults.{Sane}
+use Rattle.forms.specs.Written.{Widthsᵖ}
+use Rattle.forms.specs.ReadPattern.{pattern-read}
+use Rattle.run_rules.specs.Lent.{Numbers, Held, ended, Lent, allowed, told as tells, heldAfter, roomAfter, Advanced, advanced}
+use Rattle.program_rules.specs.Program.{program}
+use Rattle.program_rules.specs.Closed.{Closed, closed-is}
+use Rattle.program_rules.specs.Length.{instrs}
+use Rattle.program_rules.specs.Meaning.{Means}
+use Rattle.program_rules.specs.Lines.{Line}
+use Rattle.program_rules.specs.Columns.{lineIn, Holds, compiled-zeros}
+use Rattle.value_places.specs.Places.{Target}
+use Rattle.value_rows.specs.Row.{formBy}
+use Rattle.value_rows.specs.declared.Binding.{Binding}
+use Rattle.search_step.specs.declared.State.{State}
+use Rattle.tables.specs.Slot.{viewOf}
+use Rattle.search.specs.Run.{Env, Run, run, lineAt, runOf}
+use Rattle.search.specs.Valid.{Fine, Valid}
+use Rattle.services.specs.Matches.{Ready}
+use Rattle.services.proofs.Matches.{ready-sane, ready-fine, ready-target}
+use Rattle.run_states.specs.Standing.{numbersOf, Going, Stood, over, goes-on, advance-told, advance-room, advance-held}
+use Rattle.service_runs.specs.Going.{Tries, columnsOf, envOf, runIn, Carries}
+use Rattle.service_runs.specs.declared.run.Run as struct
+use Rattle.service_runs.specs.declared.run.Told as report
+use Rattle.service_runs.specs.declared.run.Out as out
+
+-- The six numbers.
+unfoldable pub told : report.Told → Numbers
+told r = record { answer = r .answer; place = r .place; rows = r .rows; steps = r .steps; words = r .words; cause = r .cause }
+
+-- 19, with 0 in every further number.
+abbrev pub unlikeNumbers : Numbers
+unlikeNumbers = record { answer = 19; place = 0; rows = 0; steps = 0; words = 0; cause = 0 }
+
+-- An advance over words: as it is carried out where they are accepted.
+pub record Goes (form : Form) (ms ps ts : List ℤ) (n : ℕ) (x : State) (slots : List ℕ) (b : List Binding) (room : List ℤ) (sound : Bool) (x′ : State) (slots′ : List ℕ) (b′ : List Binding) (room′ : List ℤ) : Type 0 where
+  pub goes : Ready ms ps ts → Carries form ms ps ts n x slots b room sound x′ slots′ b′ room′
+
+-- ---- What the numbers of a run stand for, over a rule and a target that are accepted.
+
+module _ (form : Form) (ms ps ts : List ℤ) (g : Ready ms ps ts) where
+  pub sane : Sane ms ps ts (g .rule) (g .value)
+  sane = ready-sane g
+
+  pub wide : Widthsᵖ (g .rule .pattern)
+  wide = pattern-read ps (g .rule .pattern) .0 (sane .rule .pattern) .2
+
+  pub closed : Closed (g .rule .pattern)
+  closed = closed-is (g .rule .pattern) true 0 0 (sane .rule .numbered .0) (sane .rule .numbered .1)
+
+  pub target-is : Target (envOf form ms ps ts .words)
+  unfolding envOf
+  target-is = ready-target ms ps ts g
+
+  pub fine : Fine (envOf form ms ps ts)
+  unfolding envOf columnsOf
+  fine = ready-fine ms ps ts _ _ _ _ _ _ _ _ g refl refl refl
+
+  pub holds : Holds ms (g .rule) (envOf form ms ps ts .vars) (columnsOf ms ps) (envOf form ms ps ts .to)
+  unfolding envOf columnsOf
+  holds = compiled-zeros ms ps (g .rule) (g .rule-is) _ _ _ refl refl refl
+
+  pub means : (pc : ℕ) → pc ≤ instrs (g .rule .pattern) (g .rule .matcher)
+      → Means (envOf form ms ps ts .matcher) (envOf form ms ps ts .vars) (lineAt (envOf form ms ps ts) pc) (getD (envOf form ms ps ts .to) pc 0) (program (g .rule .matcher) (g .rule .pattern) pc)
+  unfolding envOf lineAt lineIn
+  means pc l = holds .means pc l
+
+  pub after : (pc : ℕ) → instrs (g .rule .pattern) (g .rule .matcher) < pc → getD (envOf form ms ps ts .op) pc 0 ≡ 0
+  unfolding envOf lineIn
+  after pc l = ap (λ (y : Line). y .op) (holds .after pc l)
+
+  unfoldable pub Standing : (size : ℕ) → State → (slots : List ℕ) → List Binding → Held → Type 0
+  Standing size x slots b h =
+      Stood (envOf form ms ps ts) target-is fine (g .rule .matcher) (g .rule .pattern) 0 (sane .rule .fitting .0) (sane .rule .fitting .1) wide closed means after size x
+      (viewOf (columnsOf ms ps .arg) slots) b h
+
+  -- By a portion of n steps, where the run went on.
+  module _ (n size : ℕ) (x x′ : State) (slots slots′ : List ℕ) (b b′ : List Binding) (room room′ : List ℤ) (l : length room ≡ size)
+      (went : runIn ms ps x′ slots′ b′ room′ ≡ runOf (envOf form ms ps ts) (allowed n (x .steps)) (runIn ms ps x slots b room)) (h : Held) (q : Standing size x slots b h) where
+    pub went-told : numbersOf x′ ≡ tells n size h
+    unfolding Standing runIn
+    went-told = ap (λ (r : Run). numbersOf (r .state)) went
+        ∙ advance-told (envOf form ms ps ts) target-is fine (g .rule .matcher) (g .rule .pattern) 0 (sane .rule .fitting .0) (sane .rule .fitting .1) wide closed means after n size x
+        (viewOf (columnsOf ms ps .arg) slots) b room l h q
+
+    pub went-room : room′ ≡ roomAfter n size h room
+    unfolding Standing runIn
+    went-room = ap (λ (r : Run). r .room) went
+        ∙ advance-room (envOf form ms ps ts) target-is fine (g .rule .matcher) (g .rule .pattern) 0 (sane .rule .fitting .0) (sane .rule .fitting .1) wide closed means after n size x
+        (viewOf (columnsOf ms ps .arg) slots) b room l h q
+
+    pub went-held : Standing size x′ slots′ b′ (heldAfter n size h)
+    unfolding Standing runIn
+    went-held = subst
+        (λ (r : Run). Stood (envOf form ms ps ts) target-is fine (g .rule .matcher) (g .rule .pattern) 0 (sane .rule .fitting .0) (sane .rule .fitting .1) wide closed means after size
+        (r .state) (r .tables) (r .binds) (heldAfter n size h)) (sym went)
+        (advance-held (envOf form ms ps ts) target-is fine (g .rule .matcher) (g .rule .pattern) 0 (sane .rule .fitting .0) (sane .rule .fitting .1) wide closed means after n size x
+        (viewOf (columnsOf ms ps .arg) slots) b room l h q)
+
+  -- A run that stands and goes on is valid; one in which no state stands has ended.
+  pub standing-valid : (size : ℕ) (x : State) (slots : List ℕ) (b : List Binding) (h : Held) (room : List ℤ) → length room ≡ size → x .live ≡ 1 → Standing size x slots b h
+      → Valid (envOf form ms ps ts) (runIn ms ps x slots b room)
+  unfolding Standing runIn
+  standing-valid size x slots b h room l e (over f q) = absurd (f e)
+  standing-valid size x slots b h room l e (goes-on s ss q w) = w .valid room l
+
+  pub standing-over : (size : ℕ) (x : State) (slots : List ℕ) (b : List Binding) (h : Held) → (x .live ≡ 1 → ⊥) → Standing size x slots b h → h ≡ ended (numbersOf x)
+  unfolding Standing
+  standing-over size x slots b h f (over k q) = q
+  standing-over size x slots b h f (goes-on s ss q w) = absurd (f (w .live-is))
+
+-- ---- What a run holds, as `run_rules` has it: it was refused at the opening, or its numbers stand for the states that wait.
+
+abbrev pub matcherIn : struct.Run → List ℤ
+matcherIn r = take (r .matcher) (r .matchers)
+
+abbrev pub patternIn : struct.Run → List ℤ
+patternIn r = take (r .pattern) (r .patterns)
+
+abbrev pub targetIn : struct.Run → List ℤ
+targetIn r = take (r .target) (r .targets)
+
+abbrev pub refusalIn : struct.Run → Numbers
+refusalIn r = record { answer = r .answer; place = r .place; rows = 0; steps = 0; words = 0; cause = r .cause }
+
+pub record Lengths (m p t : ℕ) : Type 0 where
+  pub matcher : m ≤ 64
+  pub pattern : p ≤ 256
+  pub target : t ≤ 1024
+
+pub data Kept (r : struct.Run) (l : Lent) : Type 0 where
+  refused : (r .answer ≡ 0 → ⊥) → l ≡ record { size = r .size; held = ended (refusalIn r) } → Kept r l
+  stands : r .answer ≡ 0 → Lengths (r .matcher) (r .pattern) (r .target) → (g : Ready (matcherIn r) (patternIn r) (targetIn r)) (h : Held) → l ≡ record { size = r .size; held = h }
+      → Standing (formBy (eqb (r .form) 2)) (matcherIn r) (patternIn r) (targetIn r) g (r .size) (r .state) (r .slots) (r .binds) h → Kept r l
+
+-- An advance of a run that holds what the last call left: the numbers, every word of the room, and what it then holds are those of `run_rules`.
+pub record Advances (r : struct.Run) (n : ℕ) (room : List ℤ) (o : out.Out) (room′ : List ℤ) : Type 0 where
+  pub as-held : (l : Lent) → Kept r l
+      → (told (o .told) ≡ advanced n room l .numbers) × (room′ ≡ advanced n room l .room) × Kept (o .run) (advanced n room l .run)
