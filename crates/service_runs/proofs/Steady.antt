@@ -4,17 +4,19 @@ use native.Mathlib.Omega.{arith}
 use mathlib.Core.Path.{_≡_, refl, sym, ap, ap₂, _∙_, subst}
 use mathlib.Core.Bool.{Bool, true, false, not}
 use mathlib.Core.List.{List}
-use lib.ListN.{length, getD, replicate}
+use lib.ListN.{length, getD}
 use lib.Dec.{ltb}
-use lib.IntN.{ℤ, pos}
+use lib.IntN.{ℤ}
 use borrow.Author.Needs.{needs}
 use borrow.Author.Tests.{ltb-true, ltb-false}
 use Rattle.words.specs.Words.{entries}
 use Rattle.tables.specs.Slot.{slotCount, Tables, section, byLine, viewOf}
+use Rattle.tables.specs.Line.{Columns, columnsOf, noLines}
+use Rattle.tables.specs.declared.line.Line.{Line}
 use Rattle.tables.specs.SlotLaws.{long-list, long-line}
 use Rattle.value_rows.specs.declared.Binding.{Binding}
 use Rattle.search_step.specs.declared.State.{State}
-use Rattle.search.specs.Run.{Env, env, Run, run, runOf}
+use Rattle.search.specs.Run.{Env, envOf, Run, run, runOf}
 use Rattle.search.specs.Valid.{Long, Valid}
 use Rattle.run_rules.specs.Lent.{allowed}
 use Rattle.rules.specs.Rows.{Form}
@@ -29,9 +31,9 @@ use Rattle.program_rules.specs.Meaning.{Means, means-end, means-strip, means-dr
 use Rattle.program_rules.specs.Meaning.{means-keep, means-choice, means-deny, means-cut, means-other, means-close}
 use Rattle.program_rules.specs.Closed.{closed-is}
 use Rattle.forms.specs.ReadPattern.{pattern-read}
-use Rattle.program_rules.specs.Lines.{Line, Columns, columns, linesOf, laid}
+use Rattle.program_rules.specs.Lines.{linesOf, laid}
 use Rattle.program_rules.specs.Slots.{numbered}
-use Rattle.program_rules.specs.Link.{opsIn, bindingsIn, tosBy, placed}
+use Rattle.program_rules.specs.Link.{opsIn, bindingsIn, linkedIn}
 use Rattle.program_rules.specs.Columns.{lineIn, Holds, compiled-zeros}
 use Rattle.services.specs.Matches.{Ready}
 use Rattle.services.proofs.Matches.{ready-sane, ready-fine, ready-target, matcher-few, pattern-few}
@@ -39,7 +41,7 @@ use Rattle.search.specs.Valid.{Fine}
 use Rattle.run_sound.specs.Tested.{Decides}
 use Rattle.run_sound.specs.Sound.{Numbered, Closes, Sound}
 use Rattle.run_sound.proofs.Tests.{refuted, upheld}
-use Rattle.service_runs.specs.Going.{Tries, columnsOf, envOf, runIn, Carries}
+use Rattle.service_runs.specs.Going.{Tries, linesIn, envIn, runIn, Carries}
 
 -- ---- The budget.
 
@@ -157,13 +159,18 @@ at-end reserves n z = let y : _≡_ {A = ℕ} 0 1 = cc in absurd (omega arith)
 at-end ends n z = omega arith
 at-end after-end n z = omega arith
 
-module _ (form : Form) (ms ps ts : List ℤ) (n : ℕ) (op from to arg mat : List ℕ) (con : List ℤ) (g : Ready ms ps ts) (vars : n ≡ bindingsIn (opsIn op 0 (length (linesOf ms ps))))
-    (is : columns op from arg mat con ≡ numbered (length (linesOf ms ps)) (laid 0 (linesOf ms ps) (columns (replicate entries 0) (replicate entries 0) (replicate entries 0) (replicate entries 0) (replicate entries (pos 0)))))
-    (tos : to ≡ placed 0 (tosBy (opsIn op 0 (length (linesOf ms ps)))) (replicate entries 0)) where
-  holds : Holds ms (g .rule) n (columns op from arg mat con) to
-  holds = compiled-zeros ms ps (g .rule) (g .rule-is) n (columns op from arg mat con) to vars is tos
+module _ (form : Form) (ms ps ts : List ℤ) (n : ℕ) (none lines : List ℕ) (g : Ready ms ps ts) (zeros : none ≡ noLines)
+    (vars : n ≡ bindingsIn (opsIn (columnsOf lines .op) 0 (length (linesOf ms ps))))
+    (is : columnsOf lines ≡ linkedIn (length (linesOf ms ps)) (numbered (length (linesOf ms ps)) (laid 0 (linesOf ms ps) (columnsOf none)))) where
+  lines-are : columnsOf lines ≡ linesIn ms ps
+  unfolding linesIn
+  lines-are = is ∙ ap (λ k. linkedIn (length (linesOf ms ps)) (numbered (length (linesOf ms ps)) (laid 0 (linesOf ms ps) (columnsOf k)))) zeros
 
-  end-last : (i : ℕ) → getD op i 0 ≡ 0 → instrs (g .rule .pattern) (g .rule .matcher) ≤ i
+  holds : Holds ms (g .rule) n (columnsOf lines)
+  unfolding linesIn
+  holds = compiled-zeros ms ps (g .rule) (g .rule-is) n (columnsOf lines) vars lines-are
+
+  end-last : (i : ℕ) → getD (columnsOf lines .op) i 0 ≡ 0 → instrs (g .rule .pattern) (g .rule .matcher) ≤ i
   unfolding lineIn
   end-last i z = go (ltb i (instrs (g .rule .pattern) (g .rule .matcher))) refl
     where
@@ -182,39 +189,31 @@ module _ (form : Form) (ms ps ts : List ℤ) (n : ℕ) (op from to arg mat : Lis
           absurd (omega arith)
       go false h = ltb-false i _ h
 
-  fine-is : Fine (env op from to arg mat con ms ts n form)
-  fine-is = ready-fine ms ps ts n op from to arg mat con form g vars is tos
+  fine-is : Fine (envOf (columnsOf lines) ms ts n form)
+  fine-is = ready-fine ms ps ts n none lines form g zeros vars is
 
-  pub lines-close : Closes op arg
+  pub lines-close : Closes (columnsOf lines .op) (columnsOf lines .arg)
   unfolding lineIn
   lines-close = record {
     last = fine-is .last;
     after = λ i j z l. let k = end-last i z in ap (λ (y : Line). y .arg) (holds .after j (omega arith));
   }
 
-  pub slots-numbered : (slots : List ℕ) → length slots ≡ 5 * slotCount → Numbered arg slots
+  pub slots-numbered : (slots : List ℕ) → length slots ≡ 5 * slotCount → Numbered (columnsOf lines .arg) slots
   unfolding viewOf
-  slots-numbered slots l = record { slot = fine-is .slot; long = long-line 4 arg slots (omega arith) (omega arith) }
+  slots-numbered slots l = record { slot = fine-is .slot; long = long-line 4 (columnsOf lines .arg) slots (omega arith) (omega arith) }
 
   -- What does not change is what the rule and the target say.
-  columns-are : (f : Columns → List ℕ) → f (columns op from arg mat con) ≡ f (columnsOf ms ps)
-  unfolding columnsOf
-  columns-are f = ap f is
-
-  env-is : env op from to arg mat con ms ts n form ≡ envOf form ms ps ts
-  unfolding envOf columnsOf
-  env-is = tos-and-vars ∙ ap (λ (k : Columns). env (k .op) (k .from) (placed 0 (tosBy (opsIn (k .op) 0 (length (linesOf ms ps)))) (replicate entries 0))
-      (k .arg) (k .mat) (k .con) ms ts (bindingsIn (opsIn (k .op) 0 (length (linesOf ms ps)))) form) is
-    where
-      tos-and-vars : env op from to arg mat con ms ts n form
-          ≡ env op from (placed 0 (tosBy (opsIn op 0 (length (linesOf ms ps)))) (replicate entries 0)) arg mat con ms ts (bindingsIn (opsIn op 0 (length (linesOf ms ps)))) form
-      tos-and-vars = ap₂ (λ a b. env op from a arg mat con ms ts b form) tos vars
+  env-is : envOf (columnsOf lines) ms ts n form ≡ envIn form ms ps ts
+  unfolding envIn
+  env-is = ap (λ k. envOf (columnsOf lines) ms ts k form) vars
+      ∙ ap (λ (k : Columns). envOf k ms ts (bindingsIn (opsIn (k .op) 0 (length (linesOf ms ps)))) form) lines-are
 
   pub carry-tried : (budget portion : ℕ) (x x′ : State) (slots slots′ : List ℕ) (b b′ : List Binding) (room room′ : List ℤ) (sound : Bool) → budget - x .steps ≡ allowed portion (x .steps)
-      → Tries (env op from to arg mat con ms ts n form) (budget - x .steps) (run x (viewOf arg slots) b room) sound (run x′ (viewOf arg slots′) b′ room′)
+      → Tries (envOf (columnsOf lines) ms ts n form) (budget - x .steps) (run x (viewOf (columnsOf lines .arg) slots) b room) sound (run x′ (viewOf (columnsOf lines .arg) slots′) b′ room′)
       → Carries form ms ps ts portion x slots b room sound x′ slots′ b′ room′
-  unfolding runIn envOf
+  unfolding runIn envIn
   carry-tried budget portion x x′ slots slots′ b b′ room room′ sound k t = record {
     tries = subst (λ (e : Env). Tries e (allowed portion (x .steps)) (run x (viewOf (e .arg) slots) b room) sound (run x′ (viewOf (e .arg) slots′) b′ room′)) env-is
-        (subst (λ i. Tries (env op from to arg mat con ms ts n form) i (run x (viewOf arg slots) b room) sound (run x′ (viewOf arg slots′) b′ room′)) k t);
+        (subst (λ i. Tries (envOf (columnsOf lines) ms ts n form) i (run x (viewOf (columnsOf lines .arg) slots) b room) sound (run x′ (viewOf (columnsOf lines .arg) slots′) b′ room′)) k t);
   }

@@ -3,17 +3,17 @@ use Prim.Native.Nat.{ℕ}
 use mathlib.Core.Path.{_≡_}
 use mathlib.Core.Bool.{Bool, true, false}
 use mathlib.Core.List.{List}
-use lib.ListN.{length, replicate}
-use lib.IntN.{ℤ, pos}
+use lib.ListN.{length}
+use lib.IntN.{ℤ}
 use Rattle.rules.specs.Rows.{Form}
-use Rattle.words.specs.Words.{entries}
-use Rattle.program_rules.specs.Lines.{linesOf, Columns, columns, laid}
+use Rattle.program_rules.specs.Lines.{linesOf, laid}
 use Rattle.program_rules.specs.Slots.{numbered}
-use Rattle.program_rules.specs.Link.{opsIn, bindingsIn, tosBy, placed}
+use Rattle.program_rules.specs.Link.{opsIn, bindingsIn, linkedIn}
+use Rattle.tables.specs.Line.{Columns, columnsOf, noLines}
 use Rattle.tables.specs.Slot.{viewOf}
 use Rattle.value_rows.specs.declared.Binding.{Binding}
 use Rattle.search_step.specs.declared.State.{State}
-use Rattle.search.specs.Run.{Env, env, Run, run, runOf}
+use Rattle.search.specs.Run.{Env, envOf, Run, run, runOf}
 use Rattle.search.specs.Valid.{Valid}
 use Rattle.run_rules.specs.Lent.{allowed}
 
@@ -22,23 +22,20 @@ pub record Tries (e : Env) (n : ℕ) (r : Run) (sound : Bool) (next : Run) : Typ
   pub went : sound ≡ true → next ≡ runOf e n r
   pub kept : sound ≡ false → (Valid e r → ⊥) × (next .room ≡ r .room)
 
--- The lines of a rule, laid into arrays of zeros, and what does not change in a run over them.
-unfoldable pub columnsOf : (ms ps : List ℤ) → Columns
-unfolding numbered
-columnsOf ms ps = numbered (length (linesOf ms ps))
-    (laid 0 (linesOf ms ps) (columns (replicate entries 0) (replicate entries 0) (replicate entries 0) (replicate entries 0) (replicate entries (pos 0))))
+-- The lines of a rule, laid where there was none, and what does not change in a run over them.
+unfoldable pub linesIn : (ms ps : List ℤ) → Columns
+unfolding columnsOf numbered
+linesIn ms ps = linkedIn (length (linesOf ms ps)) (numbered (length (linesOf ms ps)) (laid 0 (linesOf ms ps) (columnsOf noLines)))
 
-unfoldable pub envOf : Form → (ms ps ts : List ℤ) → Env
-unfolding columnsOf
-envOf form ms ps ts =
-    env (columnsOf ms ps .op) (columnsOf ms ps .from) (placed 0 (tosBy (opsIn (columnsOf ms ps .op) 0 (length (linesOf ms ps)))) (replicate entries 0))
-    (columnsOf ms ps .arg) (columnsOf ms ps .mat) (columnsOf ms ps .con) ms ts (bindingsIn (opsIn (columnsOf ms ps .op) 0 (length (linesOf ms ps)))) form
+unfoldable pub envIn : Form → (ms ps ts : List ℤ) → Env
+unfolding linesIn
+envIn form ms ps ts = envOf (linesIn ms ps) ms ts (bindingsIn (opsIn (linesIn ms ps .op) 0 (length (linesOf ms ps)))) form
 
 -- The run that the numbers are, over the slots of a rule's lines.
 unfoldable pub runIn : (ms ps : List ℤ) → State → (slots : List ℕ) → List Binding → (room : List ℤ) → Run
-unfolding columnsOf
-runIn ms ps x slots b room = run x (viewOf (columnsOf ms ps .arg) slots) b room
+unfolding linesIn
+runIn ms ps x slots b room = run x (viewOf (linesIn ms ps .arg) slots) b room
 
 -- By a portion of n steps.
 pub record Carries (form : Form) (ms ps ts : List ℤ) (n : ℕ) (x : State) (slots : List ℕ) (b : List Binding) (room : List ℤ) (sound : Bool) (x′ : State) (slots′ : List ℕ) (b′ : List Binding) (room′ : List ℤ) : Type 0 where
-  pub tries : Tries (envOf form ms ps ts) (allowed n (x .steps)) (runIn ms ps x slots b room) sound (runIn ms ps x′ slots′ b′ room′)
+  pub tries : Tries (envIn form ms ps ts) (allowed n (x .steps)) (runIn ms ps x slots b room) sound (runIn ms ps x′ slots′ b′ room′)

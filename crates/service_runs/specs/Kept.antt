@@ -18,19 +18,20 @@ use Rattle.program_rules.specs.Program.{program}
 use Rattle.program_rules.specs.Closed.{Closed, closed-is}
 use Rattle.program_rules.specs.Length.{instrs}
 use Rattle.program_rules.specs.Meaning.{Means}
-use Rattle.program_rules.specs.Lines.{Line}
 use Rattle.program_rules.specs.Columns.{lineIn, Holds, compiled-zeros}
 use Rattle.value_places.specs.Places.{Target}
 use Rattle.value_rows.specs.Row.{formBy}
 use Rattle.value_rows.specs.declared.Binding.{Binding}
 use Rattle.search_step.specs.declared.State.{State}
+use Rattle.tables.specs.declared.line.Line.{Line}
 use Rattle.tables.specs.Slot.{viewOf}
 use Rattle.search.specs.Run.{Env, Run, run, lineAt, runOf}
 use Rattle.search.specs.Valid.{Fine, Valid}
 use Rattle.services.specs.Matches.{Ready}
-use Rattle.services.proofs.Matches.{ready-sane, ready-fine, ready-target}
+use Rattle.services.proofs.Matches.{ready-sane, ready-target}
+use Rattle.search.proofs.Accepted.{accepted-fine}
 use Rattle.run_states.specs.Standing.{numbersOf, Going, Stood, over, goes-on, advance-told, advance-room, advance-held}
-use Rattle.service_runs.specs.Going.{Tries, columnsOf, envOf, runIn, Carries}
+use Rattle.service_runs.specs.Going.{Tries, linesIn, envIn, runIn, Carries}
 use Rattle.service_runs.specs.declared.run.Run as struct
 use Rattle.service_runs.specs.declared.run.Told as report
 use Rattle.service_runs.specs.declared.run.Out as out
@@ -59,58 +60,58 @@ module _ (form : Form) (ms ps ts : List ℤ) (g : Ready ms ps ts) where
   pub closed : Closed (g .rule .pattern)
   closed = closed-is (g .rule .pattern) true 0 0 (sane .rule .numbered .0) (sane .rule .numbered .1)
 
-  pub target-is : Target (envOf form ms ps ts .words)
-  unfolding envOf
+  pub target-is : Target (envIn form ms ps ts .words)
+  unfolding envIn
   target-is = ready-target ms ps ts g
 
-  pub fine : Fine (envOf form ms ps ts)
-  unfolding envOf columnsOf
-  fine = ready-fine ms ps ts _ _ _ _ _ _ _ _ g refl refl refl
+  pub holds : Holds ms (g .rule) (envIn form ms ps ts .vars) (linesIn ms ps)
+  unfolding envIn linesIn
+  holds = compiled-zeros ms ps (g .rule) (g .rule-is) _ _ refl refl
 
-  pub holds : Holds ms (g .rule) (envOf form ms ps ts .vars) (columnsOf ms ps) (envOf form ms ps ts .to)
-  unfolding envOf columnsOf
-  holds = compiled-zeros ms ps (g .rule) (g .rule-is) _ _ _ refl refl refl
+  pub fine : Fine (envIn form ms ps ts)
+  unfolding envIn linesIn
+  fine = accepted-fine ms ts (g .rule) _ (linesIn ms ps) form holds
 
   pub means : (pc : ℕ) → pc ≤ instrs (g .rule .pattern) (g .rule .matcher)
-      → Means (envOf form ms ps ts .matcher) (envOf form ms ps ts .vars) (lineAt (envOf form ms ps ts) pc) (getD (envOf form ms ps ts .to) pc 0) (program (g .rule .matcher) (g .rule .pattern) pc)
-  unfolding envOf lineAt lineIn
+      → Means (envIn form ms ps ts .matcher) (envIn form ms ps ts .vars) (lineAt (envIn form ms ps ts) pc) (getD (envIn form ms ps ts .to) pc 0) (program (g .rule .matcher) (g .rule .pattern) pc)
+  unfolding envIn lineAt lineIn
   means pc l = holds .means pc l
 
-  pub after : (pc : ℕ) → instrs (g .rule .pattern) (g .rule .matcher) < pc → getD (envOf form ms ps ts .op) pc 0 ≡ 0
-  unfolding envOf lineIn
+  pub after : (pc : ℕ) → instrs (g .rule .pattern) (g .rule .matcher) < pc → getD (envIn form ms ps ts .op) pc 0 ≡ 0
+  unfolding envIn lineIn
   after pc l = ap (λ (y : Line). y .op) (holds .after pc l)
 
   unfoldable pub Standing : (size : ℕ) → State → (slots : List ℕ) → List Binding → Held → Type 0
   Standing size x slots b h =
-      Stood (envOf form ms ps ts) target-is fine (g .rule .matcher) (g .rule .pattern) 0 (sane .rule .fitting .0) (sane .rule .fitting .1) wide closed means after size x
-      (viewOf (columnsOf ms ps .arg) slots) b h
+      Stood (envIn form ms ps ts) target-is fine (g .rule .matcher) (g .rule .pattern) 0 (sane .rule .fitting .0) (sane .rule .fitting .1) wide closed means after size x
+      (viewOf (linesIn ms ps .arg) slots) b h
 
   -- By a portion of n steps, where the run went on.
   module _ (n size : ℕ) (x x′ : State) (slots slots′ : List ℕ) (b b′ : List Binding) (room room′ : List ℤ) (l : length room ≡ size)
-      (went : runIn ms ps x′ slots′ b′ room′ ≡ runOf (envOf form ms ps ts) (allowed n (x .steps)) (runIn ms ps x slots b room)) (h : Held) (q : Standing size x slots b h) where
+      (went : runIn ms ps x′ slots′ b′ room′ ≡ runOf (envIn form ms ps ts) (allowed n (x .steps)) (runIn ms ps x slots b room)) (h : Held) (q : Standing size x slots b h) where
     pub went-told : numbersOf x′ ≡ tells n size h
     unfolding Standing runIn
     went-told = ap (λ (r : Run). numbersOf (r .state)) went
-        ∙ advance-told (envOf form ms ps ts) target-is fine (g .rule .matcher) (g .rule .pattern) 0 (sane .rule .fitting .0) (sane .rule .fitting .1) wide closed means after n size x
-        (viewOf (columnsOf ms ps .arg) slots) b room l h q
+        ∙ advance-told (envIn form ms ps ts) target-is fine (g .rule .matcher) (g .rule .pattern) 0 (sane .rule .fitting .0) (sane .rule .fitting .1) wide closed means after n size x
+        (viewOf (linesIn ms ps .arg) slots) b room l h q
 
     pub went-room : room′ ≡ roomAfter n size h room
     unfolding Standing runIn
     went-room = ap (λ (r : Run). r .room) went
-        ∙ advance-room (envOf form ms ps ts) target-is fine (g .rule .matcher) (g .rule .pattern) 0 (sane .rule .fitting .0) (sane .rule .fitting .1) wide closed means after n size x
-        (viewOf (columnsOf ms ps .arg) slots) b room l h q
+        ∙ advance-room (envIn form ms ps ts) target-is fine (g .rule .matcher) (g .rule .pattern) 0 (sane .rule .fitting .0) (sane .rule .fitting .1) wide closed means after n size x
+        (viewOf (linesIn ms ps .arg) slots) b room l h q
 
     pub went-held : Standing size x′ slots′ b′ (heldAfter n size h)
     unfolding Standing runIn
     went-held = subst
-        (λ (r : Run). Stood (envOf form ms ps ts) target-is fine (g .rule .matcher) (g .rule .pattern) 0 (sane .rule .fitting .0) (sane .rule .fitting .1) wide closed means after size
+        (λ (r : Run). Stood (envIn form ms ps ts) target-is fine (g .rule .matcher) (g .rule .pattern) 0 (sane .rule .fitting .0) (sane .rule .fitting .1) wide closed means after size
         (r .state) (r .tables) (r .binds) (heldAfter n size h)) (sym went)
-        (advance-held (envOf form ms ps ts) target-is fine (g .rule .matcher) (g .rule .pattern) 0 (sane .rule .fitting .0) (sane .rule .fitting .1) wide closed means after n size x
-        (viewOf (columnsOf ms ps .arg) slots) b room l h q)
+        (advance-held (envIn form ms ps ts) target-is fine (g .rule .matcher) (g .rule .pattern) 0 (sane .rule .fitting .0) (sane .rule .fitting .1) wide closed means after n size x
+        (viewOf (linesIn ms ps .arg) slots) b room l h q)
 
   -- A run that stands and goes on is valid; one in which no state stands has ended.
   pub standing-valid : (size : ℕ) (x : State) (slots : List ℕ) (b : List Binding) (h : Held) (room : List ℤ) → length room ≡ size → x .live ≡ 1 → Standing size x slots b h
-      → Valid (envOf form ms ps ts) (runIn ms ps x slots b room)
+      → Valid (envIn form ms ps ts) (runIn ms ps x slots b room)
   unfolding Standing runIn
   standing-valid size x slots b h room l e (over f q) = absurd (f e)
   standing-valid size x slots b h room l e (goes-on s ss q w) = w .valid room l

@@ -4,21 +4,22 @@ use run_sound::is_sound;
 use search::Found;
 use search::advance;
 use search_step::State;
-use tables::slot::Numbers;
+use tables::line::Lines;
+use tables::line::no_lines;
 use tables::slot::Slots;
 use value_places::places::ends_of;
 use value_places::places::places_of;
 use value_rows::Binding;
-use words::ENTRIES;
 use words::casts::wide;
 ghost use mathlib.Core.Path.{_≡_};
 ghost use Prim.Native.Nat.{_-_};
 ghost use Rattle.run_rules.specs.Lent.{allowed};
 ghost use Rattle.value_rows.specs.Row.{formBy};
 ghost use Rattle.services.specs.Matches.{Ready};
+ghost use Rattle.tables.specs.Line.{columnsOf};
 ghost use Rattle.tables.specs.Slot.{viewOf};
 ghost use Rattle.value_places.specs.Places.{Target};
-ghost use Rattle.search.specs.Run.{env, run, runOf};
+ghost use Rattle.search.specs.Run.{envOf, run, runOf};
 ghost use Rattle.search.specs.Valid.{Fine, Valid};
 ghost use Rattle.run_sound.specs.Sound.{Numbered, Closes};
 ghost use Rattle.service_runs.specs.Going.{Tries, Carries};
@@ -49,17 +50,12 @@ fn search_on(
     origins: bool,
     m: &[i32],
     t: &[i32],
-    op: &[u8; ENTRIES],
-    from: &[u16; ENTRIES],
-    to: &[u16; ENTRIES],
-    arg: &Numbers,
-    mat: &[u8; ENTRIES],
-    con: &[i32; ENTRIES],
+    lines: &Lines,
     slots: &mut Slots,
     room: &mut [i32],
 ) -> Found
-    requires { ⌜ Target (now t) ⌝ ∗ ⌜ Fine (env (now op) (now from) (now to) (now arg) (now mat) (now con) (now m) (now t) n (formBy origins)) ⌝ ∗ ⌜ Valid (env (now op) (now from) (now to) (now arg) (now mat) (now con) (now m) (now t) n (formBy origins)) (run x (viewOf (now arg) (now slots)) b (now room)) ⌝ }
-    ensures { λ r. ⌜ run (r .state) (viewOf (now (arg .entry)) (now (slots .exit))) (r .binds) (now (room .exit)) ≡ runOf (env (now (op .entry)) (now (from .entry)) (now (to .entry)) (now (arg .entry)) (now (mat .entry)) (now (con .entry)) (now (m .entry)) (now (t .entry)) n (formBy origins)) (budget - x .steps) (run x (viewOf (now (arg .entry)) (now (slots .entry))) b (now (room .entry))) ⌝ }
+    requires { ⌜ Target (now t) ⌝ ∗ ⌜ Fine (envOf (columnsOf (now lines)) (now m) (now t) n (formBy origins)) ⌝ ∗ ⌜ Valid (envOf (columnsOf (now lines)) (now m) (now t) n (formBy origins)) (run x (viewOf (columnsOf (now lines) .arg) (now slots)) b (now room)) ⌝ }
+    ensures { λ r. ⌜ run (r .state) (viewOf (columnsOf (now (lines .entry)) .arg) (now (slots .exit))) (r .binds) (now (room .exit)) ≡ runOf (envOf (columnsOf (now (lines .entry))) (now (m .entry)) (now (t .entry)) n (formBy origins)) (budget - x .steps) (run x (viewOf (columnsOf (now (lines .entry)) .arg) (now (slots .entry))) b (now (room .entry))) ⌝ }
 {
     let mut ends = [0u16; 512];
     let mut base = [0u16; 512];
@@ -77,12 +73,7 @@ fn search_on(
         &ends,
         &base,
         &places,
-        op,
-        from,
-        to,
-        arg,
-        mat,
-        con,
+        lines,
         slots,
         room,
     )
@@ -104,42 +95,21 @@ fn try_on(
     origins: bool,
     m: &[i32],
     t: &[i32],
-    op: &[u8; ENTRIES],
-    from: &[u16; ENTRIES],
-    to: &[u16; ENTRIES],
-    arg: &Numbers,
-    mat: &[u8; ENTRIES],
-    con: &[i32; ENTRIES],
+    lines: &Lines,
     slots: &mut Slots,
     room: &mut [i32],
 ) -> Tried
-    requires { ⌜ Target (now t) ⌝ ∗ ⌜ Fine (env (now op) (now from) (now to) (now arg) (now mat) (now con) (now m) (now t) n (formBy origins)) ⌝ ∗ ⌜ Numbered (now arg) (now slots) ⌝ ∗ ⌜ Closes (now op) (now arg) ⌝ ∗ ⌜ x .live ≡ 1 ⌝ }
-    ensures { λ r. ⌜ Tries (env (now (op .entry)) (now (from .entry)) (now (to .entry)) (now (arg .entry)) (now (mat .entry)) (now (con .entry)) (now (m .entry)) (now (t .entry)) n (formBy origins)) (budget - x .steps) (run x (viewOf (now (arg .entry)) (now (slots .entry))) b (now (room .entry))) (r .sound) (run (r .state) (viewOf (now (arg .entry)) (now (slots .exit))) (r .binds) (now (room .exit))) ⌝ }
+    requires { ⌜ Target (now t) ⌝ ∗ ⌜ Fine (envOf (columnsOf (now lines)) (now m) (now t) n (formBy origins)) ⌝ ∗ ⌜ Numbered (columnsOf (now lines) .arg) (now slots) ⌝ ∗ ⌜ Closes (columnsOf (now lines) .op) (columnsOf (now lines) .arg) ⌝ ∗ ⌜ x .live ≡ 1 ⌝ }
+    ensures { λ r. ⌜ Tries (envOf (columnsOf (now (lines .entry))) (now (m .entry)) (now (t .entry)) n (formBy origins)) (budget - x .steps) (run x (viewOf (columnsOf (now (lines .entry)) .arg) (now (slots .entry))) b (now (room .entry))) (r .sound) (run (r .state) (viewOf (columnsOf (now (lines .entry)) .arg) (now (slots .exit))) (r .binds) (now (room .exit))) ⌝ }
 {
-    if !is_sound(x, b, room.len(), t, op, arg, slots) {
+    if !is_sound(x, b, room.len(), t, lines, slots) {
         return Tried {
             sound: false,
             state: x,
             binds: b,
         };
     }
-    let found = search_on(
-        x,
-        b,
-        budget,
-        n,
-        origins,
-        m,
-        t,
-        op,
-        from,
-        to,
-        arg,
-        mat,
-        con,
-        slots,
-        room,
-    );
+    let found = search_on(x, b, budget, n, origins, m, t, lines, slots, room);
     let state = found.state;
     let binds = found.binds;
     Tried {
@@ -173,40 +143,10 @@ pub fn carry_on(
     ensures { λ r. ⌜ Carries (formBy origins) (now (m .entry)) (now (p .entry)) (now (t .entry)) portion x slots b (now (room .entry)) (r .sound) (r .state) (r .slots) (r .binds) (now (room .exit)) ⌝ }
 {
     let mut left = slots;
-    let mut op = [0u8; ENTRIES];
-    let mut from = [0u16; ENTRIES];
-    let mut arg = [0u16; ENTRIES];
-    let mut mat = [0u8; ENTRIES];
-    let mut con = [0i32; ENTRIES];
-    let mut to = [0u16; ENTRIES];
-    let n = compile(
-        m,
-        p,
-        &mut op,
-        &mut from,
-        &mut arg,
-        &mut mat,
-        &mut con,
-        &mut to,
-    );
+    let mut lines = no_lines();
+    let n = compile(m, p, &mut lines);
     let budget = budget_of(x.steps, portion);
-    let tried = try_on(
-        x,
-        b,
-        budget,
-        n,
-        origins,
-        m,
-        t,
-        &op,
-        &from,
-        &to,
-        &arg,
-        &mat,
-        &con,
-        &mut left,
-        room,
-    );
+    let tried = try_on(x, b, budget, n, origins, m, t, &lines, &mut left, room);
     let state = tried.state;
     let binds = tried.binds;
     Carried {
