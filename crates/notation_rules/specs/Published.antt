@@ -1,5 +1,5 @@
--- Published examples in the notation in which they were published, without their bodies: each is read as the rule that stands in the gate in words.
--- (Source documents 000 and 003; the words are those of the cases that the gate plays.)
+-- Published examples in the notation in which they were published, without their bodies: each is read as the rule whose words stand beside it.
+-- (Source documents 000 and 003. The gate plays nine of them; seven were published in the order of No. 10.)
 use Prim.Native.String.{String}
 use mathlib.Core.Path.{_≡_, refl}
 use mathlib.Core.Option.{none, some}
