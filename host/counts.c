@@ -1,5 +1,6 @@
 /* Reads rules, three lines each (a name, the matcher, the pattern), has each
  * reviewed for the caps 8, 16, 32 and 64, and prints a row of a table for it. */
+#include "line.h"
 #include "lozhbinor.h"
 
 #include <inttypes.h>
@@ -8,18 +9,6 @@
 #include <string.h>
 
 enum { LONGEST = 4096, MOST = 512 };
-
-/* The words of a line. */
-static size_t words_of(char *line, int32_t *words)
-{
-    size_t count = 0;
-    char *end;
-    for (long word = strtol(line, &end, 10); end != line && count < MOST; word = strtol(line, &end, 10)) {
-        words[count++] = (int32_t)word;
-        line = end;
-    }
-    return count;
-}
 
 /* A number with commas between its thousands. */
 static void print_number(uint32_t n)
@@ -43,10 +32,10 @@ int main(void)
         name[strcspn(name, "\n")] = '\0';
         if (fgets(line, sizeof line, stdin) == NULL)
             return 1;
-        size_t matcher_length = words_of(line, matcher);
+        size_t matcher_length = words_of(line, matcher, MOST);
         if (fgets(line, sizeof line, stdin) == NULL)
             return 1;
-        size_t pattern_length = words_of(line, pattern);
+        size_t pattern_length = words_of(line, pattern, MOST);
         printf("| %s |", name);
         for (size_t k = 0; k < sizeof caps / sizeof caps[0]; k++) {
             lozhbinor_review(matcher, matcher_length, pattern, pattern_length, caps[k], numbers, sizeof numbers);

@@ -2,6 +2,7 @@
  * has each matched with its rows in form 2, and prints a row of a table for it:
  * the units, those that the first row tells one by one in bold, those that a
  * variable took together in italics. */
+#include "line.h"
 #include "lozhbinor.h"
 
 #include <inttypes.h>
@@ -12,18 +13,6 @@
 enum { LONGEST = 16384, MOST = 2048, ROOM = 4096 };
 
 static int32_t matcher[MOST], pattern[MOST], target[MOST], room[ROOM];
-
-/* The words of a line. */
-static size_t words_of(char *line, int32_t *words)
-{
-    size_t count = 0;
-    char *end;
-    for (long word = strtol(line, &end, 10); end != line && count < MOST; word = strtol(line, &end, 10)) {
-        words[count++] = (int32_t)word;
-        line = end;
-    }
-    return count;
-}
 
 /* Where the value at an index ends. */
 static size_t end_of(size_t at)
@@ -98,7 +87,7 @@ int main(void)
         for (size_t k = 0; k < 3; k++) {
             if (fgets(line, sizeof line, stdin) == NULL)
                 return 1;
-            length[k] = words_of(line, into[k]);
+            length[k] = words_of(line, into[k], MOST);
         }
         lozhbinor_match_with(LOZHBINOR_FORM_ORIGINS, matcher, length[0], pattern, length[1], target, length[2], UINT32_MAX, room, ROOM, numbers,
                              sizeof numbers);
