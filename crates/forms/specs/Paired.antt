@@ -80,7 +80,7 @@ module _ (E : Value → Value → Bool) (eq : Equiv E) where
   paired-symm (v ▸ vs) ws p = more ws (p .0) v (p .1) vs (v ▸ vs) (p .3) (inl (refl, refl)) (eq .symm v (p .0) (p .2)) (paired-symm vs (p .1) (p .4))
 
   -- An element of the left side with its partner, taken out.
-  less : (vs : Values) (v : Value) (us ws : Values) → Ins v us vs → Paired E vs ws → (w : Value) × (xs : Values) × T (E v w) × Ins w xs ws × Paired E us xs
+  pub less : (vs : Values) (v : Value) (us ws : Values) → Ins v us vs → Paired E vs ws → (w : Value) × (xs : Values) × T (E v w) × Ins w xs ws × Paired E us xs
   less empty v us ws i p = absurd i
   less (y ▸ vs) v us ws (inl i) p = (p .0, p .1, subst (λ z. T (E z (p .0))) (sym (i .0)) (p .2), p .3, subst (λ z. Paired E z (p .1)) (sym (i .1)) (p .4))
   less (y ▸ vs) v us ws (inr i) p =

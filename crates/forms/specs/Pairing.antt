@@ -50,7 +50,7 @@ ins-pick empty x us i = absurd i
 ins-pick (w ▸ ws) x us (inl i) = List·Memᴰ·head (λ j. record { one = i .0 j; others = i .1 j })
 ins-pick (w ▸ ws) x us (inr i) = List·Memᴰ·tail (Memᴰ·cast (λ j. record { one = x; others = i .1 j }) (Memᴰ·map (behind w) (ins-pick ws x (i .0) (i .2))))
 
-paired-off-true : (E : Value → Value → Bool) (vs ws : Values) → T (pairedOff E vs ws) → Paired E vs ws
+pub paired-off-true : (E : Value → Value → Bool) (vs ws : Values) → T (pairedOff E vs ws) → Paired E vs ws
 unfolding pairedOff
 paired-off-true E empty empty t = tt
 paired-off-true E empty (w ▸ ws) t = t
@@ -59,7 +59,7 @@ paired-off-true E (v ▸ vs) ws t =
     let s = and-split (E v (r .0 .one)) (pairedOff E vs (r .0 .others)) (r .2) in
     (r .0 .one, r .0 .others, s .0, pick-ins ws (r .0) (r .1), paired-off-true E vs (r .0 .others) (s .1))
 
-true-paired-off : (E : Value → Value → Bool) (vs ws : Values) → Paired E vs ws → T (pairedOff E vs ws)
+pub true-paired-off : (E : Value → Value → Bool) (vs ws : Values) → Paired E vs ws → T (pairedOff E vs ws)
 unfolding pairedOff
 true-paired-off E empty empty p = tt
 true-paired-off E empty (w ▸ ws) p = p

@@ -80,16 +80,25 @@ unfolding test
 passed n (ok a) f r e = (a, refl, e)
 passed n (fault i) f r e = let z : _≡_ {A = ℕ} 0 1 = cc in absurd (suc-ne-zero 0 (sym z))
 
-pub well-formed-also : (dialect : Dialect) (ms ps : List ℤ) (r : Rule) → ruleIn dialect ms ps ≡ accepted r → WellFormed ms ps r
+-- What was read, and that it passed.
+pub accepted-read : (dialect : Dialect) (ms ps : List ℤ) (r : Rule) → ruleIn dialect ms ps ≡ accepted r
+    → (readMatcher ms ≡ ok (r .matcher)) × (readPattern ps ≡ ok (r .pattern))
+    × (n : ℕ) × (ks : List Matcher) × (variables (r .pattern) true 0 0 ≡ ok n) × (fitsIn dialect (r .pattern) (r .matcher) 0 [] ≡ ok ks)
 unfolding ruleIn
-well-formed-also dialect ms ps r e =
+accepted-read dialect ms ps r e =
     let a = passed 1 (readMatcher ms) _ r e in
     let b = passed 2 (readPattern ps) _ r (a .2) in
     let c = passed 3 (variables (b .0) true 0 0) _ r (b .2) in
     let d = passed 4 (fitsIn dialect (b .0) (a .0) 0 []) _ r (c .2) in
     let z : _≡_ {A = Rule} (record { matcher = a .0; pattern = b .0 }) r = cc in
-    subst (λ (x : Rule). WellFormed ms ps x) z
-    (record { matcher = a .1; pattern = b .1; numbered = (c .0, c .1); fitting = (d .0, fits-also dialect (b .0) (a .0) 0 [] (d .0) (d .1)) })
+    subst (λ (x : Rule). (readMatcher ms ≡ ok (x .matcher)) × (readPattern ps ≡ ok (x .pattern))
+    × (n : ℕ) × (ks : List Matcher) × (variables (x .pattern) true 0 0 ≡ ok n) × (fitsIn dialect (x .pattern) (x .matcher) 0 [] ≡ ok ks)) z
+    (a .1, b .1, c .0, d .0, c .1, d .1)
+
+pub well-formed-also : (dialect : Dialect) (ms ps : List ℤ) (r : Rule) → ruleIn dialect ms ps ≡ accepted r → WellFormed ms ps r
+well-formed-also dialect ms ps r e =
+    let t = accepted-read dialect ms ps r e in
+    record { matcher = t .0; pattern = t .1; numbered = (t .2, t .4); fitting = (t .3, fits-also dialect (r .pattern) (r .matcher) 0 [] (t .3) (t .5)) }
 
 pub sane-also : (dialect : Dialect) (ms ps ts : List ℤ) (r : Rule) (v : Value) → ruleIn dialect ms ps ≡ accepted r → targetOf (r .matcher) ts ≡ accepted v
     → Sane ms ps ts r v

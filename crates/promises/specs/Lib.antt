@@ -19,7 +19,11 @@ pub mod Exact
 pub mod Room
 pub mod Reviewing
 pub mod Also
+pub mod Told
+pub mod Alike
+pub mod Fewer
 pub mod Matching
+pub mod Dialects
 pub mod Reaching
 pub mod Found
 pub mod Causes

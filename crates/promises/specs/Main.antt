@@ -10,11 +10,11 @@
 -- Reached      review's figure never exceeds the old one, and is reached
 -- Refusals     answers 1 to 6 by the first fault, with its place and cause, or a run
 -- Values       equality, sums; words are read one way
--- Dialects     what dialect 2 is beside dialect 1; the parts above but Determined, Reached, Refusals and Values take the dialect
+-- Dialects     what dialect 2 is beside dialect 1: some of its states and rows; the parts above but Determined, Reached, Refusals and Values take the dialect
 --
 -- The words that the statements use are defined in Trace (trace, order, seen), Solve (founds), Nots (inner), Listing (Listing), Budget (report, Full,
 -- Outcome), Matching (states, ways, rowsOfWays), Reviewing (Review, TooBig, AlwaysTrue, Outside, countOf), OldFigure (oldFormula), Exact (Chain),
--- Reaching (equals) and, in the crate forms, in Written (the words, the numbers and the widths of the forms), Faults, Wrong (Wrong, Says) and Pairing
+-- Reaching (equals), FirstPlaces (Some), Dialects (NoMore), Told (Told), Suited (Suits) and, in the crate forms, in Written (the words, the numbers and the widths of the forms), Faults, Wrong (Wrong, Says) and Pairing
 -- (greedy).
 pub mod Determined
 pub mod Ways

@@ -150,7 +150,7 @@ mutual
       ∙ sym (sides (solve dialect p m v e) (solve dialect q m v e) (λ d. stops (k d)))
   stops-visit dialect (never p) m v e k = nothing (visit dialect p m v e (λ d. ended ∷ [])) (solve dialect p m v e) e k (stops-visit dialect p m v e (λ d. ended ∷ []))
 
-  stops-each : (dialect : Dialect) (ps : Patterns) (ms : Matchers) (vs : Valuesᵒ) (e : Bindings) (k : Bindings → List Met)
+  pub stops-each : (dialect : Dialect) (ps : Patterns) (ms : Matchers) (vs : Valuesᵒ) (e : Bindings) (k : Bindings → List Met)
       → stops (visitEach dialect ps ms vs e k) ≡ flatMap (λ s. stops (k (s .bound))) (solveEach dialect ps ms vs e)
   stops-each dialect noPatterns ms vs e k = leaf true e k
   stops-each dialect (p ▸ᵖ ps) noMatchers vs e k = leaf true e k
