@@ -1,6 +1,10 @@
 //! The library through its C border: words as they are, the numbers in bytes, eight each, low byte first.
 
 use crate::reference::{Matched, Reviewed};
+use crate::scripts::Picks;
+
+/// Whether No. 13 has landed.
+pub const DIALECTS: bool = false;
 
 extern "C" {
     fn lozhbinor_match(
@@ -166,6 +170,14 @@ pub fn match_in(form: u32, words: [&[i32]; 3], budget: u32, room: &mut [i32]) ->
     let mut bytes = [MARK; 56];
     let answer = call_match_with(form, words, budget, room, &mut bytes);
     numbers(&bytes, answer)
+}
+
+/// The picks that there are: the forms of No. 9. What a later request lets the caller pick is a line here, when it lands.
+pub fn picked(picks: Picks, words: [&[i32]; 3], budget: u32, room: &mut [i32]) -> Option<Matched> {
+    match picks {
+        [form, 1, 1, ..] => Some(match_in(form, words, budget, room)),
+        _ => None,
+    }
 }
 
 /// Rows in form 2.

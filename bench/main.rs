@@ -2,7 +2,9 @@
 //!   bench cases FILE..             case files, through the reference and through the services
 //!   bench compare N SEED           N random inputs: the services against the reference
 //!   bench rules                    what is measured: name, bar in tenths of an instruction, for a `step` or a `call`, and what it is
-//!   bench speed CASE ROUNDS WHO    one of them again and again, by `plain`, `tuned`, `library` or `origins` (the library in row form 2); prints the steps of one run
+//!   bench speed CASE ROUNDS WHO [BUDGET]   one of them, or `join` or `two`, again and again, by `plain`, `tuned`, `library` or the library as `origins` (row form 2), `once` (dialect 2),
+//!                                  `rounds` (the other search order); prints the steps of one run
+//!   bench beside                   what is measured beside the library as it is: who, in tenths the most of its instructions, cases; only what there is
 //!   bench listing ROUNDS           a book of 1,000 rules tested and listed again and again; prints the words of its blocks, and the bar
 //!   bench stack                    the deepest stack of a call in bytes, and its bar
 //! The services are the library's, through the C border (built with `--cfg library`), or else those of a slow second program.
@@ -29,41 +31,71 @@ pub struct Services {
     pub name: &'static str,
     pub match_words: fn(&[i32], &[i32], &[i32], u32, &mut [i32]) -> reference::Matched,
     pub review: fn(&[i32], &[i32], i32) -> reference::Reviewed,
-    pub match_in: Option<fn(u32, [&[i32]; 3], u32, &mut [i32]) -> reference::Matched>,
+    /// Match with what the caller picks; none for picks that there are not yet.
+    pub picked: fn(scripts::Picks, [&[i32]; 3], u32, &mut [i32]) -> Option<reference::Matched>,
     pub review_with: Option<fn(u32, &[i32], &[i32], i32) -> reference::Reviewed>,
     pub book: Option<scripts::Book>,
-    pub open: Option<fn(scripts::Picks, [&[i32]; 3], u32) -> (scripts::Advance, [u64; 3])>,
+    /// The opening of a run with what the caller picks; none for picks that there are not yet.
+    pub open: fn(scripts::Picks, [&[i32]; 3], u32) -> Option<(scripts::Advance, [u64; 3])>,
 }
 
-/// A run of the reference, of the form, order and dialect of document 01.
-fn open_reference(_: scripts::Picks, words: [&[i32]; 3], room: u32) -> (scripts::Advance, [u64; 3]) {
-    let (mut run, answer) = reference::run::Run::open(words, room as usize);
-    (Box::new(move |steps, room| run.advance(steps, room)), answer)
+impl Services {
+    /// Whether a match with these picks is there.
+    pub fn takes(&self, picks: scripts::Picks) -> bool {
+        (self.picked)(picks, [&[1], &[0], &[0, 7]], 0, &mut []).is_some()
+    }
+}
+
+/// Whether the calls that are tested know dialects, No. 13: only then does a rule book refuse what a dialect does.
+#[cfg(library)]
+pub use library::DIALECTS;
+#[cfg(not(library))]
+pub const DIALECTS: bool = true;
+
+fn picked_reference(picks: scripts::Picks, words: [&[i32]; 3], budget: u32, room: &mut [i32]) -> Option<reference::Matched> {
+    let [form, order, dialect, table, less] = picks;
+    let table = (order == 2).then(|| table.saturating_sub(less) as usize);
+    Some(reference::match_picked(reference::Picked { form, dialect, table }, words, budget, room))
+}
+
+/// A run goes depth-first.
+fn open_reference(picks: scripts::Picks, words: [&[i32]; 3], room: u32) -> Option<(scripts::Advance, [u64; 3])> {
+    let [form, _, dialect, ..] = picks;
+    let (mut run, answer) = reference::run::Run::open(form, dialect, words, room as usize);
+    Some((Box::new(move |steps, room| run.advance(steps, room)), answer))
+}
+
+fn no_picks(_: scripts::Picks, _: [&[i32]; 3], _: u32, _: &mut [i32]) -> Option<reference::Matched> {
+    None
+}
+
+fn no_run(_: scripts::Picks, _: [&[i32]; 3], _: u32) -> Option<(scripts::Advance, [u64; 3])> {
+    None
 }
 
 const REFERENCE: Services = Services {
     name: "the reference",
     match_words: reference::match_words,
     review: reference::review,
-    match_in: Some(reference::match_in),
-    review_with: None,
+    picked: picked_reference,
+    review_with: Some(reference::review_with),
     book: Some(scripts::Book {
         add: reference::book::add,
         withdraw: reference::book::withdraw,
         total: reference::book::total,
         read: reference::book::read,
     }),
-    open: Some(open_reference),
+    open: open_reference,
 };
 
 const TUNED: Services = Services {
     name: "the tuned program",
     match_words: reference::tuned::match_words,
     review: reference::review,
-    match_in: None,
-    review_with: None,
+    picked: no_picks,
+    review_with: Some(reference::review_with),
     book: None,
-    open: None,
+    open: no_run,
 };
 
 #[cfg(library)]
@@ -71,7 +103,7 @@ const TESTED: Services = Services {
     name: "the library",
     match_words: library::match_words,
     review: library::review,
-    match_in: Some(library::match_in),
+    picked: library::picked,
     review_with: None,
     book: Some(scripts::Book {
         add: library::book_add,
@@ -79,7 +111,7 @@ const TESTED: Services = Services {
         total: library::book_total,
         read: library::book_read,
     }),
-    open: None,
+    open: no_run,
 };
 
 #[cfg(not(library))]
@@ -87,10 +119,10 @@ const TESTED: Services = Services {
     name: "the slow program",
     match_words: model::match_words,
     review: model::review,
-    match_in: None,
-    review_with: None,
+    picked: model::picked,
+    review_with: Some(model::review_with),
     book: None,
-    open: None,
+    open: no_run,
 };
 
 fn run_cases(services: &Services, paths: &[String]) -> bool {
@@ -110,9 +142,12 @@ fn run_comparison(inputs: u64, seed: u64) -> bool {
     println!("{}: {} slices too short for the numbers, answer 24, nothing written", TESTED.name, library::short());
     let tally = compare::random(&TESTED, inputs, seed);
     println!("{} against the reference: {} random inputs, {} differ", TESTED.name, tally.inputs, tally.differ);
-    println!("  by answer, 0 to 11 and 20: {:?} {}", &tally.answers[..12], tally.answers[20]);
-    println!("  of these under tuples: {:?}", &tally.tuples[..12]);
-    println!("  of these with and, or, not: {:?}", &tally.choices[..12]);
+    let by_answer = |name: &str, of: &[u64; 23]| println!("  {name}: {:?}, {:?}", &of[..12], &of[20..]);
+    by_answer("by answer, 0 to 11 and 20 to 22", &tally.answers);
+    by_answer("of these under tuples", &tally.tuples);
+    by_answer("of these with and, or, not", &tally.choices);
+    by_answer("of these in dialect 2", &tally.dialects);
+    by_answer("of these by rounds", &tally.rounds);
     println!("  answer 5 by cause, 1 to 7: {:?}", &tally.causes[1..]);
     let books = match &TESTED.book {
         Some(book) => books::random(book, inputs, seed),
@@ -138,16 +173,35 @@ const ORIGINS: Services = Services { match_words: library::match_origins, ..TEST
 #[cfg(not(library))]
 const ORIGINS: Services = TESTED;
 
-fn run_speed(name: &str, rounds: u64, who: &str) -> bool {
+/// Dialect 2; and the other search order, in a table of the most states with which a round may begin.
+const IN_DIALECT_2: scripts::Picks = [1, 1, 2, 0, 0];
+const BY_ROUNDS: scripts::Picks = [1, 2, 1, 256, 0];
+
+const ONCE: Services = Services { match_words: |m, p, t, budget, room| (TESTED.picked)(IN_DIALECT_2, [m, p, t], budget, room).unwrap(), ..TESTED };
+const ROUNDS: Services = Services { match_words: |m, p, t, budget, room| (TESTED.picked)(BY_ROUNDS, [m, p, t], budget, room).unwrap(), ..TESTED };
+
+fn run_speed(name: &str, rounds: u64, who: &str, budget: Option<u32>) -> bool {
     let services = match who {
         "plain" => &REFERENCE,
         "tuned" => &TUNED,
         "origins" => &ORIGINS,
+        "once" => &ONCE,
+        "rounds" => &ROUNDS,
         _ => &TESTED,
     };
-    let case = speed::CASES.iter().find(|case| case.name == name);
+    let case = speed::CASES.iter().chain(&speed::EITHER_ORDER).find(|case| case.name == name);
     let case = case.unwrap_or_else(|| panic!("no case {name}: bench rules lists them"));
-    println!("{}", case.run(services, rounds));
+    println!("{}", case.run(services, rounds, budget));
+    true
+}
+
+fn list_beside() -> bool {
+    if TESTED.takes(IN_DIALECT_2) {
+        println!("once {} T2", speed::DIALECT_BAR);
+    }
+    if TESTED.takes(BY_ROUNDS) {
+        println!("rounds {} T1 {}", speed::ROUNDS_BAR, speed::EITHER_ORDER.map(|case| case.name).join(" "));
+    }
     true
 }
 
@@ -182,11 +236,14 @@ fn main() {
         Some("cases") => [REFERENCE, TUNED, TESTED].iter().all(|services| run_cases(services, &words[1..])),
         Some("compare") => run_comparison(number(&words, 1), number(&words, 2)),
         Some("rules") => list_rules(),
-        Some("speed") if words.len() == 4 => run_speed(&words[1], number(&words, 2), &words[3]),
+        Some("speed") if words.len() >= 4 => {
+            run_speed(&words[1], number(&words, 2), &words[3], words.get(4).map(|_| number(&words, 4) as u32))
+        }
+        Some("beside") => list_beside(),
         Some("listing") => run_listing(number(&words, 1)),
         Some("stack") => run_stack(),
         Some("recount") => recount(&words[1..]),
-        _ => panic!("bench cases FILE.. | compare N SEED | rules | speed CASE ROUNDS WHO | listing ROUNDS | stack | recount FILE.."),
+        _ => panic!("bench cases FILE.. | compare N SEED | rules | speed CASE ROUNDS WHO [BUDGET] | beside | listing ROUNDS | stack | recount FILE.."),
     };
     std::process::exit(if good { 0 } else { 1 });
 }

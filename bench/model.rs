@@ -1,6 +1,7 @@
-//! Document 01, with the requests No. 1, 2, 3, 5 and 6 of document 02, written out sentence by sentence over trees and lists of states: slow, and unlike the reference in every way, to check that one by.
+//! Document 01, with the requests No. 1 to 3, 5, 6, 10, 12 and 13 of document 02, written out sentence by sentence over trees and lists of states: slow, and unlike the reference in every way, to check that one by.
 
 use crate::reference::{Matched, Reviewed};
+use crate::scripts::Picks;
 
 #[derive(Clone, PartialEq)]
 enum Matcher {
@@ -191,7 +192,15 @@ fn element(m: &Matcher) -> Option<&Matcher> {
     }
 }
 
-fn fits<'a>(p: &Pattern, m: &'a Matcher, under: &mut Vec<&'a Matcher>) -> Result<(), Fault> {
+/// Dialect 2 wants the elements of a multiset that a cons divides to be such as can be told apart.
+fn told_apart(dialect: u32, m: &Matcher) -> bool {
+    match m {
+        Matcher::Multiset(inner) => dialect == 1 || solid(inner),
+        _ => true,
+    }
+}
+
+fn fits<'a>(dialect: u32, p: &Pattern, m: &'a Matcher, under: &mut Vec<&'a Matcher>) -> Result<(), Fault> {
     let compares = matches!(m, Matcher::Integer);
     let good = match (&p.form, element(m)) {
         (Form::Wildcard, _) => true,
@@ -202,22 +211,22 @@ fn fits<'a>(p: &Pattern, m: &'a Matcher, under: &mut Vec<&'a Matcher>) -> Result
         (Form::Constant(_), _) => compares,
         (Form::Value(v, c), _) => solid(m) && shape(under[*v as usize]) == shape(m) && (compares || *c == 0),
         (Form::Nil, inner) => inner.is_some(),
-        (Form::Cons(a, b), Some(inner)) => {
-            fits(a, inner, under)?;
-            return fits(b, m, under);
+        (Form::Cons(a, b), Some(inner)) if told_apart(dialect, m) => {
+            fits(dialect, a, inner, under)?;
+            return fits(dialect, b, m, under);
         }
         (Form::Join(a, b), _) if matches!(m, Matcher::List(_)) => {
-            fits(a, m, under)?;
-            return fits(b, m, under);
+            fits(dialect, a, m, under)?;
+            return fits(dialect, b, m, under);
         }
         (Form::And(a, b), _) | (Form::Or(a, b), _) => {
-            fits(a, m, under)?;
-            return fits(b, m, under);
+            fits(dialect, a, m, under)?;
+            return fits(dialect, b, m, under);
         }
-        (Form::Not(a), _) => return fits(a, m, under),
+        (Form::Not(a), _) => return fits(dialect, a, m, under),
         (Form::Tuple(ps), _) => match m {
             Matcher::Tuple(ms) if ms.len() == ps.len() => {
-                return ps.iter().zip(ms).try_for_each(|(p, m)| fits(p, m, under))
+                return ps.iter().zip(ms).try_for_each(|(p, m)| fits(dialect, p, m, under))
             }
             _ => false,
         },
@@ -300,7 +309,13 @@ fn raised(v: &Value, c: i32) -> Option<Value> {
 
 static SOMETHING: Matcher = Matcher::Something;
 
-fn after<'a>(atom: &Atom<'a>, older: State<'a>) -> Vec<State<'a>> {
+/// The places of a multiset at which a cons may take an element: in dialect 2 those whose value does not stand before.
+fn places(dialect: u32, inner: &Matcher, elements: &[Value]) -> Vec<usize> {
+    let values: Vec<Value> = elements.iter().map(|v| sorted(inner, v)).collect();
+    (0..values.len()).filter(|&k| dialect == 1 || !values[..k].contains(&values[k])).collect()
+}
+
+fn after<'a>(dialect: u32, atom: &Atom<'a>, older: State<'a>) -> Vec<State<'a>> {
     let (m, v) = (atom.matcher, &atom.value);
     let keep = |equal: bool| if equal { vec![older.clone()] } else { Vec::new() };
     let elements: &[Value] = match v {
@@ -340,7 +355,8 @@ fn after<'a>(atom: &Atom<'a>, older: State<'a>) -> Vec<State<'a>> {
             .map(|(first, rest)| two(a, inner, first.clone(), b, rest.to_vec()))
             .into_iter()
             .collect(),
-        (Form::Cons(a, b), Matcher::Multiset(inner)) => (0..elements.len())
+        (Form::Cons(a, b), Matcher::Multiset(inner)) => places(dialect, inner, elements)
+            .into_iter()
             .map(|k| {
                 let mut rest = elements.to_vec();
                 let one = rest.remove(k);
@@ -396,10 +412,108 @@ fn next<'a>(searches: &mut Vec<Searching<'a>>) -> Option<State<'a>> {
     }
 }
 
-fn run(m: &Matcher, p: &Pattern, v: Value, budget: u32, room: &mut [i32]) -> Matched {
-    let first = |pattern, matcher, value, bindings| State { atoms: vec![Atom { pattern, matcher, value }], bindings };
-    let mut searches = vec![Searching { waiting: vec![first(p, m, v, Vec::new())], follows: None }];
-    let (mut answer, mut rows, mut steps, mut written) = (0, 0, 0, 0);
+/// The rows that were written.
+struct Written<'a> {
+    room: &'a mut [i32],
+    rows: u64,
+    words: usize,
+}
+
+impl Written<'_> {
+    /// Whether the row fits, and then it is written.
+    fn row(&mut self, bindings: &[Value]) -> bool {
+        let mut row = Vec::new();
+        bindings.iter().for_each(|v| write(v, &mut row));
+        let end = self.words + row.len();
+        if end > self.room.len() {
+            return false;
+        }
+        self.room[self.words..end].copy_from_slice(&row);
+        self.words = end;
+        self.rows += 1;
+        true
+    }
+
+    fn numbers(&self, answer: u64, steps: u64) -> Matched {
+        [answer, 0, self.rows, steps, self.words as u64, 0]
+    }
+}
+
+fn first<'a>(pattern: &'a Pattern, matcher: &'a Matcher, value: Value, bindings: Vec<Value>) -> State<'a> {
+    State { atoms: vec![Atom { pattern, matcher, value }], bindings }
+}
+
+/// The steps of a search inside a not, and whether it finds a row; after `most` steps it is left.
+fn inside(dialect: u32, start: State, most: u64) -> (u64, bool) {
+    let (mut waiting, mut steps) = (vec![start], 0);
+    while let Some(mut state) = waiting.pop() {
+        if steps == most {
+            return (steps + 1, false);
+        }
+        steps += 1;
+        match state.atoms.pop() {
+            None => return (steps, true),
+            Some(Atom { pattern: Pattern { form: Form::Not(p), .. }, matcher, value }) => {
+                let (taken, found) = inside(dialect, first(p, matcher, value, state.bindings.clone()), most - steps);
+                steps += taken;
+                if steps > most {
+                    return (steps, false);
+                }
+                waiting.extend((!found).then(|| state));
+            }
+            Some(atom) => waiting.extend(after(dialect, &atom, state).into_iter().rev()),
+        }
+    }
+    (steps, false)
+}
+
+/// No. 10: "a list of state lists; in a round each list gives up its first state; the states that follow from them form new lists, which come first, in
+/// order, and then the remainders, in order." A list's first state stands last.
+fn run_rounds(dialect: u32, start: State, holds: usize, budget: u32, room: &mut [i32]) -> Matched {
+    let budget = u64::from(budget);
+    let (mut lists, mut steps) = (vec![vec![start]], 0);
+    let mut written = Written { room, rows: 0, words: 0 };
+    while !lists.is_empty() {
+        if steps == budget {
+            return written.numbers(7, steps);
+        }
+        if lists.iter().flatten().count() > holds.min(256) {
+            return written.numbers(21, steps);
+        }
+        let mut next = Vec::new();
+        for list in &mut lists {
+            if steps == budget {
+                return written.numbers(7, steps);
+            }
+            steps += 1;
+            let mut state = list.pop().unwrap();
+            match state.atoms.pop() {
+                None if written.row(&state.bindings) => {}
+                None => return written.numbers(8, steps),
+                Some(Atom { pattern: Pattern { form: Form::Not(p), .. }, matcher, value }) => {
+                    let start = first(p, matcher, value, state.bindings.clone());
+                    let (taken, found) = inside(dialect, start, budget - steps);
+                    steps += taken;
+                    if steps > budget {
+                        return written.numbers(7, budget);
+                    }
+                    if !found {
+                        next.push(vec![state]);
+                    }
+                }
+                Some(atom) => next.push(after(dialect, &atom, state).into_iter().rev().collect()),
+            }
+        }
+        next.extend(lists);
+        lists = next.into_iter().filter(|list: &Vec<State>| !list.is_empty()).collect();
+    }
+    written.numbers(0, steps)
+}
+
+fn run(dialect: u32, start: State, budget: u32, room: &mut [i32]) -> Matched {
+    let mut searches = vec![Searching { waiting: vec![start], follows: None }];
+    let (mut answer, mut steps) = (0, 0);
+    let mut written = Written { room, rows: 0, words: 0 };
     while let Some(mut state) = next(&mut searches) {
         if steps == u64::from(budget) {
             answer = 7;
@@ -411,40 +525,34 @@ fn run(m: &Matcher, p: &Pattern, v: Value, budget: u32, room: &mut [i32]) -> Mat
                 let start = first(p, matcher, value, state.bindings.clone());
                 searches.push(Searching { waiting: vec![start], follows: Some(state) });
             }
-            Some(atom) => searches.last_mut().unwrap().waiting.extend(after(&atom, state).into_iter().rev()),
+            Some(atom) => searches.last_mut().unwrap().waiting.extend(after(dialect, &atom, state).into_iter().rev()),
             None if searches.len() > 1 => {
                 searches.pop();
             }
+            None if written.row(&state.bindings) => {}
             None => {
-                let mut row = Vec::new();
-                state.bindings.iter().for_each(|v| write(v, &mut row));
-                if written + row.len() > room.len() {
-                    answer = 8;
-                    break;
-                }
-                room[written..written + row.len()].copy_from_slice(&row);
-                written += row.len();
-                rows += 1;
+                answer = 8;
+                break;
             }
         }
     }
-    [answer, 0, rows, steps, written as u64, 0]
+    written.numbers(answer, steps)
 }
 
 // ---- Section 3: the two services.
 
-fn rule(matcher: &[i32], pattern: &[i32]) -> Result<(Matcher, Pattern), (u64, Fault)> {
+fn rule(dialect: u32, matcher: &[i32], pattern: &[i32]) -> Result<(Matcher, Pattern), (u64, Fault)> {
     let mut ms = words(matcher);
     let m = limited(matcher, 64).and_then(|()| ms.matcher(4)).and_then(|m| ms.end(m)).map_err(|i| (1, i))?;
     let mut ps = words(pattern);
     let p = limited(pattern, 256).and_then(|()| ps.pattern()).and_then(|p| ps.end(p)).map_err(|i| (2, i))?;
     variables(&p).map_err(|i| (3, i))?;
-    fits(&p, &m, &mut Vec::new()).map_err(|i| (4, i))?;
+    fits(dialect, &p, &m, &mut Vec::new()).map_err(|i| (4, i))?;
     Ok((m, p))
 }
 
-fn all(matcher: &[i32], pattern: &[i32], target: &[i32]) -> Result<(Matcher, Pattern, Value), (u64, Fault)> {
-    let (m, p) = rule(matcher, pattern)?;
+fn all(dialect: u32, [matcher, pattern, target]: [&[i32]; 3]) -> Result<(Matcher, Pattern, Value), (u64, Fault)> {
+    let (m, p) = rule(dialect, matcher, pattern)?;
     let mut ts = words(target);
     let v = limited(target, 1024).and_then(|()| ts.value(8)).and_then(|v| ts.end(v)).map_err(|i| (5, i))?;
     fits_value(&m, &v, 0).map_err(|i| (6, i))?;
@@ -467,11 +575,28 @@ fn cause(target: &[i32], place: usize) -> u64 {
 }
 
 pub fn match_words(matcher: &[i32], pattern: &[i32], target: &[i32], budget: u32, room: &mut [i32]) -> Matched {
-    match all(matcher, pattern, target) {
-        Ok((m, p, v)) => run(&m, &p, v, budget, room),
-        Err((5, place)) => [5, place as u64, 0, 0, 0, cause(target, place)],
-        Err((answer, place)) => [answer, place as u64, 0, 0, 0, 0],
+    picked([1, 1, 1, 0, 0], [matcher, pattern, target], budget, room).unwrap()
+}
+
+/// Match with what the caller picks; it has no rows in form 2.
+pub fn picked(picks: Picks, words: [&[i32]; 3], budget: u32, room: &mut [i32]) -> Option<Matched> {
+    let [form, order, dialect, table, less] = picks;
+    if form == 2 {
+        return None;
     }
+    let refused = |answer, place: usize, cause| [answer, place as u64, 0, 0, 0, cause];
+    Some(match (form, dialect) {
+        (1, 1) | (1, 2) => match all(dialect, words) {
+            Ok((m, p, v)) if order == 1 => run(dialect, first(&p, &m, v, Vec::new()), budget, room),
+            Ok((m, p, v)) => {
+                run_rounds(dialect, first(&p, &m, v, Vec::new()), table.saturating_sub(less) as usize, budget, room)
+            }
+            Err((5, place)) => refused(5, place, cause(words[2], place)),
+            Err((answer, place)) => refused(answer, place, 0),
+        },
+        (1, _) => refused(22, 0, 0),
+        _ => refused(20, 0, 0),
+    })
 }
 
 /// A number that stops at the largest: 0 times any number is still 0.
@@ -534,7 +659,14 @@ fn can_fail(p: &Pattern) -> bool {
 }
 
 pub fn review(matcher: &[i32], pattern: &[i32], cap: i32) -> Reviewed {
-    let (m, p) = match rule(matcher, pattern) {
+    review_with(1, matcher, pattern, cap)
+}
+
+pub fn review_with(dialect: u32, matcher: &[i32], pattern: &[i32], cap: i32) -> Reviewed {
+    if dialect != 1 && dialect != 2 {
+        return [22, 0, 0];
+    }
+    let (m, p) = match rule(dialect, matcher, pattern) {
         Ok(rule) => rule,
         Err((answer, place)) => return [answer, place as u64, 0],
     };

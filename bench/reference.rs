@@ -1,7 +1,8 @@
-//! Document 01, with the requests No. 1, 2, 3, 5 and 6 of document 02, by plain recursion on the words, as a good Rust engineer would write it: no tree, no heap.
+//! Document 01, with the requests No. 1 to 3, 5 to 10, 12 and 13 of document 02, by plain recursion on the words, as a good Rust engineer would write it: no tree, no heap.
 //! It knows nothing of the library and nothing of the proofs.
 
 pub mod book;
+mod rounds;
 pub mod run;
 pub mod tuned;
 
@@ -150,11 +151,12 @@ fn takes(matcher: i32, tag: i32) -> bool {
     }
 }
 
-/// A rule in test: its words, and under which index of the matcher each variable stands.
+/// A rule in test: its words, its dialect, and under which index of the matcher each variable stands.
 struct Fitting<'a> {
     matcher: &'a [i32],
     matcher_ends: &'a MatcherEnds,
     pattern: &'a [i32],
+    dialect: u32,
     under: [usize; 16],
 }
 
@@ -200,6 +202,10 @@ impl Fitting<'_> {
                 }
             }
             CONS => {
+                // In dialect 2 the elements of a multiset must be such as can be told apart.
+                if self.dialect == 2 && matcher == MULTISET && !self.solid(m + 1) {
+                    return Err(at);
+                }
                 let middle = self.part(at + 1, m + 1)?;
                 return self.part(middle, m);
             }
@@ -365,11 +371,12 @@ fn first_marks(n: u32) -> u64 {
     }
 }
 
-/// Why a search ends before its last state: the run's, or with its first row the one inside a not.
+/// Why a search ends before its last state: the run's, or with its first row the one inside a not; by rounds also the table.
 enum Stop {
     Budget,
     Full,
     Found,
+    Table,
 }
 
 /// An atom, and the older atoms behind it.
@@ -394,6 +401,8 @@ struct Search<'a> {
     inside: bool,
     /// Rows in form 2.
     origins: bool,
+    /// Dialect 2.
+    once: bool,
     rows: u32,
     steps: u32,
     words: usize,
@@ -461,7 +470,7 @@ impl Search<'_> {
                     return self.cons(atom, k);
                 }
                 CONS => {
-                    let mut left = value.marks;
+                    let mut left = self.choices(atom);
                     while left != 0 {
                         self.cons(atom, left.trailing_zeros())?;
                         left &= left - 1;
@@ -517,6 +526,34 @@ impl Search<'_> {
         }
         self.steps += 1;
         Ok(())
+    }
+
+    /// The elements that a cons under a multiset may take: all that are left, or in dialect 2 those to which none left before them is equal.
+    #[inline]
+    fn choices(&self, atom: &Atom) -> u64 {
+        if self.once {
+            self.first_places(atom.matcher + 1, atom.value)
+        } else {
+            atom.value.marks
+        }
+    }
+
+    #[inline(never)]
+    fn first_places(&self, m: usize, value: Held) -> u64 {
+        let mut firsts: u64 = 0;
+        let mut left = value.marks;
+        while left != 0 {
+            let one = self.whole(self.element(value, left.trailing_zeros()));
+            let mut before = firsts;
+            while before != 0 && !self.equal(m, self.whole(self.element(value, before.trailing_zeros())), 0, one) {
+                before &= before - 1;
+            }
+            if before == 0 {
+                firsts |= left & left.wrapping_neg();
+            }
+            left &= left - 1;
+        }
+        firsts
     }
 
     fn cons(&mut self, atom: &Atom, k: u32) -> Result<(), Stop> {
@@ -712,6 +749,7 @@ impl Search<'_> {
         let answer = match ended {
             Ok(()) => 0,
             Err(Stop::Budget) => 7,
+            Err(Stop::Table) => 21,
             Err(_) => 8,
         };
         [answer, 0, self.rows as u64, self.steps as u64, self.words as u64, 0]
@@ -738,20 +776,19 @@ struct Rule {
 }
 
 /// The tests 1 to 4; gives the number of variables.
-fn read_rule(matcher: &[i32], pattern: &[i32], rule: &mut Rule) -> Result<usize, (u64, u64)> {
+fn read_rule(dialect: u32, [matcher, pattern]: [&[i32]; 2], rule: &mut Rule) -> Result<usize, (u64, u64)> {
     read_matcher(matcher, &mut rule.matcher_ends).map_err(refused(1))?;
     read_pattern(pattern, &mut rule.ends).map_err(refused(2))?;
     let variables = count_variables(pattern, &rule.ends).map_err(refused(3))?;
-    let mut fitting = Fitting { matcher, matcher_ends: &rule.matcher_ends, pattern, under: [0; 16] };
+    let mut fitting = Fitting { matcher, matcher_ends: &rule.matcher_ends, pattern, dialect, under: [0; 16] };
     fitting.part(0, 0).map_err(refused(4))?;
     Ok(variables)
 }
 
 /// The tests 1 to 6, and the search ready to begin, given to what runs it.
 fn checked(
-    matcher: &[i32],
-    pattern: &[i32],
-    target: &[i32],
+    dialect: u32,
+    [matcher, pattern, target]: [&[i32]; 3],
     budget: u32,
     room: &mut [i32],
     run: impl FnOnce(Search) -> Matched,
@@ -760,7 +797,7 @@ fn checked(
     let mut places = Places::new();
     let read = |rule: &mut Rule, places: &mut Places| {
         let turned_away = |(answer, place)| [answer, place, 0, 0, 0, 0];
-        let variables = read_rule(matcher, pattern, rule).map_err(turned_away)?;
+        let variables = read_rule(dialect, [matcher, pattern], rule).map_err(turned_away)?;
         read_target(target, places).map_err(|(place, cause)| [5, place as u64, 0, 0, 0, cause as u64])?;
         let forms = Forms { matcher, matcher_ends: &rule.matcher_ends, target, places };
         fits_value(forms, 0, 0).map_err(refused(6)).map_err(turned_away)?;
@@ -783,30 +820,55 @@ fn checked(
         bound: [Held { at: 0, marks: 0 }; 16],
         inside: false,
         origins: false,
+        once: dialect == 2,
         rows: 0,
         steps: 0,
         words: 0,
     })
 }
 
-pub fn match_words(matcher: &[i32], pattern: &[i32], target: &[i32], budget: u32, room: &mut [i32]) -> Matched {
-    checked(matcher, pattern, target, budget, room, |mut search| {
-        let start = Atom { pattern: 0, matcher: 0, value: search.whole(0), older: None };
-        let ended = search.take_up(Some(&start));
-        search.numbers(ended)
-    })
+fn depth_first(mut search: Search) -> Matched {
+    let start = Atom { pattern: 0, matcher: 0, value: search.whole(0), older: None };
+    let ended = search.take_up(Some(&start));
+    search.numbers(ended)
 }
 
-/// Match with rows in the form that is picked.
-pub fn match_in(form: u32, [matcher, pattern, target]: [&[i32]; 3], budget: u32, room: &mut [i32]) -> Matched {
-    if form != 1 && form != 2 {
-        return [20, 0, 0, 0, 0, 0];
+pub fn match_words(matcher: &[i32], pattern: &[i32], target: &[i32], budget: u32, room: &mut [i32]) -> Matched {
+    checked(1, [matcher, pattern, target], budget, room, depth_first)
+}
+
+/// What the caller picks: the row form, the dialect, and for the order of No. 10 how many states the table holds.
+#[derive(Clone, Copy)]
+pub struct Picked {
+    pub form: u32,
+    pub dialect: u32,
+    pub table: Option<usize>,
+}
+
+const NO_FORM: u64 = 20;
+const NO_DIALECT: u64 = 22;
+
+/// The refusal of a form or a dialect that there is not, in this order.
+fn picked_wrong(form: u32, dialect: u32) -> Option<u64> {
+    let known = |number| number == 1 || number == 2;
+    match (known(form), known(dialect)) {
+        (false, _) => Some(NO_FORM),
+        (true, false) => Some(NO_DIALECT),
+        _ => None,
     }
-    checked(matcher, pattern, target, budget, room, |mut search| {
+}
+
+pub fn match_picked(picked: Picked, words: [&[i32]; 3], budget: u32, room: &mut [i32]) -> Matched {
+    let Picked { form, dialect, table } = picked;
+    if let Some(answer) = picked_wrong(form, dialect) {
+        return [answer, 0, 0, 0, 0, 0];
+    }
+    checked(dialect, words, budget, room, |mut search| {
         search.origins = form == 2;
-        let start = Atom { pattern: 0, matcher: 0, value: search.whole(0), older: None };
-        let ended = search.take_up(Some(&start));
-        search.numbers(ended)
+        match table {
+            Some(holds) => rounds::by_rounds(search, holds),
+            None => depth_first(search),
+        }
     })
 }
 
@@ -886,8 +948,15 @@ fn always_true(pattern: &[i32]) -> bool {
 }
 
 pub fn review(matcher: &[i32], pattern: &[i32], cap: i32) -> Reviewed {
+    review_with(1, matcher, pattern, cap)
+}
+
+pub fn review_with(dialect: u32, matcher: &[i32], pattern: &[i32], cap: i32) -> Reviewed {
+    if let Some(answer) = picked_wrong(1, dialect) {
+        return [answer, 0, 0];
+    }
     let mut rule = Rule { matcher_ends: [0; 64], ends: [0; 256] };
-    if let Err((answer, place)) = read_rule(matcher, pattern, &mut rule) {
+    if let Err((answer, place)) = read_rule(dialect, [matcher, pattern], &mut rule) {
         return [answer, place, 0];
     }
     if always_true(pattern) {

@@ -19,7 +19,7 @@ pub type Advance = Box<dyn FnMut(u32, &mut [i32]) -> Matched>;
 pub type Picks = [u32; 5];
 
 /// As before No. 9.
-const PLAIN: Picks = [1, 1, 1, 0, 0];
+pub const PLAIN: Picks = [1, 1, 1, 0, 0];
 
 /// A byte, and a word, that stand where nothing was written.
 const LENT: u8 = 170;
@@ -180,7 +180,14 @@ fn play_book(book: &Book, script: &[&str]) -> Played {
     Ok(())
 }
 
-fn play_run(open: fn(Picks, [&[i32]; 3], u32) -> (Advance, [u64; 3]), script: &[&str]) -> Played {
+/// None, where there is no run with what the script picks.
+fn play_run(services: &Services, script: &[&str]) -> Option<Played> {
+    let opens = |at: usize| (services.open)(picks(script[at + 1]), [&[1], &[0], &[0, 7]], 0).is_some();
+    let mut all = (0..script.len()).filter(|&at| script[at] == "open");
+    all.all(opens).then(|| play_calls(services, script))
+}
+
+fn play_calls(services: &Services, script: &[&str]) -> Played {
     let mut lines = Lines(script.iter());
     let mut run: Option<Advance> = None;
     let mut room = vec![ROOM; 4096];
@@ -192,7 +199,7 @@ fn play_run(open: fn(Picks, [&[i32]; 3], u32) -> (Advance, [u64; 3]), script: &[
                 let picks = picks(lines.next());
                 let mut given = [(); 3].map(|_| words(lines.next()));
                 let size = numbers::<u32>(lines.next())[0];
-                let (opened, answer) = open(picks, [&given[0], &given[1], &given[2]], size);
+                let (opened, answer) = (services.open)(picks, [&given[0], &given[1], &given[2]], size).unwrap();
                 given.iter_mut().flatten().for_each(|word| *word = -1);
                 same(call, lines.wanted(), &line(&answer))?;
                 run = Some(opened);
@@ -223,10 +230,8 @@ fn play_picks(services: &Services, picks: Picks, case: &[&str]) -> Played {
     let given = [(); 3].map(|_| words(lines.next()));
     let limits: Vec<u32> = numbers(lines.next());
     let mut room = vec![ROOM; limits[1] as usize];
-    let got = match services.match_in {
-        Some(call) => call(picks[0], [&given[0], &given[1], &given[2]], limits[0], &mut room),
-        None => (services.match_words)(&given[0], &given[1], &given[2], limits[0], &mut room),
-    };
+    let got = (services.picked)(picks, [&given[0], &given[1], &given[2]], limits[0], &mut room)
+        .unwrap_or_else(|| (services.match_words)(&given[0], &given[1], &given[2], limits[0], &mut room));
     same("the lines", "=", lines.next())?;
     same("numbers", lines.next(), &line(&got))?;
     let mut wanted = words(lines.next());
@@ -259,10 +264,10 @@ pub fn file(services: &Services, kind: Kind, all: &str) -> Vec<(String, Option<P
             let one = match kind {
                 Kind::Picks => {
                     let picks = picks(script[0]);
-                    (picks == PLAIN || services.match_in.is_some() && picks[1..] == PLAIN[1..]).then(|| play_picks(services, picks, &script[1..]))
+                    (picks == PLAIN || services.takes(picks)).then(|| play_picks(services, picks, &script[1..]))
                 }
                 Kind::Book => services.book.as_ref().map(|book| play_book(book, &script)),
-                Kind::Run => services.open.map(|open| play_run(open, &script)),
+                Kind::Run => play_run(services, &script),
             };
             played.push((script.join("\n") + "\n", one));
             script.clear();

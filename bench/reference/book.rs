@@ -1,6 +1,6 @@
 //! The rule book of request No. 7, plainly: blocks of 512 bytes, 256 words of 16 bits each.
 
-use super::review;
+use super::{review, review_with};
 
 pub const BLOCK: usize = 512;
 const CHECK: usize = 254;
@@ -47,8 +47,10 @@ struct Rule {
     pattern: Vec<i32>,
 }
 
-fn is_rule(matcher: &[i32], pattern: &[i32]) -> bool {
-    !(1..=4).contains(&review(matcher, pattern, 0)[0])
+/// Review's tests 1 to 4; those of the rule's dialect once No. 13 has landed.
+fn is_rule(dialect: u32, matcher: &[i32], pattern: &[i32]) -> bool {
+    let told = if crate::DIALECTS { review_with(dialect, matcher, pattern, 0) } else { review(matcher, pattern, 0) };
+    !(1..=4).contains(&told[0])
 }
 
 /// The rule of a live block, if the block is laid out as one.
@@ -62,7 +64,7 @@ fn rule(words: &Words) -> Option<Rule> {
     let mut matcher: Vec<i32> =
         (0..n).map(|k| (u32::from(words[5 + 2 * k]) | u32::from(words[6 + 2 * k]) << 16) as i32).collect();
     let pattern = matcher.split_off(length.into());
-    is_rule(&matcher, &pattern).then(|| Rule { version: words[1], badge: words[2], dialect, matcher, pattern })
+    is_rule(dialect, &matcher, &pattern).then(|| Rule { version: words[1], badge: words[2], dialect, matcher, pattern })
 }
 
 /// The blocks in use, each with its rule or none; or the first refusal, block by block.
@@ -114,7 +116,7 @@ fn added(book: &mut [u8], used: u32, new: Rule) -> Result<u32, u64> {
         return Err(NO_VERSION);
     }
     let dialects = if new.version == 2 { 1..=2 } else { 1..=1 };
-    if new.badge == 0 || !dialects.contains(&new.dialect) || !is_rule(&new.matcher, &new.pattern) {
+    if new.badge == 0 || !dialects.contains(&new.dialect) || !is_rule(new.dialect, &new.matcher, &new.pattern) {
         return Err(NO_FORM);
     }
     if rules.iter().flatten().any(|rule| rule.badge == new.badge) {

@@ -243,7 +243,7 @@ impl Tuned<'_> {
 }
 
 pub fn match_words(matcher: &[i32], pattern: &[i32], target: &[i32], budget: u32, room: &mut [i32]) -> Matched {
-    checked(matcher, pattern, target, budget, room, |search| {
+    checked(1, [matcher, pattern, target], budget, room, |search| {
         let mut prepared =
             Prepared { matcher, matcher_ends: search.matcher_ends, pattern, ends: search.ends, nodes: [NO_NODE; 256] };
         prepared.part(0, 0);
