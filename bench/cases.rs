@@ -1,6 +1,7 @@
 //! Runs case files: the trial program's, review's, the published examples, and those with picks and scripts. A file's name says its kind.
 
-use crate::{scripts, text, Services};
+use crate::scripts::{self, Picks, BY_ROUNDS, PLAIN};
+use crate::{text, Services};
 use std::path::Path;
 
 pub struct Count {
@@ -74,35 +75,33 @@ fn agrees(how: &str, wanted: &[&str], rows: &[String]) -> bool {
     }
 }
 
+/// Each block after the line of what it needs: with No. 10 it is played by rounds.
 fn published(services: &Services, text: &str, count: &mut Count) {
-    let mut landed = false;
+    let mut picks = PLAIN;
     let mut block: Vec<&str> = Vec::new();
     for line in text.lines() {
-        if line.starts_with('#') {
-            landed = matches!(line, "# needs: base" | "# needs: 1" | "# needs: 3" | "# needs: 1,3")
-                || (landed && !line.starts_with("# needs:"));
-        } else if line != "--" {
-            if !(block.is_empty() && line.is_empty()) {
-                block.push(line);
-            }
-        } else {
-            if landed {
-                published_block(services, &block, count);
+        if let Some(needs) = line.strip_prefix("# needs: ") {
+            picks = if needs.split(',').any(|no| no == "10") { BY_ROUNDS } else { PLAIN };
+        } else if line == "--" {
+            match picks == PLAIN || services.takes(picks) {
+                true => published_block(services, picks, &block, count),
+                false => count.left += 1,
             }
             block.clear();
-            landed = false;
+        } else if !line.starts_with('#') && !(block.is_empty() && line.is_empty()) {
+            block.push(line);
         }
     }
 }
 
-fn published_block(services: &Services, block: &[&str], count: &mut Count) {
+fn published_block(services: &Services, picks: Picks, block: &[&str], count: &mut Count) {
     let input = block[..4].join("\n") + "\n";
     let (how, wanted) = match &block[5..] {
         [how, rows @ ..] if how.starts_with("rows-") => (*how, rows),
         rows => ("", rows),
     };
     let q = text::question(input.as_bytes()).unwrap();
-    let (numbers, rows) = text::answered(services, &q);
+    let (numbers, rows) = text::answered(services, picks, &q);
     let rows: Vec<String> =
         rows.iter().map(|row| row.iter().map(i32::to_string).collect::<Vec<_>>().join(" ")).collect();
     let good = numbers[0] == 0 && agrees(how, wanted, &rows);

@@ -173,12 +173,10 @@ const ORIGINS: Services = Services { match_words: library::match_origins, ..TEST
 #[cfg(not(library))]
 const ORIGINS: Services = TESTED;
 
-/// Dialect 2; and the other search order, in a table of the most states with which a round may begin.
 const IN_DIALECT_2: scripts::Picks = [1, 1, 2, 0, 0];
-const BY_ROUNDS: scripts::Picks = [1, 2, 1, 256, 0];
 
 const ONCE: Services = Services { match_words: |m, p, t, budget, room| (TESTED.picked)(IN_DIALECT_2, [m, p, t], budget, room).unwrap(), ..TESTED };
-const ROUNDS: Services = Services { match_words: |m, p, t, budget, room| (TESTED.picked)(BY_ROUNDS, [m, p, t], budget, room).unwrap(), ..TESTED };
+const ROUNDS: Services = Services { match_words: |m, p, t, budget, room| (TESTED.picked)(scripts::BY_ROUNDS, [m, p, t], budget, room).unwrap(), ..TESTED };
 
 fn run_speed(name: &str, rounds: u64, who: &str, budget: Option<u32>) -> bool {
     let services = match who {
@@ -199,7 +197,7 @@ fn list_beside() -> bool {
     if TESTED.takes(IN_DIALECT_2) {
         println!("once {} T2", speed::DIALECT_BAR);
     }
-    if TESTED.takes(BY_ROUNDS) {
+    if TESTED.takes(scripts::BY_ROUNDS) {
         println!("rounds {} T1 {}", speed::ROUNDS_BAR, speed::EITHER_ORDER.map(|case| case.name).join(" "));
     }
     true

@@ -1,6 +1,7 @@
 //! Section 9 of document 01: the trial program as a function from its input to its output.
 
 use crate::reference::Matched;
+use crate::scripts::{Picks, PLAIN};
 use crate::Services;
 
 /// An optional minus and 1 to 10 digits, in a range.
@@ -92,10 +93,13 @@ fn line<T: ToString>(numbers: &[T]) -> String {
     numbers.join(" ") + "\n"
 }
 
-/// The six numbers, and the rows.
-pub fn answered(services: &Services, q: &Question) -> (Matched, Vec<Vec<i32>>) {
+/// The six numbers, and the rows, of a match in row form 1.
+pub fn answered(services: &Services, picks: Picks, q: &Question) -> (Matched, Vec<Vec<i32>>) {
     let mut room = vec![0; q.room];
-    let numbers = (services.match_words)(&q.matcher, &q.pattern, &q.target, q.budget, &mut room);
+    let numbers = match picks {
+        PLAIN => (services.match_words)(&q.matcher, &q.pattern, &q.target, q.budget, &mut room),
+        _ => (services.picked)(picks, [&q.matcher, &q.pattern, &q.target], q.budget, &mut room).unwrap(),
+    };
     let mut rest = &room[..numbers[4] as usize];
     let each = if numbers[2] == 0 { 0 } else { variables(&q.pattern) };
     let mut rows = Vec::new();
@@ -111,7 +115,7 @@ pub fn printed(services: &Services, input: &[u8]) -> String {
     match question(input) {
         None => "unreadable\n".to_string(),
         Some(q) => {
-            let (numbers, rows) = answered(services, &q);
+            let (numbers, rows) = answered(services, PLAIN, &q);
             line(&numbers) + &rows.iter().map(|row| line(row)).collect::<String>()
         }
     }
