@@ -43,6 +43,16 @@ extern "C" {
         numbers: *mut u8,
         numbers_len: usize,
     ) -> u32;
+    fn lozhbinor_review_with(
+        dialect: u32,
+        matcher: *const i32,
+        matcher_len: usize,
+        pattern: *const i32,
+        pattern_len: usize,
+        cap: i32,
+        numbers: *mut u8,
+        numbers_len: usize,
+    ) -> u32;
     fn lozhbinor_book_add(
         book: *mut u8,
         book_len: usize,
@@ -188,6 +198,16 @@ pub fn match_origins(matcher: &[i32], pattern: &[i32], target: &[i32], budget: u
 pub fn review(matcher: &[i32], pattern: &[i32], cap: i32) -> Reviewed {
     let mut bytes = [MARK; 32];
     let answer = call_review([matcher, pattern], cap, &mut bytes);
+    numbers(&bytes, answer)
+}
+
+/// Review in a dialect.
+pub fn review_with(dialect: u32, matcher: &[i32], pattern: &[i32], cap: i32) -> Reviewed {
+    let mut bytes = [MARK; 32];
+    let (m, p) = (matcher, pattern);
+    let answer = unsafe {
+        lozhbinor_review_with(dialect, m.as_ptr(), m.len(), p.as_ptr(), p.len(), cap, bytes.as_mut_ptr(), bytes.len())
+    };
     numbers(&bytes, answer)
 }
 

@@ -104,7 +104,7 @@ const TESTED: Services = Services {
     match_words: library::match_words,
     review: library::review,
     picked: library::picked,
-    review_with: None,
+    review_with: Some(library::review_with),
     book: Some(scripts::Book {
         add: library::book_add,
         withdraw: library::book_withdraw,

@@ -109,6 +109,21 @@ static void review(const char *m, const char *p, int32_t cap, const char *expect
     untouched(0, LOZHBINOR_REVIEW_BYTES);
 }
 
+static void review_with(uint32_t dialect, const char *m, const char *p, int32_t cap, const char *expected)
+{
+    int32_t mw[64], pw[64];
+    size_t mn = parse(m, mw), pn = parse(p, pw);
+    char got[128];
+    clear();
+    uint32_t answer = lozhbinor_review_with(dialect, mw, mn, pw, pn, cap, bytes + GUARD, LOZHBINOR_REVIEW_BYTES);
+    struct lozhbinor_reviewed r = lozhbinor_reviewed_of(bytes + GUARD);
+    snprintf(got, sizeof got, "%" PRIu32 " %zu %" PRIu32, r.answer, r.place, r.count);
+    printf("review in dialect %" PRIu32 " %s\n", dialect, got);
+    check(answer == r.answer, "the call's answer is the first number");
+    check(strcmp(got, expected) == 0, expected);
+    untouched(0, LOZHBINOR_REVIEW_BYTES);
+}
+
 static void too_short(void)
 {
     static const int32_t one[] = {1}, seven[] = {0, 7};
@@ -120,6 +135,7 @@ static void too_short(void)
     for (size_t n = 0; n < LOZHBINOR_REVIEW_BYTES; n++) {
         clear();
         check(lozhbinor_review(one, 1, seven, 1, 3, bytes + GUARD, n) == LOZHBINOR_SHORT, "review 24");
+        check(lozhbinor_review_with(9, one, 1, seven, 1, 3, bytes + GUARD, n) == LOZHBINOR_SHORT, "review in a dialect 24");
         check(lozhbinor_room(9, one, 1, seven, 1, 3, 8, bytes + GUARD, n) == LOZHBINOR_SHORT, "room 24");
         untouched(0, 0);
     }
@@ -196,6 +212,14 @@ int main(void)
     review("1", "9 0 2 5", 3, "0 0 6");
     review("3 1", "5 1 0 5 3 0 0 0", 65, "9 0 0");
     review("3 1", "5 0 5 0 5 0 5 0 5 0 0", 64, "10 0 0");
+    review_with(1, "3 1", "5 1 0 5 3 0 0 0", 3, "0 0 34");
+    review_with(2, "3 1", "5 1 0 5 3 0 0 0", 3, "0 0 34");
+    review_with(1, "3 0", "5 6 0 0 0", 3, "4 1 0");
+    review_with(2, "3 0", "5 6 0 0 0", 3, "4 0 0");
+    review_with(2, "2 3 4 2 1 0", "5 5 0 0 0", 3, "4 1 0");
+    review_with(2, "2 0", "5 0 0", 3, "0 0 5");
+    review_with(0, "9", "0", 3, "22 0 0");
+    review_with(3, "3 1", "5 1 0 5 3 0 0 0", 3, "22 0 0");
     room(1, "3 1", "5 1 0 5 3 0 0 0", 3, 8, "0 0 48");
     room(2, "3 1", "5 1 0 5 3 0 0 0", 3, 8, "0 0 18");
     room(1, "3 1", "5 1 0 5 3 0 0 0", 3, 5000, "0 0 6144");

@@ -44,7 +44,7 @@ extern "C" {
 /* The version of this header. lozhbinor_version() gives that of the library:
  * the same number, or the two do not belong together. */
 #define LOZHBINOR_VERSION_MAJOR 2
-#define LOZHBINOR_VERSION_MINOR 2
+#define LOZHBINOR_VERSION_MINOR 3
 #define LOZHBINOR_VERSION (1000 * LOZHBINOR_VERSION_MAJOR + LOZHBINOR_VERSION_MINOR)
 
 uint32_t lozhbinor_version(void);
@@ -108,6 +108,7 @@ enum {
     LOZHBINOR_BOOK_FULL = 17,     /* add: no withdrawn block and no lent one */
     LOZHBINOR_BOOK_LONG = 18,     /* add: a rule of over 124 words */
     LOZHBINOR_FORM = 20,        /* there is no such row form; before 1 */
+    LOZHBINOR_DIALECT = 22,     /* there is no such dialect; after 20 and before 1 */
     LOZHBINOR_BOOK_NOT_LIVE = 23, /* withdraw: the badge is not live */
     LOZHBINOR_SHORT = 24        /* a slice for the answer is too short; nothing was written */
 };
@@ -188,6 +189,23 @@ uint32_t lozhbinor_review(const int32_t *matcher, size_t matcher_words,
                           const int32_t *pattern, size_t pattern_words,
                           int32_t cap,
                           uint8_t *numbers, size_t numbers_bytes);
+
+/* The dialects. In dialect 2 equal units count once: a cons under a multiset
+ * takes one place for each value that differs, the first one, among those that
+ * are left there. A cons under a multiset whose elements cannot be told apart,
+ * since something stands in their matcher, is 4 in dialect 2. */
+enum {
+    LOZHBINOR_DIALECT_EVERY_PLACE = 1,
+    LOZHBINOR_DIALECT_FIRST_PLACES = 2
+};
+
+/* Review in a dialect; 22 where there is none such. The figure bounds a match in
+ * either. lozhbinor_review is review in dialect 1. */
+uint32_t lozhbinor_review_with(uint32_t dialect,
+                               const int32_t *matcher, size_t matcher_words,
+                               const int32_t *pattern, size_t pattern_words,
+                               int32_t cap,
+                               uint8_t *numbers, size_t numbers_bytes);
 
 /* The numbers of room: answer and place as review gives them, or 20, and the
  * words. */
@@ -356,6 +374,7 @@ static inline const char *lozhbinor_answer_name(uint32_t answer)
     case LOZHBINOR_BOOK_FULL: return "no block";
     case LOZHBINOR_BOOK_LONG: return "too long";
     case LOZHBINOR_FORM: return "form";
+    case LOZHBINOR_DIALECT: return "dialect";
     case LOZHBINOR_BOOK_NOT_LIVE: return "not live";
     case LOZHBINOR_SHORT: return "short";
     default: return "no answer";

@@ -68,7 +68,7 @@ fn is_dialect(version: u16, dialect: u32) -> bool
     false
 }
 
-// 15 of an add: badge 0, the dialect, review's 1 to 4.
+// 15 of an add: badge 0, the dialect, review's 1 to 4 in that dialect.
 fn is_proper(e: Named, matcher: &[i32], pattern: &[i32]) -> bool
     ensures { λ r. ⌜ r ≡ proper (entry (e .version) (e .badge) (e .dialect) (now (matcher .entry)) (now (pattern .entry))) ⌝ }
 {
@@ -78,7 +78,7 @@ fn is_proper(e: Named, matcher: &[i32], pattern: &[i32]) -> bool
     if !is_dialect(e.version, e.dialect) {
         return false;
     }
-    is_rule(matcher, pattern)
+    is_rule(e.dialect, matcher, pattern)
 }
 
 // 14 and 15 of an add, then 16 and 18.

@@ -5,13 +5,15 @@ use book_words::is_checked;
 use book_words::read_words;
 use book_words::word_at;
 use tests::Judgement;
-use tests::rule_refused;
+use tests::rule_refused_in;
 use words::casts::half_index;
 ghost use mathlib.Core.Path.{_≡_};
 ghost use mathlib.Core.List.{[]};
 ghost use Prim.Native.Nat.{_+_, _-_, _*_, _≤_};
 ghost use lib.ListN.{length, take, drop};
-ghost use Rattle.book_rules.specs.Blocks.{joined, lengthIn, dialectIn, known, isRule, liveFormed, formed, badgeOf, verdict};
+ghost use Rattle.rules.specs.Services.{ruleIn};
+ghost use Rattle.words.specs.Dialects.{dialectBy};
+ghost use Rattle.book_rules.specs.Blocks.{joined, lengthIn, dialectIn, known, isAccepted, isRule, liveFormed, formed, badgeOf, verdict};
 ghost use Rattle.book_rules.specs.Bytes.{wordsFrom, blockAt};
 
 pub const CHECK: u32 = 12;
@@ -45,32 +47,55 @@ pub fn length_in(version: u16, w: u16) -> usize
     half_index(w)
 }
 
-// Review's 1 to 4.
-pub fn is_rule(matcher: &[i32], pattern: &[i32]) -> bool
-    ensures { λ r. ⌜ r ≡ isRule (now (matcher .entry)) (now (pattern .entry)) ⌝ }
+// The dialect in word 4: version 2 has it in the top bit.
+pub fn dialect_in(version: u16, w: u16) -> u32
+    ensures { λ r. ⌜ r ≡ dialectIn version w ⌝ }
 {
-    match rule_refused(matcher, pattern) {
+    if version != 2 {
+        return 1;
+    }
+    if w < 32768 { 1 } else { 2 }
+}
+
+// Review's 1 to 4; `firsts`: in dialect 2.
+fn is_accepted(firsts: bool, matcher: &[i32], pattern: &[i32]) -> bool
+    ensures { λ r. ⌜ r ≡ isAccepted (ruleIn (dialectBy firsts) (now (matcher .entry)) (now (pattern .entry))) ⌝ }
+{
+    match rule_refused_in(firsts, matcher, pattern) {
         Judgement::Accepted => true,
         Judgement::Refused(_, _) => false,
     }
 }
 
-// The same of n words, of which the matcher has m.
-fn is_rule_in(words: &[i32], m: usize, n: usize) -> bool
-    requires { ⌜ m ≤ n ⌝ ∗ ⌜ n ≤ length (now words) ⌝ }
-    ensures { λ r. ⌜ r ≡ isRule (take m (now (words .entry))) (take (n - m) (drop m (now (words .entry)))) ⌝ }
+// The same in the dialect that a block or an add names.
+pub fn is_rule(dialect: u32, matcher: &[i32], pattern: &[i32]) -> bool
+    ensures { λ r. ⌜ r ≡ isRule dialect (now (matcher .entry)) (now (pattern .entry)) ⌝ }
 {
-    is_rule(&words[..m], &words[m..n])
+    if dialect == 1 {
+        return is_accepted(false, matcher, pattern);
+    }
+    if dialect == 2 {
+        return is_accepted(true, matcher, pattern);
+    }
+    false
+}
+
+// The same of n words, of which the matcher has m.
+fn is_rule_in(dialect: u32, words: &[i32], m: usize, n: usize) -> bool
+    requires { ⌜ m ≤ n ⌝ ∗ ⌜ n ≤ length (now words) ⌝ }
+    ensures { λ r. ⌜ r ≡ isRule dialect (take m (now (words .entry))) (take (n - m) (drop m (now (words .entry)))) ⌝ }
+{
+    is_rule(dialect, &words[..m], &words[m..n])
 }
 
 // The same of n signed words in lent bytes.
-fn is_rule_at(s: &[u8], at: usize, m: usize, n: usize) -> bool
+fn is_rule_at(dialect: u32, s: &[u8], at: usize, m: usize, n: usize) -> bool
     requires { ⌜ m ≤ n ⌝ ∗ ⌜ n ≤ 124 ⌝ ∗ ⌜ at + 4 * n ≤ length (now s) ⌝ }
-    ensures { λ r. ⌜ r ≡ isRule (take m (joined n (wordsFrom (now (s .entry)) at (2 * n)))) (drop m (joined n (wordsFrom (now (s .entry)) at (2 * n)))) ⌝ }
+    ensures { λ r. ⌜ r ≡ isRule dialect (take m (joined n (wordsFrom (now (s .entry)) at (2 * n)))) (drop m (joined n (wordsFrom (now (s .entry)) at (2 * n)))) ⌝ }
 {
     let mut words = [0i32; LONGEST];
     read_words(s, at, n, &mut words);
-    is_rule_in(&words, m, n)
+    is_rule_in(dialect, &words, m, n)
 }
 
 // The form of a live block: its lengths, its unused words, its rule.
@@ -82,14 +107,16 @@ fn is_live_formed(s: &[u8], at: usize) -> bool
     if LONGEST < n {
         return false;
     }
-    let m = length_in(word_at(s, at + 2), word_at(s, at + 8));
+    let version = word_at(s, at + 2);
+    let fourth = word_at(s, at + 8);
+    let m = length_in(version, fourth);
     if n < m {
         return false;
     }
     if !are_zero(s, at + 10 + 4 * n, 249 - 2 * n) {
         return false;
     }
-    is_rule_at(s, at + 10, m, n)
+    is_rule_at(dialect_in(version, fourth), s, at + 10, m, n)
 }
 
 // 15 of a block by itself; a withdrawn one is zero up to its check.

@@ -1,5 +1,6 @@
 // The rule of a live block.
 use crate::BLOCK;
+use crate::form::dialect_in;
 use crate::form::length_in;
 use book_words::read_words;
 use book_words::word_at;
@@ -8,19 +9,9 @@ ghost use mathlib.Core.Path.{_≡_};
 ghost use mathlib.Core.Bool.{true};
 ghost use Prim.Native.Nat.{_+_, _*_, _≤_};
 ghost use lib.ListN.{length};
-ghost use Rattle.book_rules.specs.Blocks.{dialectIn, liveFormed, entryOf};
+ghost use Rattle.book_rules.specs.Blocks.{liveFormed, entryOf};
 ghost use Rattle.book_rules.specs.Bytes.{blockAt};
 ghost use Rattle.book_blocks.specs.Heads.{ReadAs};
-
-// The dialect in word 4: version 2 has it in the top bit.
-fn dialect_in(version: u16, w: u16) -> u32
-    ensures { λ r. ⌜ r ≡ dialectIn version w ⌝ }
-{
-    if version != 2 {
-        return 1;
-    }
-    if w < 32768 { 1 } else { 2 }
-}
 
 // What a block says of its rule: the last two are lengths.
 pub struct Head {

@@ -1,11 +1,13 @@
 -- Document 02, No. 7: a rule in a block, a withdrawn block, and the four refusals that a block can earn. A block is a list of 256 words.
 use Prim.Native.Nat.{ℕ, zero, suc, _+_, _-_, _*_, _/_, _%_}
 use mathlib.Core.Bool.{Bool, true, false, not}
+use mathlib.Core.Option.{none, some}
 use mathlib.Core.List.{List, [], _∷_, _++_}
 use lib.ListN.{length, take, drop, replicate}
 use lib.Dec.{eqb, leb, ltb}
 use lib.IntN.{ℤ, pos, negsuc}
-use Rattle.rules.specs.Services.{Judged, accepted, refused, Rule, ruleOf, ruleIn}
+use Rattle.rules.specs.Dialects.{dialectOf}
+use Rattle.rules.specs.Services.{Judged, accepted, refused, Rule, ruleIn}
 use Rattle.book_rules.specs.Sums.{word, due, checked}
 
 abbrev pub Block : Type 0
@@ -112,16 +114,16 @@ unfoldable pub isAccepted : Judged Rule → Bool
 isAccepted (accepted r) = true
 isAccepted (refused a i) = false
 
--- Review's 1 to 4.
-unfoldable pub isRule : (ms ps : List ℤ) → Bool
-unfolding isAccepted ruleIn
-isRule ms ps = isAccepted (ruleOf ms ps)
+-- Review's 1 to 4, in the rule's dialect (reading 104).
+unfoldable pub isRule : (dialect : ℕ) (ms ps : List ℤ) → Bool
+unfolding isAccepted ruleIn dialectOf
+isRule dialect ms ps = elim (dialectOf dialect) [ none ↦ false | some d ↦ isAccepted (ruleIn d ms ps) ]
 
 -- A live block: n at most 124, the matcher's length at most n, every word after the rule zero, and review's 1 to 4 (reading 69).
 unfoldable pub liveFormed : Block → Bool
 unfolding both zeros lengthIn isRule entryOf
 liveFormed b = both (leb (word b 3) 124) (both (leb (lengthIn (word b 1) (word b 4)) (word b 3))
-    (both (zeros (249 - 2 * word b 3) (drop (5 + 2 * word b 3) b)) (isRule (entryOf b .matcher) (entryOf b .pattern))))
+    (both (zeros (249 - 2 * word b 3) (drop (5 + 2 * word b 3) b)) (isRule (entryOf b .dialect) (entryOf b .matcher) (entryOf b .pattern))))
 
 -- A withdrawn one: "all words from 3 to the check zero".
 unfoldable pub formed : Block → Bool

@@ -100,7 +100,7 @@ dialectFor v d = elim (eqb d 1) [ true ↦ true | false ↦ elim (eqb d 2) [ tru
 
 unfoldable pub proper : Entry → Bool
 unfolding both dialectFor isRule
-proper e = both (not (eqb (e .badge) 0)) (both (dialectFor (e .version) (e .dialect)) (isRule (e .matcher) (e .pattern)))
+proper e = both (not (eqb (e .badge) 0)) (both (dialectFor (e .version) (e .dialect)) (isRule (e .dialect) (e .matcher) (e .pattern)))
 
 -- "A new rule takes the lowest withdrawn block before the book grows." Blocks past number 65,535 count as not lent.
 unfoldable pub growth : Book → Option ℕ

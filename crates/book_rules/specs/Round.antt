@@ -146,7 +146,7 @@ pub record Fit (e : Entry) : Type 0 where
   pub version : known (e .version) ≡ true
   pub badge : e .badge ≢ 0
   pub dialect : dialectFor (e .version) (e .dialect) ≡ true
-  pub rule : isRule (e .matcher) (e .pattern) ≡ true
+  pub rule : isRule (e .dialect) (e .matcher) (e .pattern) ≡ true
   pub short : counts e ≤ 124
   pub matcher : Ranged (e .matcher)
   pub pattern : Ranged (e .pattern)
@@ -195,7 +195,7 @@ entry-is : {v b d d′ : ℕ} {ms ms′ ps ps′ : List ℤ} → d ≡ d′ → 
 entry-is {v} {b} p q r = λ i. record { version = v; badge = b; dialect = p i; matcher = q i; pattern = r i }
 
 formed-by : (b : Block) → eqb (badgeOf b) 0 ≡ false → leb (word b 3) 124 ≡ true → leb (lengthIn (word b 1) (word b 4)) (word b 3) ≡ true
-    → zeros (249 - 2 * word b 3) (drop (5 + 2 * word b 3) b) ≡ true → isRule (entryOf b .matcher) (entryOf b .pattern) ≡ true → formed b ≡ true
+    → zeros (249 - 2 * word b 3) (drop (5 + 2 * word b 3) b) ≡ true → isRule (entryOf b .dialect) (entryOf b .matcher) (entryOf b .pattern) ≡ true → formed b ≡ true
 unfolding formed liveFormed
 formed-by b p q r s t = ap (λ (x : Bool). elim x as (λ _. Bool) [ true ↦ zeros 251 (drop 3 b) | false ↦ liveFormed b ]) p ∙ both-true q (both-true r (both-true s t))
 
@@ -293,7 +293,7 @@ module _ (k : ℕ) (e : Entry) (f : Fit e) where
       (ap (λ (x : ℕ). leb x 124) written-count ∙ leb-true (counts e) 124 (f .short))
       (ap₂ leb length-is written-count ∙ leb-true (length (e .matcher)) (counts e) within)
       (ap (λ (x : ℕ). zeros (249 - 2 * x) (drop (5 + 2 * x) (written k e))) written-count ∙ unused)
-      (ap (λ (x : Entry). isRule (x .matcher) (x .pattern)) entry-back ∙ f .rule)
+      (ap (λ (x : Entry). isRule (x .dialect) (x .matcher) (x .pattern)) entry-back ∙ f .rule)
 
   pub written-good : (earlier : List Block) → taken (e .badge) earlier ≡ false → verdict k earlier (written k e) ≡ 0
   written-good earlier h = good-by k earlier (written k e)

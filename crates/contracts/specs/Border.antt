@@ -3,7 +3,7 @@ use mathlib.Core.Path.{_≡_, sym, _∙_, ap}
 use mathlib.Core.List.{List, []}
 use Prim.Native.Nat.{ℕ}
 use lib.IntN.{ℤ}
-use Rattle.host.specs.Border.{Called, called, matchCalled, matchWithCalled, reviewCalled}
+use Rattle.host.specs.Border.{Called, called, matchCalled, matchWithCalled, reviewCalled, reviewWithCalled}
 use Rattle.host.specs.Rooms.{roomCalled}
 
 same-call : (a b : ℕ) (x y : List ℤ) (m n : List ℕ) (c : Called) → called a x m ≡ c → called b y n ≡ c → (a ≡ b) × (x ≡ y) × (m ≡ n)
@@ -22,6 +22,11 @@ match-with-called-once form ms ps ts budget room numbers a b x y m n = same-call
 pub review-called-once : (ms ps : List ℤ) (cap : ℤ) (numbers : List ℕ) (a b : ℕ) (m n : List ℕ)
     → called a [] m ≡ reviewCalled ms ps cap numbers → called b [] n ≡ reviewCalled ms ps cap numbers → (a ≡ b) × (m ≡ n)
 review-called-once ms ps cap numbers a b m n p q = let r = same-call a b [] [] m n (reviewCalled ms ps cap numbers) p q in (r .0, r .2)
+
+pub review-with-called-once : (dialect : ℕ) (ms ps : List ℤ) (cap : ℤ) (numbers : List ℕ) (a b : ℕ) (m n : List ℕ)
+    → called a [] m ≡ reviewWithCalled dialect ms ps cap numbers → called b [] n ≡ reviewWithCalled dialect ms ps cap numbers → (a ≡ b) × (m ≡ n)
+review-with-called-once dialect ms ps cap numbers a b m n p q =
+    let r = same-call a b [] [] m n (reviewWithCalled dialect ms ps cap numbers) p q in (r .0, r .2)
 
 pub room-called-once : (form : ℕ) (ms ps : List ℤ) (cap : ℤ) (longest : ℕ) (numbers : List ℕ) (a b : ℕ) (m n : List ℕ)
     → called a [] m ≡ roomCalled form ms ps cap longest numbers → called b [] n ≡ roomCalled form ms ps cap longest numbers → (a ≡ b) × (m ≡ n)

@@ -14,3 +14,4 @@ pub mod Together
 pub mod Numbering
 pub mod Origins
 pub mod Faults
+pub mod Also

@@ -6,7 +6,7 @@ use lib.ListN.{length, drop}
 use lib.Seq.{sets}
 use lib.Dec.{ltb}
 use lib.IntN.{ℤ}
-use Rattle.rules.specs.Services.{Matched, match, matchWith, Reviewed, review}
+use Rattle.rules.specs.Services.{Matched, match, matchWith, Reviewed, review, reviewPicked}
 
 -- n bytes of a number, low byte first.
 unfoldable pub digits : ℕ → ℕ → List ℕ
@@ -64,3 +64,7 @@ reviewTold r numbers = called (r .answer) [] (over (bytesOf (reviewNumbers r)) n
 unfoldable pub reviewCalled : (ms ps : List ℤ) (most : ℤ) (numbers : List ℕ) → Called
 unfolding review reviewTold
 reviewCalled ms ps most numbers = cond (ltb (length numbers) 24) (called 24 [] numbers) (reviewTold (review ms ps most) numbers)
+
+unfoldable pub reviewWithCalled : (dialect : ℕ) (ms ps : List ℤ) (most : ℤ) (numbers : List ℕ) → Called
+unfolding reviewPicked reviewTold
+reviewWithCalled dialect ms ps most numbers = cond (ltb (length numbers) 24) (called 24 [] numbers) (reviewTold (reviewPicked dialect ms ps most) numbers)

@@ -5,14 +5,16 @@ mod rooms;
 use services::matching::Matched;
 use services::matching::match_units;
 use services::matching::match_units_with;
+use services::review::Reviewed;
 use services::review::review;
+use services::review::review_with;
 use words::casts::wide;
 use words::casts::wide_index;
 ghost use mathlib.Core.Path.{_≡_};
 ghost use Prim.Native.Nat.{_+_, _≤_};
 ghost use lib.ListN.{length};
 ghost use mathlib.Core.List.{_∷_, []};
-ghost use Rattle.host.specs.Border.{digits, put, bytesOf, over, called, matchCalled, matchWithCalled, reviewCalled};
+ghost use Rattle.host.specs.Border.{digits, put, bytesOf, over, called, matchCalled, matchWithCalled, reviewCalled, reviewWithCalled};
 
 // A number's eight bytes, low byte first, from an index on.
 fn put_number(out: &mut [u8], at: usize, x: u64)
@@ -51,8 +53,10 @@ fn put_six(out: &mut [u8], a: u64, b: u64, c: u64, d: u64, e: u64, f: u64)
     put_number(out, 40, f);
 }
 
-// The bytes of match's numbers.
+// The bytes of match's numbers, and of review's.
 const MATCH_BYTES: usize = 48;
+
+const REVIEW_BYTES: usize = 24;
 
 // The numbers of a match are written, and its answer is given back.
 fn tell(m: Matched, numbers: &mut [u8]) -> u32
@@ -71,15 +75,24 @@ fn tell(m: Matched, numbers: &mut [u8]) -> u32
     m.answer
 }
 
+// The numbers of a review are written, and its answer is given back.
+fn tell_review(m: Reviewed, numbers: &mut [u8]) -> u32
+    requires { ⌜ 24 ≤ length (now numbers) ⌝ }
+    ensures { λ r. ⌜ (r ≡ m .answer) × (now (numbers .exit) ≡ over (bytesOf (m .answer ∷ m .place ∷ m .count ∷ [])) (now (numbers .entry))) ⌝ }
+{
+    put_three(numbers, wide(m.answer), wide_index(m.place), m.count);
+    m.answer
+}
+
 // 24 short: the slice for the numbers is too short for them.
 const SHORT: u32 = 24;
 
 // The library's version, as the header has it: a thousand times the first number, plus the second.
-const VERSION: u32 = 2002;
+const VERSION: u32 = 2003;
 
 #[no_mangle]
 pub extern "C" fn lozhbinor_version() -> u32
-    ensures { λ r. ⌜ r ≡ 2002 ⌝ }
+    ensures { λ r. ⌜ r ≡ 2003 ⌝ }
 {
     VERSION
 }
@@ -131,10 +144,27 @@ pub extern "C" fn lozhbinor_review(
 ) -> u32
     ensures { λ r. ⌜ called r [] (now (numbers .exit)) ≡ reviewCalled (now (matcher .entry)) (now (pattern .entry)) cap (now (numbers .entry)) ⌝ }
 {
-    if numbers.len() < 24 {
+    if numbers.len() < REVIEW_BYTES {
         return SHORT;
     }
     let m = review(matcher, pattern, cap);
-    put_three(numbers, wide(m.answer), wide_index(m.place), m.count);
-    m.answer
+    tell_review(m, numbers)
+}
+
+// Review in the dialect that the caller picks: 22 where that is unknown.
+#[no_mangle]
+pub extern "C" fn lozhbinor_review_with(
+    dialect: u32,
+    matcher: &[i32],
+    pattern: &[i32],
+    cap: i32,
+    numbers: &mut [u8],
+) -> u32
+    ensures { λ r. ⌜ called r [] (now (numbers .exit)) ≡ reviewWithCalled dialect (now (matcher .entry)) (now (pattern .entry)) cap (now (numbers .entry)) ⌝ }
+{
+    if numbers.len() < REVIEW_BYTES {
+        return SHORT;
+    }
+    let m = review_with(dialect, matcher, pattern, cap);
+    tell_review(m, numbers)
 }

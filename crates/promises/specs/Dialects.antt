@@ -32,7 +32,7 @@ use Rattle.promises.specs.Solve.{founds, founds-start, stops, stops-visi
 use Rattle.promises.specs.Told.{Told, ToldAll, rule-told}
 use Rattle.promises.specs.Alike.{ends, ends-append, alike}
 use Rattle.promises.specs.Fewer.{Fewer, none, stay, skip, end, fewer-append, fewer-inside, fewer-only, fewer-leaf, fewer-each, fewer-some, cons-fewer}
-use Rattle.promises.specs.Also.{well-formed-also}
+use Rattle.forms.specs.Also.{well-formed-also}
 use Rattle.promises.specs.Listing.{solve-listing}
 use Rattle.promises.specs.Matching.{states, ways, outcome, result}
 

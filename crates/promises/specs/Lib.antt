@@ -18,7 +18,6 @@ pub mod OldFigure
 pub mod Exact
 pub mod Room
 pub mod Reviewing
-pub mod Also
 pub mod Told
 pub mod Alike
 pub mod Fewer

@@ -34,7 +34,7 @@ use Rattle.forms.specs.Origins.{plain-target}
 use Rattle.forms.specs.ReadTarget.{target-read}
 use Rattle.promises.specs.Reviewing.{countOf, everybody}
 use Rattle.forms.specs.Faults.{Sane, WellFormed}
-use Rattle.promises.specs.Also.{sane-also}
+use Rattle.forms.specs.Also.{sane-also}
 
 -- The states of the search in the order in which they are taken up; and the good ways, in dictionary order.
 unfoldable pub states : (dialect : Dialect) → Rule → Value → List Taken

@@ -15,7 +15,7 @@ use Rattle.rules.specs.Services.{accepted, Rule, ruleIn}
 use Rattle.forms.specs.Readers.{then-ok}
 use Rattle.forms.specs.Tests.{and-split}
 use Rattle.forms.specs.Numbering.{demand-ok}
-use Rattle.promises.specs.Also.{accepted-read}
+use Rattle.forms.specs.Also.{accepted-read}
 
 -- `mayBind`: a variable may stand here; inside an or or a not none may.
 unfoldable mutual

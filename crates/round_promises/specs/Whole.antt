@@ -32,7 +32,7 @@ use Rattle.promises.specs.Room.{widest, rows-words}
 use Rattle.forms.specs.ReadTarget.{target-read}
 use Rattle.promises.specs.Reviewing.{countOf}
 use Rattle.forms.specs.Faults.{Sane}
-use Rattle.promises.specs.Also.{sane-also}
+use Rattle.forms.specs.Also.{sane-also}
 use Rattle.promises.specs.Matching.{states, ways}
 use Rattle.promises.specs.Matching
 use Rattle.round_rules.specs.Rounds.{Branch, branch, spent, left, inside, byRounds, limitOf, statesIn, runRounds, roundsTarget, roundsRule, matchRounds}

@@ -2,8 +2,9 @@
 use Prim.Native.Nat.{ℕ, zero, suc, _^_, _≤_, _<_}
 use native.Mathlib.Omega.{arith}
 use native.Mathlib.Decide.{decLe}
-use mathlib.Core.Path.{_≡_, refl, sym, ap, _∙_}
+use mathlib.Core.Path.{_≡_, refl, sym, ap, _∙_, subst}
 use mathlib.Core.Bool.{Bool, true, false, cond}
+use mathlib.Core.Option.{Option, none, some}
 use mathlib.Core.List.{List}
 use lib.Dec.{ltb, leb}
 use lib.ListN.{length}
@@ -12,8 +13,11 @@ use borrow.Author.Needs.{needs}
 use borrow.Author.Tests.{lt-ltb, le-ltb}
 use Rattle.rules.specs.Review.{formula, factor}
 use Rattle.rules.specs.Always.{alwaysTrue}
-use Rattle.rules.specs.Services.{Judged, accepted, refused, Rule, ruleOf, declined, counted, capped, unlessAlwaysTrue, reviewRule, review}
+use Rattle.rules.specs.Services.{Judged, accepted, refused, Rule, ruleIn, ruleOf, declined, counted, capped, unlessAlwaysTrue, reviewRule, review, reviewOf, reviewPicked}
 use Rattle.rules.specs.Services as paper
+use Rattle.rules.specs.Dialects.{Dialect, dialectOf}
+use Rattle.forms.specs.Also.{rule-also}
+use Rattle.words.specs.Dialects.{dialectBy}
 use Rattle.forms.specs.Tests.{leb-true, leb-false}
 use Rattle.words.specs.Words.{tagZ}
 use Rattle.words.specs.Words.{entries}
@@ -30,7 +34,7 @@ use Rattle.tests.specs.declared.Judgement.{Judgement}
 use Rattle.tests.specs.declared.Judgement.the-variants.{Accepted, Refused}
 use Rattle.review_count.specs.Tally.{wholeSum, wholeProduct, within}
 use Rattle.room_rules.specs.Rooms.{rowsCounted, rowsCapped, rowsUnlessAlways, rowsReviewed}
-use Rattle.services.specs.Reviews.{Sound, sound, countedBy, rowsBy, reviewed}
+use Rattle.services.specs.Reviews.{Sound, sound, countedBy, rowsBy, rowsPicked, reviewed}
 use Rattle.review_count.specs.declared.count.Tally.{Tally}
 use Rattle.review_count.specs.declared.count.Tally.the-variants.{Count, TooBig}
 use Rattle.review_count.proofs.count.Counted.{counted-is, multiplied-is}
@@ -227,3 +231,63 @@ pub refused-rows : (j : Judged Rule) (cap : ℤ) (a i : ℕ) (x : Judgement) →
 unfolding judgement rowsReviewed
 refused-rows (accepted r) cap a i x q e = let z : _≡_ {A = ℕ} 0 1 = cc in absurd (omega arith)
 refused-rows (refused b k) cap a i x q e = refl
+
+-- ---- The dialect. A rule that it accepts is accepted in dialect 1, the same rule.
+
+module _ (dialect : Dialect) (ms ps : List ℤ) (x : Judgement) (q : x ≡ judgement (ruleIn dialect ms ps)) (e : x ≡ Accepted) where
+  given : (r : Rule) × (ruleIn dialect ms ps ≡ accepted r)
+  given = sound-is (accepted-sound (ruleIn dialect ms ps) x q e)
+
+  same-rule : ruleOf ms ps ≡ ruleIn dialect ms ps
+  same-rule = rule-also dialect ms ps (given .0) (given .1) ∙ sym (given .1)
+
+  pub also-sound : Sound (ruleOf ms ps)
+  also-sound = subst Sound (sym same-rule) (accepted-sound (ruleIn dialect ms ps) x q e)
+
+  pub also-given : (z cap : ℤ) (y : paper.Reviewed) → y ≡ reviewRule z (ruleOf ms ps) → z ≡ cap → y ≡ reviewRule cap (ruleIn dialect ms ps)
+  also-given z cap y h k = h ∙ ap (λ (w : ℤ). reviewRule w (ruleOf ms ps)) k ∙ ap (reviewRule cap) same-rule
+
+  pub also-rows : (z cap : ℤ) (y : ℕ) → y ≡ rowsReviewed z (ruleOf ms ps) → z ≡ cap → y ≡ rowsReviewed cap (ruleIn dialect ms ps)
+  also-rows z cap y h k = h ∙ ap (λ (w : ℤ). rowsReviewed w (ruleOf ms ps)) k ∙ ap (rowsReviewed cap) same-rule
+
+module _ (ms ps : List ℤ) (z cap : ℤ) (k : z ≡ cap) (b : Bool) where
+  pub review-every : b ≡ false → (y : paper.Reviewed) → y ≡ reviewOf (dialectBy b) ms ps z → y ≡ review ms ps cap
+  unfolding dialectBy reviewOf review
+  review-every h y e = e ∙ rw (h, k)
+
+  pub rows-every : b ≡ false → (y : ℕ) → y ≡ rowsReviewed z (ruleIn (dialectBy b) ms ps) → y ≡ rowsReviewed cap (ruleOf ms ps)
+  unfolding dialectBy
+  rows-every h y e = e ∙ rw (h, k)
+
+  module _ (n : ℕ) where
+    pub picked-1 : n ≡ 1 → b ≡ false → (y : paper.Reviewed) → y ≡ reviewOf (dialectBy b) ms ps z → y ≡ reviewPicked n ms ps cap
+    unfolding dialectBy reviewPicked dialectOf
+    picked-1 h g y e = e ∙ rw (h, g, k)
+
+    pub picked-2 : n ≡ 2 → b ≡ true → (y : paper.Reviewed) → y ≡ reviewOf (dialectBy b) ms ps z → y ≡ reviewPicked n ms ps cap
+    unfolding dialectBy reviewPicked dialectOf
+    picked-2 h g y e = e ∙ rw (h, g, k)
+
+    pub rows-1 : n ≡ 1 → b ≡ false → (y : ℕ) → y ≡ rowsReviewed z (ruleIn (dialectBy b) ms ps) → y ≡ rowsPicked n ms ps cap
+    unfolding dialectBy rowsPicked dialectOf
+    rows-1 h g y e = e ∙ rw (h, g, k)
+
+    pub rows-2 : n ≡ 2 → b ≡ true → (y : ℕ) → y ≡ rowsReviewed z (ruleIn (dialectBy b) ms ps) → y ≡ rowsPicked n ms ps cap
+    unfolding dialectBy rowsPicked dialectOf
+    rows-2 h g y e = e ∙ rw (h, g, k)
+
+no-dialect : (n : ℕ) → (n ≡ 1 → ⊥) → (n ≡ 2 → ⊥) → dialectOf n ≡ none
+unfolding dialectOf
+no-dialect zero f g = refl
+no-dialect (suc zero) f g = absurd (f refl)
+no-dialect (suc (suc zero)) f g = absurd (g refl)
+no-dialect (suc (suc (suc n))) f g = refl
+
+module _ (ms ps : List ℤ) (cap : ℤ) (n : ℕ) (f : n ≡ 1 → ⊥) (g : n ≡ 2 → ⊥) where
+  pub picked-none : declined 22 0 ≡ reviewPicked n ms ps cap
+  unfolding reviewPicked
+  picked-none = sym (ap (λ (x : Option Dialect). elim x as (λ _. paper.Reviewed) [ none ↦ declined 22 0 | some d ↦ reviewOf d ms ps cap ]) (no-dialect n f g))
+
+  pub rows-none : 0 ≡ rowsPicked n ms ps cap
+  unfolding rowsPicked
+  rows-none = sym (ap (λ (x : Option Dialect). elim x as (λ _. ℕ) [ none ↦ 0 | some d ↦ rowsReviewed cap (ruleIn d ms ps) ]) (no-dialect n f g))

@@ -6,14 +6,15 @@ use review_count::count::tallied;
 use tables::line::Lines;
 use tables::line::no_lines;
 use tests::Judgement;
-use tests::rule_refused;
+use tests::rule_refused_in;
 use words::casts::wide;
 use words::tag_of;
 ghost use mathlib.Core.Path.{_≡_};
-ghost use Rattle.rules.specs.Services.{ruleOf, reviewRule, review};
+ghost use Rattle.rules.specs.Services.{ruleIn, ruleOf, reviewRule, review, reviewOf, reviewPicked};
+ghost use Rattle.words.specs.Dialects.{dialectBy};
 ghost use Rattle.tables.specs.Line.{columnsOf};
 ghost use Rattle.room_rules.specs.Rooms.{rowsReviewed};
-ghost use Rattle.services.specs.Reviews.{Sound, countedBy, rowsBy, reviewed};
+ghost use Rattle.services.specs.Reviews.{Sound, countedBy, rowsBy, rowsPicked, reviewed};
 
 // Document 01's three numbers, and the product of the factors, which bounds the rows; 0 in a refusal.
 pub struct Reviewed {
@@ -28,6 +29,8 @@ pub const CAP: u32 = 9;
 pub const TOO_BIG: u32 = 10;
 
 pub const ALWAYS_TRUE: u32 = 11;
+
+pub const UNKNOWN_DIALECT: u32 = 22;
 
 // Tests 9 and 10, over the lines of a rule's program.
 fn counted(lines: &Lines, cap: i32) -> Reviewed
@@ -78,12 +81,12 @@ fn of_rule(matcher: &[i32], pattern: &[i32], cap: i32) -> Reviewed
     counted(&lines, cap)
 }
 
-// Review, for every input.
-pub fn review(matcher: &[i32], pattern: &[i32], cap: i32) -> Reviewed
-    ensures { λ r. ⌜ reviewed r ≡ review (now (matcher .entry)) (now (pattern .entry)) cap ⌝ }
-    ensures { λ r. ⌜ r .rows ≡ rowsReviewed cap (ruleOf (now (matcher .entry)) (now (pattern .entry))) ⌝ }
+// Review in a dialect; `firsts`: dialect 2.
+fn review_in(firsts: bool, matcher: &[i32], pattern: &[i32], cap: i32) -> Reviewed
+    ensures { λ r. ⌜ reviewed r ≡ reviewOf (dialectBy firsts) (now (matcher .entry)) (now (pattern .entry)) cap ⌝ }
+    ensures { λ r. ⌜ r .rows ≡ rowsReviewed cap (ruleIn (dialectBy firsts) (now (matcher .entry)) (now (pattern .entry))) ⌝ }
 {
-    match rule_refused(matcher, pattern) {
+    match rule_refused_in(firsts, matcher, pattern) {
         Judgement::Refused(a, i) => Reviewed {
             answer: a,
             place: i,
@@ -91,5 +94,32 @@ pub fn review(matcher: &[i32], pattern: &[i32], cap: i32) -> Reviewed
             rows: 0,
         },
         Judgement::Accepted => of_rule(matcher, pattern, cap),
+    }
+}
+
+// Review, for every input, in dialect 1.
+pub fn review(matcher: &[i32], pattern: &[i32], cap: i32) -> Reviewed
+    ensures { λ r. ⌜ reviewed r ≡ review (now (matcher .entry)) (now (pattern .entry)) cap ⌝ }
+    ensures { λ r. ⌜ r .rows ≡ rowsReviewed cap (ruleOf (now (matcher .entry)) (now (pattern .entry))) ⌝ }
+{
+    review_in(false, matcher, pattern, cap)
+}
+
+// Review in the dialect that the caller picks; one that is unknown is 22, before any other look.
+pub fn review_with(dialect: u32, matcher: &[i32], pattern: &[i32], cap: i32) -> Reviewed
+    ensures { λ r. ⌜ reviewed r ≡ reviewPicked dialect (now (matcher .entry)) (now (pattern .entry)) cap ⌝ }
+    ensures { λ r. ⌜ r .rows ≡ rowsPicked dialect (now (matcher .entry)) (now (pattern .entry)) cap ⌝ }
+{
+    if dialect == 1 {
+        return review_in(false, matcher, pattern, cap);
+    }
+    if dialect == 2 {
+        return review_in(true, matcher, pattern, cap);
+    }
+    Reviewed {
+        answer: UNKNOWN_DIALECT,
+        place: 0,
+        count: 0,
+        rows: 0,
     }
 }

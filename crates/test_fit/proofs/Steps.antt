@@ -19,7 +19,7 @@ use Rattle.test_forms.specs.Ends.{within}
 use Rattle.matchers.specs.Places.{matcherEnd}
 use Rattle.test_fit.specs.Shapes.{widthFits}
 use Rattle.test_forms.specs.Table.{takenOf, rowIn, rowOf}
-use Rattle.test_fit.specs.Fitting.{membersAt, valueFits, byParts, firstOf, tupleAt, asked, hereOf, hereAt, byHere, fitP, fitOf, pushed}
+use Rattle.test_fit.specs.Fitting.{membersAt, valueFits, byParts, firstOf, tupleAt, asked, hereOf, hereAt, unlike, hereIn, hereInAt, byHere, fitP, fitOf, pushed}
 use Rattle.test_forms.specs.declared.Tested.{Tested}
 use Rattle.test_forms.specs.declared.Tested.the-variants.{Passed, Fault}
 use Rattle.test_fit.specs.declared.Here.{Here}
@@ -35,28 +35,28 @@ use Rattle.test_fit.proofs.Stack.{stackOf, stack-push, take-more, lengt
 word-drop : (p : List ℤ) (j i x : ℕ) → j + i ≡ x → getD (drop j p) i (negsuc 0) ≡ getD p x (negsuc 0)
 word-drop p j i x e = getD-drop j p i (negsuc 0) ∙ ap (λ (k : ℕ). getD p k (negsuc 0)) e
 
-module _ (m p : List ℤ) (at : ℕ) (h : at < length p) where
-  skips : (st under : List ℕ) (o : ℕ) → 0 < o → fitP m st under o at (drop at p) ≡ fitP m st under (o - 1) (at + 1) (drop (at + 1) p)
+module _ (firsts : Bool) (m p : List ℤ) (at : ℕ) (h : at < length p) where
+  skips : (st under : List ℕ) (o : ℕ) → 0 < o → fitP firsts m st under o at (drop at p) ≡ fitP firsts m st under (o - 1) (at + 1) (drop (at + 1) p)
   unfolding fitP
   skips st under zero q = absurd (omega arith)
   skips st under (suc o) q = let r : suc o - 1 ≡ o = omega arith in rw (r, add-one at, drop-cons p at (negsuc 0) h)
 
-  spare : (a under : List ℕ) (n o : ℕ) → n ≡ 0 → o ≤ 0 → fitP m (stackOf a n) under o at (drop at p) ≡ Fault at
+  spare : (a under : List ℕ) (n o : ℕ) → n ≡ 0 → o ≤ 0 → fitP firsts m (stackOf a n) under o at (drop at p) ≡ Fault at
   unfolding fitP stackOf
   spare a under zero zero e q = rw (drop-cons p at (negsuc 0) h)
   spare a under (suc n) zero e q = absurd (omega arith)
   spare a under n (suc o) e q = absurd (omega arith)
 
-  steps : (a under : List ℕ) (n o : ℕ) → (n ≡ 0 → ⊥) → o ≤ 0 → (r : Here) → r ≡ hereAt m (getD a (n - 1) 0) p at under
-      → fitP m (stackOf a n) under o at (drop at p)
+  steps : (a under : List ℕ) (n o : ℕ) → (n ≡ 0 → ⊥) → o ≤ 0 → (r : Here) → r ≡ hereInAt firsts m (getD a (n - 1) 0) p at under
+      → fitP firsts m (stackOf a n) under o at (drop at p)
       ≡ byHere r
       (Fault at)
-      (λ b. fitP m (stackOf a (n - 1)) under b (at + 1) (drop (at + 1) p))
-      (λ b. fitP m (stackOf a (n - 1)) (under ++ (getD a (n - 1) 0 ∷ [])) b (at + 1) (drop (at + 1) p))
-      (fitP m (getD a (n - 1) 0 ∷ stackOf a (n - 1)) under 0 (at + 1) (drop (at + 1) p))
-      (λ f. fitP m (f ∷ getD a (n - 1) 0 ∷ stackOf a (n - 1)) under 0 (at + 1) (drop (at + 1) p))
-      (λ f k. fitP m (membersAt m k f ++ stackOf a (n - 1)) under 1 (at + 1) (drop (at + 1) p))
-  unfolding fitP stackOf hereAt tagAt
+      (λ b. fitP firsts m (stackOf a (n - 1)) under b (at + 1) (drop (at + 1) p))
+      (λ b. fitP firsts m (stackOf a (n - 1)) (under ++ (getD a (n - 1) 0 ∷ [])) b (at + 1) (drop (at + 1) p))
+      (fitP firsts m (getD a (n - 1) 0 ∷ stackOf a (n - 1)) under 0 (at + 1) (drop (at + 1) p))
+      (λ f. fitP firsts m (f ∷ getD a (n - 1) 0 ∷ stackOf a (n - 1)) under 0 (at + 1) (drop (at + 1) p))
+      (λ f k. fitP firsts m (membersAt m k f ++ stackOf a (n - 1)) under 1 (at + 1) (drop (at + 1) p))
+  unfolding fitP stackOf hereInAt tagAt
   steps a under zero o z q r e = absurd (z refl)
   steps a under (suc n) (suc o) z q r e = absurd (omega arith)
   steps a under (suc n) zero z q r e =
@@ -70,71 +70,71 @@ module _ (m p : List ℤ) (at : ℕ) (h : at < length p) where
         add-one at,
       )
 
-over : (m p : List ℤ) (st under : List ℕ) (at o : ℕ) → length p ≤ at → fitP m st under o at (drop at p) ≡ Passed
+over : (firsts : Bool) (m p : List ℤ) (st under : List ℕ) (at o : ℕ) → length p ≤ at → fitP firsts m st under o at (drop at p) ≡ Passed
 unfolding fitP
-over m p st under at o h = rw (drop-of-length-le p h)
+over firsts m p st under at o h = rw (drop-of-length-le p h)
 
 -- ---- The length.
 
-pub ret-long : (m p : List ℤ) → 256 < length p → Fault 256 ≡ fitOf m p
+pub ret-long : (firsts : Bool) (m p : List ℤ) → 256 < length p → Fault 256 ≡ fitOf firsts m p
 unfolding fitOf
-ret-long m p l = rw (lt-leb (length p) 256 l)
+ret-long firsts m p l = rw (lt-leb (length p) 256 l)
 
-in-time : (m p : List ℤ) (v : Tested) → length p ≤ 256 → v ≡ fitP m (0 ∷ []) [] 0 0 p → v ≡ fitOf m p
+in-time : (firsts : Bool) (m p : List ℤ) (v : Tested) → length p ≤ 256 → v ≡ fitP firsts m (0 ∷ []) [] 0 0 p → v ≡ fitOf firsts m p
 unfolding fitOf
-in-time m p v l e = rw (le-leb (length p) 256 l) e
+in-time firsts m p v l e = rw (le-leb (length p) 256 l) e
 
 -- ---- Returns and turns.
 
-pub starts : (m p : List ℤ) (a l : List ℕ) → getD a 0 0 ≡ 0 → fitP m (0 ∷ []) [] 0 0 p ≡ fitP m (stackOf a 1) (take 0 l) 0 0 (drop 0 p)
+pub starts : (firsts : Bool) (m p : List ℤ) (a l : List ℕ) → getD a 0 0 ≡ 0 → fitP firsts m (0 ∷ []) [] 0 0 p ≡ fitP firsts m (stackOf a 1) (take 0 l) 0 0 (drop 0 p)
 unfolding stackOf
-starts m p a l e = rw e
+starts firsts m p a l e = rw e
 
-module _ (m p : List ℤ) (a u : List ℕ) (n o at : ℕ) where
-  module _ (l : length p ≤ 256) (i : fitP m (0 ∷ []) [] 0 0 p ≡ fitP m (stackOf a n) u o at (drop at p)) where
-    pub ret-end : length p ≤ at → Passed ≡ fitOf m p
-    ret-end h = in-time m p _ l (sym (i ∙ over m p (stackOf a n) u at o h))
+module _ (firsts : Bool) (m p : List ℤ) (a u : List ℕ) (n o at : ℕ) where
+  module _ (l : length p ≤ 256) (i : fitP firsts m (0 ∷ []) [] 0 0 p ≡ fitP firsts m (stackOf a n) u o at (drop at p)) where
+    pub ret-end : length p ≤ at → Passed ≡ fitOf firsts m p
+    ret-end h = in-time firsts m p _ l (sym (i ∙ over firsts m p (stackOf a n) u at o h))
 
-    pub ret-spare : at < length p → n ≡ 0 → o ≤ 0 → Fault at ≡ fitOf m p
-    ret-spare h e q = in-time m p _ l (sym (i ∙ spare m p at h a u n o e q))
+    pub ret-spare : at < length p → n ≡ 0 → o ≤ 0 → Fault at ≡ fitOf firsts m p
+    ret-spare h e q = in-time firsts m p _ l (sym (i ∙ spare firsts m p at h a u n o e q))
 
-    pub ret-misfit : at < length p → (n ≡ 0 → ⊥) → o ≤ 0 → (r : Here) → r ≡ hereAt m (getD a (n - 1) 0) p at u → r ≡ Misfit → Fault at ≡ fitOf m p
+    pub ret-misfit : at < length p → (n ≡ 0 → ⊥) → o ≤ 0 → (r : Here) → r ≡ hereInAt firsts m (getD a (n - 1) 0) p at u → r ≡ Misfit → Fault at ≡ fitOf firsts m p
     unfolding byHere
-    ret-misfit h z q r e f = in-time m p _ l (sym (i ∙ steps m p at h a u n o z q r e ∙ rw f))
+    ret-misfit h z q r e f = in-time firsts m p _ l (sym (i ∙ steps firsts m p at h a u n o z q r e ∙ rw f))
 
-  module _ (v : Tested) (i : v ≡ fitP m (stackOf a n) u o at (drop at p)) (h : at < length p) where
-    pub turn-skip : 0 < o → v ≡ fitP m (stackOf a n) u (o - 1) (at + 1) (drop (at + 1) p)
-    turn-skip q = i ∙ skips m p at h (stackOf a n) u o q
+  module _ (v : Tested) (i : v ≡ fitP firsts m (stackOf a n) u o at (drop at p)) (h : at < length p) where
+    pub turn-skip : 0 < o → v ≡ fitP firsts m (stackOf a n) u (o - 1) (at + 1) (drop (at + 1) p)
+    turn-skip q = i ∙ skips firsts m p at h (stackOf a n) u o q
 
-    module _ (z : n ≡ 0 → ⊥) (q : o ≤ 0) (r : Here) (e : r ≡ hereAt m (getD a (n - 1) 0) p at u) where
-      pub turn-leaf : (b : ℕ) → r ≡ Leaf b → v ≡ fitP m (stackOf a (n - 1)) u b (at + 1) (drop (at + 1) p)
+    module _ (z : n ≡ 0 → ⊥) (q : o ≤ 0) (r : Here) (e : r ≡ hereInAt firsts m (getD a (n - 1) 0) p at u) where
+      pub turn-leaf : (b : ℕ) → r ≡ Leaf b → v ≡ fitP firsts m (stackOf a (n - 1)) u b (at + 1) (drop (at + 1) p)
       unfolding byHere
-      turn-leaf b f = i ∙ steps m p at h a u n o z q r e ∙ rw f
+      turn-leaf b f = i ∙ steps firsts m p at h a u n o z q r e ∙ rw f
 
-      pub turn-one : r ≡ One → v ≡ fitP m (stackOf a (n - 1 + 1)) u o (at + 1) (drop (at + 1) p)
+      pub turn-one : r ≡ One → v ≡ fitP firsts m (stackOf a (n - 1 + 1)) u o (at + 1) (drop (at + 1) p)
       unfolding byHere stackOf
       turn-one w =
           let y : o ≡ 0 = omega arith in
-          rw (add-one (n - 1), y) (i ∙ steps m p at h a u n o z q r e ∙ rw w)
+          rw (add-one (n - 1), y) (i ∙ steps firsts m p at h a u n o z q r e ∙ rw w)
 
       pub turn-parts : (f : ℕ) → r ≡ Parts f → n - 1 + 1 < length a
-          → v ≡ fitP m (stackOf (set (set a (n - 1) (getD a (n - 1) 0)) (n - 1 + 1) f) (n - 1 + 2)) u o (at + 1) (drop (at + 1) p)
+          → v ≡ fitP firsts m (stackOf (set (set a (n - 1) (getD a (n - 1) 0)) (n - 1 + 1) f) (n - 1 + 2)) u o (at + 1) (drop (at + 1) p)
       unfolding byHere
       turn-parts f w k =
           let y : o ≡ 0 = omega arith in
-          rw (stack-push a (n - 1) (getD a (n - 1) 0) f k, y) (i ∙ steps m p at h a u n o z q r e ∙ rw w)
+          rw (stack-push a (n - 1) (getD a (n - 1) 0) f k, y) (i ∙ steps firsts m p at h a u n o z q r e ∙ rw w)
 
       pub turn-wide : (f k : ℕ) → r ≡ Wide f k → n - 1 + k ≤ length a → (b : List ℕ) → b ≡ pushed m a (n - 1) k f
-          → v ≡ fitP m (stackOf b (n - 1 + k)) u 1 (at + 1) (drop (at + 1) p)
+          → v ≡ fitP firsts m (stackOf b (n - 1 + k)) u 1 (at + 1) (drop (at + 1) p)
       unfolding byHere
-      turn-wide f k w l b j = rw (j, stack-pushed m (n - 1) a k f l) (i ∙ steps m p at h a u n o z q r e ∙ rw w)
+      turn-wide f k w l b j = rw (j, stack-pushed m (n - 1) a k f l) (i ∙ steps firsts m p at h a u n o z q r e ∙ rw w)
 
-pub turn-bind : (m p : List ℤ) (a u : List ℕ) (n o at next : ℕ) (v : Tested) → v ≡ fitP m (stackOf a n) (take next u) o at (drop at p) → at < length p
-    → (n ≡ 0 → ⊥) → o ≤ 0 → (r : Here) → r ≡ hereAt m (getD a (n - 1) 0) p at (take next u) → (b : ℕ) → r ≡ Bind b → next < length u
-    → v ≡ fitP m (stackOf a (n - 1)) (take (next + 1) (set u next (getD a (n - 1) 0))) b (at + 1) (drop (at + 1) p)
+pub turn-bind : (firsts : Bool) (m p : List ℤ) (a u : List ℕ) (n o at next : ℕ) (v : Tested) → v ≡ fitP firsts m (stackOf a n) (take next u) o at (drop at p) → at < length p
+    → (n ≡ 0 → ⊥) → o ≤ 0 → (r : Here) → r ≡ hereInAt firsts m (getD a (n - 1) 0) p at (take next u) → (b : ℕ) → r ≡ Bind b → next < length u
+    → v ≡ fitP firsts m (stackOf a (n - 1)) (take (next + 1) (set u next (getD a (n - 1) 0))) b (at + 1) (drop (at + 1) p)
 unfolding byHere
-turn-bind m p a u n o at next v i h z q r e b w k =
-    rw (take-more u next (getD a (n - 1) 0) k) (i ∙ steps m p at h a (take next u) n o z q r e ∙ rw w)
+turn-bind firsts m p a u n o at next v i h z q r e b w k =
+    rw (take-more u next (getD a (n - 1) 0) k) (i ∙ steps firsts m p at h a (take next u) n o z q r e ∙ rw w)
 
 -- ---- Bounds: what a tag skips, and how wide a tuple is.
 
@@ -184,9 +184,17 @@ asks m i p at under = go (tagAt p at) (rowOf (tagAt m i) (tagAt p at)) refl
     go t (row.Wide false) e = tt
     go t (row.Wide true) e = by-width (tagAt m (i + 1)) (tagZ (getD p (at + 1) (negsuc 0))) (eqb (tagAt m (i + 1)) (tagZ (getD p (at + 1) (negsuc 0)))) refl
 
-module _ (m p : List ℤ) (i at : ℕ) (under : List ℕ) (r : Here) (e : r ≡ hereAt m i p at under) where
+asks-in : (firsts : Bool) (m : List ℤ) (i : ℕ) (p : List ℤ) (at : ℕ) (under : List ℕ) → Asks (hereInAt firsts m i p at under)
+unfolding hereInAt hereIn hereAt Asks
+asks-in firsts m i p at under = go (unlike firsts m i (tagAt p at))
+  where
+    go : (b : Bool) → Asks (cond b Misfit (hereAt m i p at under))
+    go true = tt
+    go false = asks m i p at under
+
+module _ (firsts : Bool) (m p : List ℤ) (i at : ℕ) (under : List ℕ) (r : Here) (e : r ≡ hereInAt firsts m i p at under) where
   of : Asks r
-  of = rw e (asks m i p at under)
+  of = rw e (asks-in firsts m i p at under)
 
   pub leaf-le : (b : ℕ) → r ≡ Leaf b → b ≤ 2
   unfolding Asks

@@ -20,7 +20,7 @@ use Rattle.words.proofs.Signed.{within}
 use Rattle.test_forms.specs.Ends as ends
 use Rattle.test_fit.specs.Shapes.{widthFits, shapes}
 use Rattle.test_forms.specs.Table.{takenOf, takenIn, rowIn, rowOf}
-use Rattle.test_fit.specs.Fitting.{shapesWith, valueFits, valueFitsTag, firstOf, byParts, tupleAt, asked, hereOf, hereAt}
+use Rattle.test_fit.specs.Fitting.{shapesWith, valueFits, valueFitsTag, firstOf, byParts, tupleAt, asked, hereOf, hereAt, apartAt, unlike, hereIn, hereInAt}
 use Rattle.test_fit.specs.declared.Here.{Here}
 use Rattle.test_fit.specs.declared.Here.the-variants.{Misfit, Leaf, Bind, One, Parts, Wide}
 use Rattle.test_forms.specs.declared.table.Row.{Row}
@@ -228,3 +228,45 @@ pub few-under : (next : ℕ) (l : List ℕ) → next ≤ 128 → length (take ne
 few-under next l h = rw (length-take next l) (omega arith)
 
 pub ruleset rules = (ret-none, ret-untaken-tuple, ret-wide, tuple-fits, ret-untaken, ret-bind, ret-leaf, ret-one, ret-parts, first-fits, ret-misfit, ret-value, few-under, needs)
+
+-- ---- The same in a dialect.
+
+module _ (m : List ℤ) (i k : ℕ) (x : k ≡ tagAt m i) where
+  pub apart-multiset : k ≡ 3 → (r : Bool) → r ≡ shapes m (i + 1) (i + 1) → r ≡ apartAt m i
+  unfolding apartAt
+  apart-multiset h r e = e ∙ rw (← x, h)
+
+  pub apart-other : (k ≡ 3 → ⊥) → true ≡ apartAt m i
+  unfolding apartAt
+  apart-other h = rw (← x, ne-eqb k 3 h)
+
+  pub apart-fits : k ≡ 3 → length m < 2 ^ 64 → Fits w64 (i + 1)
+  apart-fits h l = let w = within m i k x (omega arith) in record { fits = omega arith }
+
+pub ruleset apart-rules = (apart-multiset, apart-other, apart-fits, needs)
+
+module _ (m : List ℤ) (i t : ℕ) where
+  pub like-other : (firsts : Bool) → (t ≡ 5 → ⊥) → false ≡ unlike firsts m i t
+  unfolding unlike
+  like-other firsts h = rw (ne-eqb t 5 h)
+
+  pub like-every : (firsts : Bool) → not firsts ≡ true → t ≡ 5 → false ≡ unlike firsts m i t
+  unfolding unlike
+  like-every firsts f h = rw (h, not-true firsts f)
+
+  pub like-firsts : (firsts b : Bool) → not firsts ≡ false → t ≡ 5 → b ≡ apartAt m i → not b ≡ unlike firsts m i t
+  unfolding unlike
+  like-firsts firsts b f h q = rw (h, not-false firsts f, q)
+
+pub ruleset like-rules = (like-other, like-every, like-firsts, needs)
+
+module _ (firsts : Bool) (m p : List ℤ) (i at t : ℕ) (under : List ℕ) (y : t ≡ tagAt p at) (b : Bool) (q : b ≡ unlike firsts m i t) where
+  pub in-unlike : b ≡ true → Misfit ≡ hereInAt firsts m i p at under
+  unfolding hereInAt hereIn
+  in-unlike h = rw (← y, ← q, h)
+
+  pub in-like : b ≡ false → (r : Here) → r ≡ hereAt m i p at under → r ≡ hereInAt firsts m i p at under
+  unfolding hereInAt hereIn hereAt
+  in-like h r e = e ∙ rw (← y, ← q, h)
+
+pub ruleset in-rules = (in-unlike, in-like, needs)

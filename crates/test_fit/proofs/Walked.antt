@@ -1,6 +1,6 @@
 -- Walking a pattern's words under a matcher's finds what the rule of fit finds of the pattern and the matcher. Assumes nothing.
-use mathlib.Core.Path.{_≡_, refl, sym, ap}
-use mathlib.Core.Bool.{Bool, true, false, cond, _&&_, _||_}
+use mathlib.Core.Path.{_≡_, refl, sym, _∙_, ap}
+use mathlib.Core.Bool.{Bool, true, false, not, cond, _&&_, _||_}
 use mathlib.Core.Option.{none, some}
 use mathlib.Core.List.{List, [], _∷_, _++_, append-assoc, append-nil}
 use Prim.Native.Nat.{ℕ, zero, suc, _+_}
@@ -15,19 +15,21 @@ use Rattle.rules.specs.Forms.{Matcher, something, integer, list, multiset, tupl
 use Rattle.rules.specs.Forms.{Pattern, wildcard, variable, constant, value, nil, cons, join, tuple, both, either, never, Patterns, noPatterns, _▸ᵖ_, countᵖ, span, spanAll}
 use Rattle.rules.specs.Reading.{Verdict, ok, fault, _then_, entry, matcherTags, patternTags, readMatcher, readPattern}
 use Rattle.rules.specs.Variables.{demand}
-use Rattle.rules.specs.Fit.{takes, tagsOf, element, members, withoutSomething, isInteger, alike, comparable, fits, fitsParts, fitsIn, fitsPartsIn, toldApart}
+use Rattle.rules.specs.Fit.{takes, tagsOf, element, members, withoutSomething, isInteger, sameShape, sameShapes, ofCollection, ofTuple, isSomething, alike, comparable, fitsIn, fitsPartsIn, toldApart}
+use Rattle.rules.specs.Dialects.{firstPlaces}
 use Rattle.forms.specs.Written.{matcherWords, patternWords, patternWordsAll, Widthsᵐ}
 use Rattle.forms.specs.ReadPattern.{pattern-read}
 use Rattle.words.specs.Words.{tagAt}
+use Rattle.words.specs.Dialects.{dialectBy}
 use Rattle.test_forms.specs.Tests.{tested}
-use Rattle.test_fit.specs.Shapes.{widthFits}
+use Rattle.test_fit.specs.Shapes.{widthFits, shapes}
 use Rattle.test_forms.specs.Table.{takenOf, takenIn, rowIn, rowOf}
-use Rattle.test_fit.specs.Fitting.{membersAt, shapesWith, valueFits, firstOf, byParts, tupleAt, asked, hereOf, byHere, fitP, fitOf}
+use Rattle.test_fit.specs.Fitting.{membersAt, shapesWith, valueFits, firstOf, byParts, tupleAt, asked, hereOf, apartAt, unlike, hereIn, byHere, fitP, fitOf}
 use Rattle.test_forms.specs.declared.Tested.{Tested}
 use Rattle.test_forms.specs.declared.Tested.the-variants.{Fault}
 use Rattle.test_fit.specs.declared.Here.{Here}
 use Rattle.test_fit.specs.declared.Here.the-variants.{Misfit, Leaf, Bind, One, Parts, Wide}
-use Rattle.test_fit.proofs.shapes.Standing.{At, AtAll, tagOf, at-whole, at-tag, at-end, at-element, at-width, at-members, at-first, at-others}
+use Rattle.test_fit.proofs.shapes.Standing.{At, AtAll, tagOf, at-whole, at-tag, at-end, at-multiset, at-element, at-width, at-members, at-first, at-others}
 use Rattle.test_forms.proofs.Turns.{is-width}
 use Rattle.test_fit.proofs.shapes.Shaped.{and-false, and-true, shaped}
 
@@ -49,6 +51,21 @@ integer-by (list k) = refl
 integer-by (multiset k) = refl
 integer-by (tupleOf ks) = refl
 
+-- A matcher has its own shape.
+mutual
+  unfolding sameShape ofCollection ofTuple isSomething isInteger
+
+  same-itself : (k : Matcher) → sameShape k k ≡ true
+  same-itself something = refl
+  same-itself integer = refl
+  same-itself (list k) = same-itself k
+  same-itself (multiset k) = same-itself k
+  same-itself (tupleOf ks) = same-themselves ks
+
+  same-themselves : (ks : Matchers) → sameShapes ks ks ≡ true
+  same-themselves noMatchers = refl
+  same-themselves (k ▸ᵐ ks) = rw (same-itself k) (same-themselves ks)
+
 and-both : (a b c : Bool) → ((a && b) && c) ≡ (a && b && c)
 and-both true b c = refl
 and-both false b c = refl
@@ -68,7 +85,7 @@ eqb-turn a b = go (eqb a b) refl
     go true e = sym (eq-eqb b a (sym (eqb-true a b e)))
     go false e = sym (ne-eqb b a (λ h. eqb-false a b e (sym h)))
 
-module _ (m : List ℤ) where
+module _ (firsts : Bool) (m : List ℤ) where
   -- The matchers ks stand at the indices js.
   unfoldable Standing : List ℕ → List Matcher → Type 0
   Standing [] [] = Unit {0}
@@ -138,6 +155,31 @@ module _ (m : List ℤ) where
         → (takenOf (tagAt m i) 3 && valueFits m i js v c) ≡ (takes k 3 && comparable v c k ks)
     stands-value js ks s v c = rw (taken-at 3, comparable-by js ks s v c)
 
+    -- Whether a cons stands rightly, in either dialect.
+    apart-by : apartAt m i ≡ toldApart firstPlaces k
+    unfolding apartAt toldApart tagOf
+    apart-by = rw (at-tag m i k a) (go k a)
+      where
+        go : (l : Matcher) → At m i l → cond (eqb (tagOf l) 3) (shapes m (i + 1) (i + 1)) true ≡ toldApart firstPlaces l
+        go something b = refl
+        go integer b = refl
+        go (list l) b = refl
+        go (multiset l) b = let h = at-multiset m i l b in shaped m l l (i + 1) (i + 1) h h ∙ rw (same-itself l) (and-true (withoutSomething l))
+        go (tupleOf ls) b = refl
+
+    stands-cons : cond (firsts && not (apartAt m i)) Misfit (cond (takenOf (tagAt m i) 5 && true) (Parts (i + 1)) Misfit)
+        ≡ cond (toldApart (dialectBy firsts) k && takes k 5) (Parts (i + 1)) Misfit
+    unfolding dialectBy toldApart
+    stands-cons = rw (stands 5) (go firsts)
+      where
+        by : (x : Bool) → cond (not x) Misfit (cond (takes k 5) (Parts (i + 1)) Misfit) ≡ cond (x && takes k 5) (Parts (i + 1)) Misfit
+        by true = refl
+        by false = refl
+
+        go : (f : Bool) → cond (f && not (apartAt m i)) Misfit (cond (takes k 5) (Parts (i + 1)) Misfit) ≡ cond (toldApart (dialectBy f) k && takes k 5) (Parts (i + 1)) Misfit
+        go true = rw apart-by (by (toldApart firstPlaces k))
+        go false = refl
+
     stands-tuple : (n : ℕ) → cond (takenOf (tagAt m i) 7) (tupleAt m i n) Misfit ≡ cond (takes k 7 && eqb n (countᵐ (members k))) (Wide (i + 2) n) Misfit
     unfolding tupleAt
     stands-tuple n = rw (taken-at 7, ← width-by n) (cond-both (takes k 7) (widthFits (tagAt m (i + 1)) n) (Wide (i + 2) n) Misfit)
@@ -147,16 +189,16 @@ module _ (m : List ℤ) where
   -- A fault, or going on with the matchers of the variables found.
   unfoldable Same : List ℕ → ℕ → List ℤ → Tested → Verdict (List Matcher) → Type 0
   Same st p ws x (fault j) = x ≡ Fault j
-  Same st p ws x (ok ks) = (js : List ℕ) × Standing js ks × (x ≡ fitP m st js 0 p ws)
+  Same st p ws x (ok ks) = (js : List ℕ) × Standing js ks × (x ≡ fitP firsts m st js 0 p ws)
 
   Follows : Pattern → Type 0
   Follows a = (i : ℕ) (k : Matcher) → At m i k → (js : List ℕ) (ks : List Matcher) → Standing js ks → (st : List ℕ) (p : ℕ) (ws : List ℤ)
-      → Same st (p + span a) ws (fitP m (i ∷ st) js 0 p (patternWords a ++ ws)) (fits a k p ks)
+      → Same st (p + span a) ws (fitP firsts m (i ∷ st) js 0 p (patternWords a ++ ws)) (fitsIn (dialectBy firsts) a k p ks)
 
   FollowsAll : Patterns → Type 0
   FollowsAll ps = (i : ℕ) (ms : Matchers) → AtAll m i ms → countᵖ ps ≡ countᵐ ms → (js : List ℕ) (ks : List Matcher) → Standing js ks
       → (st : List ℕ) (p : ℕ) (ws : List ℤ)
-      → Same st (p + spanAll ps) ws (fitP m (membersAt m (countᵐ ms) i ++ st) js 0 p (patternWordsAll ps ++ ws)) (fitsParts ps ms p ks)
+      → Same st (p + spanAll ps) ws (fitP firsts m (membersAt m (countᵐ ms) i ++ st) js 0 p (patternWordsAll ps ++ ws)) (fitsPartsIn (dialectBy firsts) ps ms p ks)
 
   -- Going on from what a tag asks, and a tag that must stand rightly.
   module _ (i : ℕ) (js st : List ℕ) (q p : ℕ) (us ws : List ℤ) (a : Here) where
@@ -165,11 +207,11 @@ module _ (m : List ℤ) where
     on x =
         byHere x
         (Fault p)
-        (λ o. fitP m st js o (suc p) us)
-        (λ o. fitP m st (js ++ (i ∷ [])) o (suc p) us)
-        (fitP m (i ∷ st) js 0 (suc p) us)
-        (λ f. fitP m (f ∷ i ∷ st) js 0 (suc p) us)
-        (λ f n. fitP m (membersAt m n f ++ st) js 1 (suc p) us)
+        (λ o. fitP firsts m st js o (suc p) us)
+        (λ o. fitP firsts m st (js ++ (i ∷ [])) o (suc p) us)
+        (fitP firsts m (i ∷ st) js 0 (suc p) us)
+        (λ f. fitP firsts m (f ∷ i ∷ st) js 0 (suc p) us)
+        (λ f n. fitP firsts m (membersAt m n f ++ st) js 1 (suc p) us)
 
     same-leaf : (b : Bool) (ks : List Matcher) → Same st q ws (on a) (ok ks) → Same st q ws (on (cond b a Misfit)) (demand b p ks)
     unfolding Same on byHere demand
@@ -183,31 +225,31 @@ module _ (m : List ℤ) where
     same-parts false ks k x = refl
 
   same-then : (st₁ st₂ : List ℕ) (p₁ p₂ : ℕ) (us ws : List ℤ) (x : Tested) (y : Verdict (List Matcher)) (k : List Matcher → Verdict (List Matcher))
-      → Same st₁ p₁ us x y → ((js : List ℕ) (ks : List Matcher) → Standing js ks → Same st₂ p₂ ws (fitP m st₁ js 0 p₁ us) (k ks))
+      → Same st₁ p₁ us x y → ((js : List ℕ) (ks : List Matcher) → Standing js ks → Same st₂ p₂ ws (fitP firsts m st₁ js 0 p₁ us) (k ks))
       → Same st₂ p₂ ws x (y then k)
   unfolding Same _then_
   same-then st₁ st₂ p₁ p₂ us ws x (fault j) k e f = e
   same-then st₁ st₂ p₁ p₂ us ws x (ok ks) k e f = rw (e .2) (f (e .0) ks (e .1))
 
-  leaf : (js : List ℕ) (ks : List Matcher) → Standing js ks → (st : List ℕ) (p q : ℕ) (ws : List ℤ) → p ≡ q → Same st q ws (fitP m st js 0 p ws) (ok ks)
+  leaf : (js : List ℕ) (ks : List Matcher) → Standing js ks → (st : List ℕ) (p q : ℕ) (ws : List ℤ) → p ≡ q → Same st q ws (fitP firsts m st js 0 p ws) (ok ks)
   unfolding Same
   leaf js ks s st p q ws e = (js, s, rw e)
 
   -- Two parts, and one.
   two : (a b : Pattern) → Follows a → Follows b → (i f : ℕ) (k l : Matcher) → At m i k → At m f l → (js : List ℕ) (ks : List Matcher) → Standing js ks
       → (st : List ℕ) (p : ℕ) (ws : List ℤ)
-      → Same st (p + (1 + span a + span b)) ws (fitP m (f ∷ i ∷ st) js 0 (suc p) ((patternWords a ++ patternWords b) ++ ws))
-      (fits a l (p + 1) ks then λ ls. fits b k (p + 1 + span a) ls)
+      → Same st (p + (1 + span a + span b)) ws (fitP firsts m (f ∷ i ∷ st) js 0 (suc p) ((patternWords a ++ patternWords b) ++ ws))
+      (fitsIn (dialectBy firsts) a l (p + 1) ks then λ ls. fitsIn (dialectBy firsts) b k (p + 1 + span a) ls)
   unfolding Follows
   two a b x y i f k l g h js ks s st p ws =
       let e : p + 1 + span a + span b ≡ p + (1 + span a + span b) = omega arith in
       rw (append-assoc (patternWords a) (patternWords b) ws, ← add-one p, ← e)
-      (same-then (i ∷ st) st (p + 1 + span a) _ (patternWords b ++ ws) ws _ (fits a l (p + 1) ks) _
+      (same-then (i ∷ st) st (p + 1 + span a) _ (patternWords b ++ ws) ws _ (fitsIn (dialectBy firsts) a l (p + 1) ks) _
       (x f l h js ks s (i ∷ st) (p + 1) (patternWords b ++ ws)) (λ js₁ ks₁ z. y i k g js₁ ks₁ z st (p + 1 + span a) ws))
 
   one : (a : Pattern) → Follows a → (i : ℕ) (k : Matcher) → At m i k → (js : List ℕ) (ks : List Matcher) → Standing js ks
       → (st : List ℕ) (p : ℕ) (ws : List ℤ)
-      → Same st (p + (1 + span a)) ws (fitP m (i ∷ st) js 0 (suc p) (patternWords a ++ ws)) (fits a k (p + 1) ks)
+      → Same st (p + (1 + span a)) ws (fitP firsts m (i ∷ st) js 0 (suc p) (patternWords a ++ ws)) (fitsIn (dialectBy firsts) a k (p + 1) ks)
   unfolding Follows
   one a x i k g js ks s st p ws =
       let e : p + 1 + span a ≡ p + (1 + span a) = omega arith in
@@ -219,7 +261,7 @@ module _ (m : List ℤ) where
   more a ps x y i (l ▸ᵐ ms) t c js ks s st p ws =
       let e : p + span a + spanAll ps ≡ p + (span a + spanAll ps) = omega arith in
       rw (append-assoc (patternWords a) (patternWordsAll ps) ws, at-end m i l (at-first m i l ms t), ← e)
-      (same-then (membersAt m (countᵐ ms) (i + length (matcherWords l)) ++ st) st (p + span a) _ (patternWordsAll ps ++ ws) ws _ (fits a l p ks) _
+      (same-then (membersAt m (countᵐ ms) (i + length (matcherWords l)) ++ st) st (p + span a) _ (patternWordsAll ps ++ ws) ws _ (fitsIn (dialectBy firsts) a l p ks) _
       (x i l (at-first m i l ms t) js ks s (membersAt m (countᵐ ms) (i + length (matcherWords l)) ++ st) p (patternWordsAll ps ++ ws))
       (λ js₁ ks₁ z. y (i + length (matcherWords l)) ms (at-others m i l ms t) (omega arith) js₁ ks₁ z st (p + span a) ws))
 
@@ -230,8 +272,8 @@ module _ (m : List ℤ) where
 
   tupled : (ps : Patterns) → FollowsAll ps → (i : ℕ) (k : Matcher) → At m i k → (js : List ℕ) (ks : List Matcher) → Standing js ks
       → (st : List ℕ) (p : ℕ) (ws : List ℤ) → (takes k 7 && eqb (countᵖ ps) (countᵐ (members k))) ≡ true
-      → Same st (p + (2 + spanAll ps)) ws (fitP m (membersAt m (countᵖ ps) (i + 2) ++ st) js 0 (suc (suc p)) (patternWordsAll ps ++ ws))
-      (fitsParts ps (members k) (p + 2) ks)
+      → Same st (p + (2 + spanAll ps)) ws (fitP firsts m (membersAt m (countᵖ ps) (i + 2) ++ st) js 0 (suc (suc p)) (patternWordsAll ps ++ ws))
+      (fitsPartsIn (dialectBy firsts) ps (members k) (p + 2) ks)
   unfolding FollowsAll
   tupled ps y i k a js ks s st p ws b =
       let e : p + 2 + spanAll ps ≡ p + (2 + spanAll ps) = omega arith in
@@ -240,7 +282,7 @@ module _ (m : List ℤ) where
       rw (← e, ← add-two p, n) (y (i + 2) (members k) (at-members m i k a (c .0)) n js ks s st (p + 2) ws)
 
   mutual
-    unfolding Follows FollowsAll fitP patternWords fitsIn fitsPartsIn toldApart span hereOf asked rowOf rowIn patternTags byParts firstOf on
+    unfolding Follows FollowsAll fitP patternWords fitsIn fitsPartsIn span unlike hereIn hereOf asked rowOf rowIn patternTags byParts firstOf on
 
     walked : (a : Pattern) → Follows a
     walked wildcard i k a js ks s st p ws =
@@ -259,35 +301,35 @@ module _ (m : List ℤ) where
         (same-leaf i js st (p + 3) p (v ∷ c ∷ ws) ws (Leaf 2) (takes k 3 && comparable v c k ks) ks
         (leaf js ks s st (suc (suc (suc p))) (p + 3) ws (omega arith)))
     walked (cons b c) i k a js ks s st p ws =
-        rw (stands i k a 5)
-        (same-parts i js st (p + (1 + span b + span c)) p ((patternWords b ++ patternWords c) ++ ws) ws (Parts (i + 1)) (takes k 5) ks
-        (λ ls. fits b (element k) (p + 1) ls then λ ns. fits c k (p + 1 + span b) ns)
-        (λ e. two b c (walked b) (walked c) i (i + 1) k (element k) a (at-element m i k a e) js ks s st p ws))
+        rw (stands-cons i k a)
+        (same-parts i js st (p + (1 + span b + span c)) p ((patternWords b ++ patternWords c) ++ ws) ws (Parts (i + 1)) (toldApart (dialectBy firsts) k && takes k 5) ks
+        (λ ls. fitsIn (dialectBy firsts) b (element k) (p + 1) ls then λ ns. fitsIn (dialectBy firsts) c k (p + 1 + span b) ns)
+        (λ e. two b c (walked b) (walked c) i (i + 1) k (element k) a (at-element m i k a (and-parts (toldApart (dialectBy firsts) k) (takes k 5) e .1)) js ks s st p ws))
     walked (join b c) i k a js ks s st p ws =
         rw (stands i k a 6)
         (same-parts i js st (p + (1 + span b + span c)) p ((patternWords b ++ patternWords c) ++ ws) ws (Parts i) (takes k 6) ks
-        (λ ls. fits b k (p + 1) ls then λ ns. fits c k (p + 1 + span b) ns)
+        (λ ls. fitsIn (dialectBy firsts) b k (p + 1) ls then λ ns. fitsIn (dialectBy firsts) c k (p + 1 + span b) ns)
         (λ e. two b c (walked b) (walked c) i i k k a a js ks s st p ws))
     walked (both b c) i k a js ks s st p ws =
         rw (stands i k a 8)
         (same-parts i js st (p + (1 + span b + span c)) p ((patternWords b ++ patternWords c) ++ ws) ws (Parts i) (takes k 8) ks
-        (λ ls. fits b k (p + 1) ls then λ ns. fits c k (p + 1 + span b) ns)
+        (λ ls. fitsIn (dialectBy firsts) b k (p + 1) ls then λ ns. fitsIn (dialectBy firsts) c k (p + 1 + span b) ns)
         (λ e. two b c (walked b) (walked c) i i k k a a js ks s st p ws))
     walked (either b c) i k a js ks s st p ws =
         rw (stands i k a 9)
         (same-parts i js st (p + (1 + span b + span c)) p ((patternWords b ++ patternWords c) ++ ws) ws (Parts i) (takes k 9) ks
-        (λ ls. fits b k (p + 1) ls then λ ns. fits c k (p + 1 + span b) ns)
+        (λ ls. fitsIn (dialectBy firsts) b k (p + 1) ls then λ ns. fitsIn (dialectBy firsts) c k (p + 1 + span b) ns)
         (λ e. two b c (walked b) (walked c) i i k k a a js ks s st p ws))
     walked (never b) i k a js ks s st p ws =
         rw (stands i k a 10)
         (same-parts i js st (p + (1 + span b)) p (patternWords b ++ ws) ws One (takes k 10) ks
-        (λ ls. fits b k (p + 1) ls)
+        (λ ls. fitsIn (dialectBy firsts) b k (p + 1) ls)
         (λ e. one b (walked b) i k a js ks s st p ws))
     walked (tuple ps) i k a js ks s st p ws =
         rw (stands-tuple i k a (countᵖ ps))
         (same-parts i js st (p + (2 + spanAll ps)) p (pos (countᵖ ps) ∷ (patternWordsAll ps ++ ws)) ws (Wide (i + 2) (countᵖ ps))
         (takes k 7 && eqb (countᵖ ps) (countᵐ (members k))) ks
-        (λ ls. fitsParts ps (members k) (p + 2) ls)
+        (λ ls. fitsPartsIn (dialectBy firsts) ps (members k) (p + 2) ls)
         (λ e. tupled ps (walkedAll ps) i k a js ks s st p ws e))
 
     walkedAll : (ps : Patterns) → FollowsAll ps
@@ -299,9 +341,9 @@ module _ (m : List ℤ) where
   at-end′ p x (ok ks) e = e .2
   at-end′ p x (fault j) e = e
 
-pub of-rule : (ms ps : List ℤ) (m : Matcher) (a : Pattern) → readMatcher ms ≡ ok m → readPattern ps ≡ ok a → fitOf ms ps ≡ tested (fits a m 0 [])
+pub of-rule : (firsts : Bool) (ms ps : List ℤ) (m : Matcher) (a : Pattern) → readMatcher ms ≡ ok m → readPattern ps ≡ ok a → fitOf firsts ms ps ≡ tested (fitsIn (dialectBy firsts) a m 0 [])
 unfolding fitOf Follows Standing
-of-rule ms ps m a e f =
+of-rule firsts ms ps m a e f =
     let g = pattern-read ps a .0 f in
     rw (le-leb (length ps) 256 (g .1), g .0, ← append-nil (patternWords a))
-    (at-end′ ms (0 + span a) _ (fits a m 0 []) (walked ms a 0 m (at-whole ms m e) [] [] tt [] 0 []))
+    (at-end′ firsts ms (0 + span a) _ (fitsIn (dialectBy firsts) a m 0 []) (walked firsts ms a 0 m (at-whole ms m e) [] [] tt [] 0 []))

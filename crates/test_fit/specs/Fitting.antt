@@ -1,6 +1,6 @@
 -- Test 4 as a walk over a pattern's words.
 use Prim.Native.Nat.{ℕ, zero, suc, _+_}
-use mathlib.Core.Bool.{Bool, true, false, _&&_, _||_, cond}
+use mathlib.Core.Bool.{Bool, true, false, not, _&&_, _||_, cond}
 use mathlib.Core.Option.{Option, none, some}
 use mathlib.Core.List.{List, [], _∷_, _++_}
 use lib.ListN.{length, getD, set}
@@ -73,6 +73,24 @@ unfoldable pub hereAt : List ℤ → ℕ → List ℤ → ℕ → List ℕ → H
 unfolding hereOf tagAt
 hereAt m i p at under = hereOf m i under (tagAt p at) (getD p (at + 1) (negsuc 0)) (getD p (at + 2) (negsuc 0))
 
+-- "In dialect 2 a cons under a multiset whose element matcher has something in it is 4": under the matcher i its elements can be told apart.
+unfoldable pub apartAt : List ℤ → ℕ → Bool
+unfolding shapes tagAt
+apartAt m i = cond (eqb (tagAt m i) 3) (shapes m (i + 1) (i + 1)) true
+
+-- The tag t is a cons that the dialect does not take under the matcher i. `firsts`: dialect 2.
+unfoldable pub unlike : Bool → List ℤ → (i t : ℕ) → Bool
+unfolding apartAt
+unlike firsts m i t = eqb t 5 && firsts && not (apartAt m i)
+
+unfoldable pub hereIn : Bool → List ℤ → ℕ → List ℕ → ℕ → ℤ → ℤ → Here
+unfolding unlike hereOf
+hereIn firsts m i under t v c = cond (unlike firsts m i t) Misfit (hereOf m i under t v c)
+
+unfoldable pub hereInAt : Bool → List ℤ → ℕ → List ℤ → ℕ → List ℕ → Here
+unfolding hereIn tagAt
+hereInAt firsts m i p at under = hereIn firsts m i under (tagAt p at) (getD p (at + 1) (negsuc 0)) (getD p (at + 2) (negsuc 0))
+
 -- By what a tag asks.
 unfoldable pub byHere : Here → Tested → (ℕ → Tested) → (ℕ → Tested) → Tested → (ℕ → Tested) → (ℕ → ℕ → Tested) → Tested
 byHere Misfit z leaf bind one parts tuple = z
@@ -84,23 +102,23 @@ byHere (Wide f n) z leaf bind one parts tuple = tuple f n
 
 -- The words that start at place p, after o operands: the patterns still to come stand under the matchers st, first first, and the variables to the
 -- left under the matchers `under`.
-unfoldable pub fitP : List ℤ → (st under : List ℕ) → (o p : ℕ) → List ℤ → Tested
-unfolding byHere hereOf membersAt
-fitP m st under o p [] = Passed
-fitP m st under (suc o) p (w ∷ ws) = fitP m st under o (suc p) ws
-fitP m [] under zero p (w ∷ ws) = Fault p
-fitP m (i ∷ st) under zero p (w ∷ ws) =
-    byHere (hereOf m i under (tagZ w) (getD ws 0 (negsuc 0)) (getD ws 1 (negsuc 0)))
+unfoldable pub fitP : (firsts : Bool) → List ℤ → (st under : List ℕ) → (o p : ℕ) → List ℤ → Tested
+unfolding byHere hereIn membersAt
+fitP firsts m st under o p [] = Passed
+fitP firsts m st under (suc o) p (w ∷ ws) = fitP firsts m st under o (suc p) ws
+fitP firsts m [] under zero p (w ∷ ws) = Fault p
+fitP firsts m (i ∷ st) under zero p (w ∷ ws) =
+    byHere (hereIn firsts m i under (tagZ w) (getD ws 0 (negsuc 0)) (getD ws 1 (negsuc 0)))
     (Fault p)
-    (λ o. fitP m st under o (suc p) ws)
-    (λ o. fitP m st (under ++ (i ∷ [])) o (suc p) ws)
-    (fitP m (i ∷ st) under 0 (suc p) ws)
-    (λ f. fitP m (f ∷ i ∷ st) under 0 (suc p) ws)
-    (λ f n. fitP m (membersAt m n f ++ st) under 1 (suc p) ws)
+    (λ o. fitP firsts m st under o (suc p) ws)
+    (λ o. fitP firsts m st (under ++ (i ∷ [])) o (suc p) ws)
+    (fitP firsts m (i ∷ st) under 0 (suc p) ws)
+    (λ f. fitP firsts m (f ∷ i ∷ st) under 0 (suc p) ws)
+    (λ f n. fitP firsts m (membersAt m n f ++ st) under 1 (suc p) ws)
 
-unfoldable pub fitOf : List ℤ → List ℤ → Tested
+unfoldable pub fitOf : (firsts : Bool) → List ℤ → List ℤ → Tested
 unfolding fitP
-fitOf m p = cond (leb (length p) 256) (fitP m (0 ∷ []) [] 0 0 p) (Fault 256)
+fitOf firsts m p = cond (leb (length p) 256) (fitP firsts m (0 ∷ []) [] 0 0 p) (Fault 256)
 
 -- k matchers, one after the other, the first at the index i, stored above n others, the first on top.
 unfoldable pub pushed : List ℤ → List ℕ → (n k i : ℕ) → List ℕ

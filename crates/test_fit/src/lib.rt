@@ -14,7 +14,7 @@ use words::tag_at;
 ghost use mathlib.Core.Path.{_≡_};
 ghost use Prim.Native.Nat.{_+_, _≤_, _<_, _^_};
 ghost use lib.ListN.{length, take};
-ghost use Rattle.test_fit.specs.Fitting.{firstOf, valueFitsTag, tupleAt, hereAt, fitOf, pushed};
+ghost use Rattle.test_fit.specs.Fitting.{firstOf, valueFitsTag, tupleAt, hereAt, apartAt, unlike, hereInAt, fitOf, pushed};
 
 // Of 256 words, no more patterns wait than this, and no more tags 1 stand than this.
 pub const WAITING: usize = 386;
@@ -111,6 +111,48 @@ fn here_at(ms: &[i32], i: usize, ps: &[i32], at: usize, under: &[usize], next: u
     }
 }
 
+// Whether the elements of the matcher i can be told apart: in a multiset's, something does not occur.
+fn told_apart(ms: &[i32], i: usize) -> bool
+    ensures { λ r. ⌜ r ≡ apartAt (now (ms .entry)) i ⌝ }
+{
+    if tag_at(ms, i) == matcher::MULTISET {
+        return same_shape(ms, i + 1, i + 1);
+    }
+    true
+}
+
+// Whether the tag t is a cons that the dialect does not take under the matcher i; `firsts`: dialect 2.
+fn unlike(firsts: bool, ms: &[i32], i: usize, t: u32) -> bool
+    ensures { λ r. ⌜ r ≡ unlike firsts (now (ms .entry)) i t ⌝ }
+{
+    if t != pattern::CONS {
+        return false;
+    }
+    if !firsts {
+        return false;
+    }
+    !told_apart(ms, i)
+}
+
+// The tag at an index of the pattern under the matcher i, in a dialect.
+fn here_in(
+    firsts: bool,
+    ms: &[i32],
+    i: usize,
+    ps: &[i32],
+    at: usize,
+    under: &[usize],
+    next: usize,
+) -> Here
+    requires { do ⌜ (at < length (now ps)) × (next ≤ length (now under)) × (next ≤ 128) ⌝ }
+    ensures { λ r. ⌜ r ≡ hereInAt firsts (now (ms .entry)) i (now (ps .entry)) at (take next (now (under .entry))) ⌝ }
+{
+    if unlike(firsts, ms, i, tag_at(ps, at)) {
+        return Here::Misfit;
+    }
+    here_at(ms, i, ps, at, under, next)
+}
+
 // k matchers, one after the other, the first at the index i, onto the stack of n, the first on top.
 fn push(ms: &[i32], stack: &mut [usize; WAITING], n: usize, k: usize, i: usize)
     requires { do ⌜ (n + k ≤ 386) × (length (now stack) ≡ 386) ⌝ }
@@ -125,9 +167,9 @@ fn push(ms: &[i32], stack: &mut [usize; WAITING], n: usize, k: usize, i: usize)
     }
 }
 
-// Whether the words of a pattern fit the words of a matcher, left to right. On the stack are the matchers of the patterns still to come.
-pub fn walk(ms: &[i32], ps: &[i32]) -> Tested
-    ensures { λ r. ⌜ r ≡ fitOf (now (ms .entry)) (now (ps .entry)) ⌝ }
+// Whether the words of a pattern fit the words of a matcher in a dialect, left to right; `firsts`: dialect 2. On the stack are the matchers of the patterns still to come.
+pub fn walk(firsts: bool, ms: &[i32], ps: &[i32]) -> Tested
+    ensures { λ r. ⌜ r ≡ fitOf firsts (now (ms .entry)) (now (ps .entry)) ⌝ }
 {
     if PATTERN_WORDS < ps.len() {
         return Tested::Fault(PATTERN_WORDS);
@@ -147,7 +189,7 @@ pub fn walk(ms: &[i32], ps: &[i32]) -> Tested
         } else {
             n -= 1;
             let i = stack[n];
-            match here_at(ms, i, ps, at, &under[..], next) {
+            match here_in(firsts, ms, i, ps, at, &under[..], next) {
                 Here::Misfit => return Tested::Fault(at),
                 Here::Leaf(operands) => {
                     skip = operands;

@@ -1,6 +1,6 @@
 -- The ordered tests as the code asks them: each test that passed has read something, and the first that did not gives the answer. Assumes nothing.
 use mathlib.Core.Path.{_≡_, refl, sym, _∙_, ap}
-use mathlib.Core.Bool.{true}
+use mathlib.Core.Bool.{Bool, true, false}
 use mathlib.Core.List.{List, []}
 use Prim.Native.Nat.{ℕ, _+_}
 use native.Mathlib.Omega.{arith}
@@ -9,9 +9,10 @@ use lib.IntN.{ℤ}
 use Rattle.rules.specs.Forms.{Matcher, Pattern, Value, size}
 use Rattle.rules.specs.Reading.{Verdict, ok, fault, readMatcher, readPattern, readTarget}
 use Rattle.rules.specs.Variables.{variables}
-use Rattle.rules.specs.Fit.{fits, fitsValue}
+use Rattle.rules.specs.Fit.{fitsIn, fitsValue}
 use Rattle.rules.specs.Causes.{causeOf}
 use Rattle.rules.specs.Services.{test, ruleOf, targetOf, causeIn, ruleIn}
+use Rattle.words.specs.Dialects.{dialectBy}
 use Rattle.test_forms.specs.Tests.{tested}
 use Rattle.test_target.specs.Targets.{found}
 use Rattle.test_variables.specs.Variables.{counted, varsOf}
@@ -26,6 +27,7 @@ use Rattle.test_variables.specs.declared.Counted.the-variants as counts
 use Rattle.test_forms.specs.declared.Ended.{Ended}
 use Rattle.test_forms.specs.declared.Ended.the-variants.{End, Bad}
 use Rattle.tests.specs.Judgements.{judgement, targetJudgement, targetUnder, Whole}
+use Rattle.tests.specs.declared.Judgement.{Judgement}
 use Rattle.tests.specs.declared.Judgement.the-variants.{Accepted, Refused}
 use Rattle.tests.specs.declared.TargetJudgement.the-variants as targets
 use Rattle.test_forms.proofs.After.{after}
@@ -67,13 +69,13 @@ unended (fault j) e i q = let r : j ≡ i = cc in ap fault r
 
 -- ---- Tests 1 to 4.
 
-module _ (ms ps : List ℤ) (a : Tested) (ea : a ≡ tested (readMatcher ms)) where
-  pub ret-matcher : (i : ℕ) → a ≡ Fault i → Refused 1 i ≡ judgement (ruleOf ms ps)
+module _ (firsts : Bool) (ms ps : List ℤ) (a : Tested) (ea : a ≡ tested (readMatcher ms)) where
+  pub ret-matcher : (i : ℕ) → a ≡ Fault i → Refused 1 i ≡ judgement (ruleIn (dialectBy firsts) ms ps)
   unfolding ruleIn test judgement
   ret-matcher i f = rw (failed (readMatcher ms) i (sym f ∙ ea))
 
   module _ (fa : a ≡ Passed) (b : Tested) (eb : b ≡ tested (readPattern ps)) where
-    pub ret-pattern : (i : ℕ) → b ≡ Fault i → Refused 2 i ≡ judgement (ruleOf ms ps)
+    pub ret-pattern : (i : ℕ) → b ≡ Fault i → Refused 2 i ≡ judgement (ruleIn (dialectBy firsts) ms ps)
     unfolding ruleIn test judgement
     ret-pattern i f = rw (passed (readMatcher ms) (sym fa ∙ ea) .1, failed (readPattern ps) i (sym f ∙ eb))
 
@@ -84,23 +86,30 @@ module _ (ms ps : List ℤ) (a : Tested) (ea : a ≡ tested (readMatcher ms)) wh
       p : (k : Pattern) × (readPattern ps ≡ ok k)
       p = passed (readPattern ps) (sym fb ∙ eb)
 
-      pub ret-variable : (i : ℕ) → c ≡ counts.Fault i → Refused 3 i ≡ judgement (ruleOf ms ps)
+      pub ret-variable : (i : ℕ) → c ≡ counts.Fault i → Refused 3 i ≡ judgement (ruleIn (dialectBy firsts) ms ps)
       unfolding ruleIn test judgement
       ret-variable i f = rw (m .1, p .1, uncounted (variables (p .0) true 0 0) i (sym f ∙ ec ∙ walked.of-pattern ps (p .0) (p .1)))
 
-      module _ (n : ℕ) (fc : c ≡ counts.Number n) (d : Tested) (ed : d ≡ fitOf ms ps) where
+      module _ (n : ℕ) (fc : c ≡ counts.Number n) (d : Tested) (ed : d ≡ fitOf firsts ms ps) where
         v : variables (p .0) true 0 0 ≡ ok n
         v = number (variables (p .0) true 0 0) n (sym fc ∙ ec ∙ walked.of-pattern ps (p .0) (p .1))
 
-        pub ret-misfit : (i : ℕ) → d ≡ Fault i → Refused 4 i ≡ judgement (ruleOf ms ps)
+        pub ret-misfit : (i : ℕ) → d ≡ Fault i → Refused 4 i ≡ judgement (ruleIn (dialectBy firsts) ms ps)
         unfolding ruleIn test judgement
-        ret-misfit i f = rw (m .1, p .1, v, failed (fits (p .0) (m .0) 0 []) i (sym f ∙ ed ∙ fitted.of-rule ms ps (m .0) (p .0) (m .1) (p .1)))
+        ret-misfit i f = rw (m .1, p .1, v, failed (fitsIn (dialectBy firsts) (p .0) (m .0) 0 []) i (sym f ∙ ed ∙ fitted.of-rule firsts ms ps (m .0) (p .0) (m .1) (p .1)))
 
-        pub ret-rule : d ≡ Passed → Accepted ≡ judgement (ruleOf ms ps)
+        pub ret-rule : d ≡ Passed → Accepted ≡ judgement (ruleIn (dialectBy firsts) ms ps)
         unfolding ruleIn test judgement
-        ret-rule f = rw (m .1, p .1, v, passed (fits (p .0) (m .0) 0 []) (sym f ∙ ed ∙ fitted.of-rule ms ps (m .0) (p .0) (m .1) (p .1)) .1)
+        ret-rule f = rw (m .1, p .1, v, passed (fitsIn (dialectBy firsts) (p .0) (m .0) 0 []) (sym f ∙ ed ∙ fitted.of-rule firsts ms ps (m .0) (p .0) (m .1) (p .1)) .1)
 
 pub ruleset rule-rules = (ret-matcher, ret-pattern, ret-variable, ret-misfit, ret-rule, needs)
+
+-- Dialect 1.
+pub in-every : (ms ps : List ℤ) (b : Bool) (r : Judgement) → r ≡ judgement (ruleIn (dialectBy b) ms ps) → b ≡ false → r ≡ judgement (ruleOf ms ps)
+unfolding dialectBy
+in-every ms ps b r e h = e ∙ rw h
+
+pub ruleset every-rules = (in-every, needs)
 
 -- ---- Tests 5 and 6.
 

@@ -9,7 +9,8 @@ use test_target::test_target;
 use test_unfit::fit_end;
 use test_variables::Counted;
 ghost use mathlib.Core.Path.{_≡_};
-ghost use Rattle.rules.specs.Services.{ruleOf};
+ghost use Rattle.rules.specs.Services.{ruleIn, ruleOf};
+ghost use Rattle.words.specs.Dialects.{dialectBy};
 ghost use Rattle.tests.specs.Judgements.{judgement, targetJudgement, targetUnder, Whole};
 
 // Accepted; or refused, with document 01's number of the answer and the place.
@@ -36,9 +37,9 @@ pub const TARGET: u32 = 5;
 
 pub const UNFIT: u32 = 6;
 
-// Tests 1 to 4, each over its whole slice.
-pub fn rule_refused(ms: &[i32], ps: &[i32]) -> Judgement
-    ensures { λ r. ⌜ r ≡ judgement (ruleOf (now (ms .entry)) (now (ps .entry))) ⌝ }
+// Tests 1 to 4 in a dialect, each over its whole slice; `firsts`: dialect 2.
+pub fn rule_refused_in(firsts: bool, ms: &[i32], ps: &[i32]) -> Judgement
+    ensures { λ r. ⌜ r ≡ judgement (ruleIn (dialectBy firsts) (now (ms .entry)) (now (ps .entry))) ⌝ }
 {
     let a = test_matcher(ms);
     if let Tested::Fault(i) = a {
@@ -52,11 +53,18 @@ pub fn rule_refused(ms: &[i32], ps: &[i32]) -> Judgement
     if let Counted::Fault(i) = c {
         return Judgement::Refused(VARIABLE, i);
     }
-    let d = test_fit::walk(ms, ps);
+    let d = test_fit::walk(firsts, ms, ps);
     if let Tested::Fault(i) = d {
         return Judgement::Refused(MISFIT, i);
     }
     Judgement::Accepted
+}
+
+// The same in dialect 1.
+pub fn rule_refused(ms: &[i32], ps: &[i32]) -> Judgement
+    ensures { λ r. ⌜ r ≡ judgement (ruleOf (now (ms .entry)) (now (ps .entry))) ⌝ }
+{
+    rule_refused_in(false, ms, ps)
 }
 
 // Tests 5 and 6, each over its whole slice, for a matcher that test 1 has passed.

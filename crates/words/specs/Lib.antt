@@ -2,3 +2,4 @@
 pub mod Words
 pub mod Marks
 pub mod Marked
+pub mod Dialects

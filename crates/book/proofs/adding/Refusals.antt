@@ -46,26 +46,26 @@ upheld true h = refl
 upheld false h = let z : _≡_ {A = ℕ} 0 1 = cc in absurd (omega arith)
 
 module _ (v x d : ℕ) (ms ps : List ℤ) where
-  proper-is : (t : Bool) → eqb x 0 ≡ t → proper (entry v x d ms ps) ≡ both (not t) (both (dialectFor v d) (isRule ms ps))
+  proper-is : (t : Bool) → eqb x 0 ≡ t → proper (entry v x d ms ps) ≡ both (not t) (both (dialectFor v d) (isRule d ms ps))
   unfolding proper
-  proper-is t e = ap (λ (u : Bool). both (not u) (both (dialectFor v d) (isRule ms ps))) e
+  proper-is t e = ap (λ (u : Bool). both (not u) (both (dialectFor v d) (isRule d ms ps))) e
 
   pub proper-badge : x ≡ 0 → false ≡ proper (entry v x d ms ps)
   unfolding both
   proper-badge e = sym (proper-is true (eq-eqb x 0 e))
 
   module _ (n : x ≡ 0 → ⊥) (t : Bool) (et : t ≡ dialectFor v d) where
-    proper-then : proper (entry v x d ms ps) ≡ both t (isRule ms ps)
+    proper-then : proper (entry v x d ms ps) ≡ both t (isRule d ms ps)
     unfolding both
-    proper-then = proper-is false (ne-eqb x 0 n) ∙ ap (λ (u : Bool). both u (isRule ms ps)) (sym et)
+    proper-then = proper-is false (ne-eqb x 0 n) ∙ ap (λ (u : Bool). both u (isRule d ms ps)) (sym et)
 
     pub proper-dialect : not t ≡ true → false ≡ proper (entry v x d ms ps)
     unfolding both
-    proper-dialect h = sym (proper-then ∙ ap (λ (u : Bool). both u (isRule ms ps)) (refuted t h))
+    proper-dialect h = sym (proper-then ∙ ap (λ (u : Bool). both u (isRule d ms ps)) (refuted t h))
 
-    pub proper-rule : not t ≡ false → (r : Bool) → r ≡ isRule ms ps → r ≡ proper (entry v x d ms ps)
+    pub proper-rule : not t ≡ false → (r : Bool) → r ≡ isRule d ms ps → r ≡ proper (entry v x d ms ps)
     unfolding both
-    proper-rule h r e = e ∙ sym (proper-then ∙ ap (λ (u : Bool). both u (isRule ms ps)) (upheld t h))
+    proper-rule h r e = e ∙ sym (proper-then ∙ ap (λ (u : Bool). both u (isRule d ms ps)) (upheld t h))
 
 -- ---- 14, 15, 16, 18.
 

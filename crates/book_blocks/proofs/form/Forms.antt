@@ -1,5 +1,5 @@
 -- The tests of one block, each answer as the code asks for it. Assumes nothing.
-use Prim.Native.Nat.{ℕ, zero, suc, _+_, _-_, _*_, _%_, _≤_, _<_}
+use Prim.Native.Nat.{ℕ, zero, suc, _+_, _-_, _*_, _/_, _%_, _≤_, _<_}
 use native.Mathlib.Omega.{arith}
 use mathlib.Core.Path.{_≡_, refl, sym, ap, ap₂, _∙_}
 use mathlib.Core.Bool.{Bool, true, false, not}
@@ -10,12 +10,14 @@ use lib.Dec.{eqb, leb}
 use lib.IntN.{ℤ, pos}
 use borrow.Author.Needs.{needs}
 use borrow.Author.Tests.{eq-eqb, ne-eqb, le-leb, lt-leb}
-use Rattle.rules.specs.Services.{Judged, accepted, refused, Rule, ruleOf}
+use Rattle.rules.specs.Dialects.{dialectOf}
+use Rattle.rules.specs.Services.{Judged, accepted, refused, Rule, ruleIn}
 use Rattle.tests.specs.Judgements.{judgement}
 use Rattle.tests.specs.declared.Judgement.{Judgement}
 use Rattle.tests.specs.declared.Judgement.the-variants.{Accepted, Refused}
 use Rattle.book_rules.specs.Sums.{word, checked}
-use Rattle.book_rules.specs.Blocks.{Block, joined, lengthIn, known, both, unless, orElse, zeros, isAccepted, isRule, entryOf, liveFormed, formed, badgeOf, taken, verdict}
+use Rattle.words.specs.Dialects.{dialectBy}
+use Rattle.book_rules.specs.Blocks.{Block, joined, lengthIn, dialectIn, known, both, unless, orElse, zeros, isAccepted, isRule, entryOf, liveFormed, formed, badgeOf, taken, verdict}
 use Rattle.book_rules.specs.Bytes.{wordAt, wordsFrom, blockAt}
 use Rattle.book_blocks.proofs.Seen.{word-seen, zeros-seen, joined-seen, length-joined, first-part, second-part}
 
@@ -37,6 +39,22 @@ pub length-first : (v w r : ℕ) → (v ≡ 2 → ⊥) → r ≡ w → r ≡ len
 unfolding lengthIn
 length-first v w r n h = rw (ne-eqb v 2 n, lengthIn) h
 
+-- ---- The dialect.
+
+pub dialect-one : (v w : ℕ) → (v ≡ 2 → ⊥) → 1 ≡ dialectIn v w
+unfolding dialectIn
+dialect-one v w n = rw (ne-eqb v 2 n, dialectIn)
+
+pub dialect-low : (v w : ℕ) → v ≡ 2 → w < 32768 → 1 ≡ dialectIn v w
+unfolding dialectIn
+dialect-low v w e h = rw e (let q : w / 32768 ≡ 0 = omega arith in rw q)
+
+pub dialect-high : (v w : ℕ) → v ≡ 2 → 32768 ≤ w → w < 65536 → 2 ≡ dialectIn v w
+unfolding dialectIn
+dialect-high v w e h k = rw e (let q : w / 32768 ≡ 1 = omega arith in rw q)
+
+pub ruleset dialect-rules = (dialect-one, dialect-low, dialect-high, needs)
+
 -- ---- Review's 1 to 4.
 
 pub rule-yes : (j : Judged Rule) (x : Judgement) → x ≡ judgement j → x ≡ Accepted → true ≡ isAccepted j
@@ -49,12 +67,30 @@ unfolding judgement isAccepted
 rule-no (accepted r) x a i q e = let z : _≡_ {A = ℕ} 0 1 = cc in absurd (omega arith)
 rule-no (refused b k) x a i q e = refl
 
-pub rule-given : (s : List ℕ) (at m n : ℕ) (l t : List ℤ) (r : Bool) → m ≤ n → n ≤ length l → t ≡ sets l 0 (joined n (wordsFrom s at (2 * n)))
-    → r ≡ isRule (take m t) (take (n - m) (drop m t)) → r ≡ isRule (take m (joined n (wordsFrom s at (2 * n)))) (drop m (joined n (wordsFrom s at (2 * n))))
-rule-given s at m n l t r g h e q =
+module _ (ms ps : List ℤ) (n : ℕ) (b r : Bool) where
+  pub rule-1 : n ≡ 1 → b ≡ false → r ≡ isAccepted (ruleIn (dialectBy b) ms ps) → r ≡ isRule n ms ps
+  unfolding isRule dialectOf dialectBy
+  rule-1 h g e = e ∙ rw (h, g)
+
+  pub rule-2 : n ≡ 2 → b ≡ true → r ≡ isAccepted (ruleIn (dialectBy b) ms ps) → r ≡ isRule n ms ps
+  unfolding isRule dialectOf dialectBy
+  rule-2 h g e = e ∙ rw (h, g)
+
+pub rule-none : (ms ps : List ℤ) (n : ℕ) → (n ≡ 1 → ⊥) → (n ≡ 2 → ⊥) → false ≡ isRule n ms ps
+unfolding isRule dialectOf
+rule-none ms ps zero f g = refl
+rule-none ms ps (suc zero) f g = absurd (f refl)
+rule-none ms ps (suc (suc zero)) f g = absurd (g refl)
+rule-none ms ps (suc (suc (suc n))) f g = refl
+
+pub ruleset picked-rules = (rule-1, rule-2, rule-none, needs)
+
+pub rule-given : (d : ℕ) (s : List ℕ) (at m n : ℕ) (l t : List ℤ) (r : Bool) → m ≤ n → n ≤ length l → t ≡ sets l 0 (joined n (wordsFrom s at (2 * n)))
+    → r ≡ isRule d (take m t) (take (n - m) (drop m t)) → r ≡ isRule d (take m (joined n (wordsFrom s at (2 * n)))) (drop m (joined n (wordsFrom s at (2 * n))))
+rule-given d s at m n l t r g h e q =
     let zs = joined n (wordsFrom s at (2 * n)) in
-    q ∙ ap (λ (u : List ℤ). isRule (take m u) (take (n - m) (drop m u))) e
-    ∙ ap₂ isRule (first-part l zs m n (length-joined s at n) h g) (second-part l zs m n (length-joined s at n) h)
+    q ∙ ap (λ (u : List ℤ). isRule d (take m u) (take (n - m) (drop m u))) e
+    ∙ ap₂ (isRule d) (first-part l zs m n (length-joined s at n) h g) (second-part l zs m n (length-joined s at n) h)
 
 -- ---- A live block.
 
@@ -69,10 +105,10 @@ module _ (s : List ℕ) (at : ℕ) (w n : ℕ) (e : w ≡ wordAt s (at + 6)) (l 
   third = word-seen s at 3 (at + 6) (omega arith) (omega arith) ∙ sym (l ∙ e)
 
   live-is : liveFormed b ≡ four (leb n 124) (leb (lengthIn (word b 1) (word b 4)) n) (zeros (249 - 2 * n) (drop (5 + 2 * n) b))
-      (isRule (take (lengthIn (word b 1) (word b 4)) (joined n (drop 5 b))) (drop (lengthIn (word b 1) (word b 4)) (joined n (drop 5 b))))
+      (isRule (dialectIn (word b 1) (word b 4)) (take (lengthIn (word b 1) (word b 4)) (joined n (drop 5 b))) (drop (lengthIn (word b 1) (word b 4)) (joined n (drop 5 b))))
   unfolding liveFormed four entryOf
   live-is = ap (λ (x : ℕ). four (leb x 124) (leb (lengthIn (word b 1) (word b 4)) x) (zeros (249 - 2 * x) (drop (5 + 2 * x) b))
-      (isRule (take (lengthIn (word b 1) (word b 4)) (joined x (drop 5 b))) (drop (lengthIn (word b 1) (word b 4)) (joined x (drop 5 b))))) third
+      (isRule (dialectIn (word b 1) (word b 4)) (take (lengthIn (word b 1) (word b 4)) (joined x (drop 5 b))) (drop (lengthIn (word b 1) (word b 4)) (joined x (drop 5 b))))) third
 
   pub live-over : 124 < n → false ≡ liveFormed b
   unfolding four both
@@ -82,12 +118,17 @@ module _ (s : List ℕ) (at : ℕ) (w n : ℕ) (e : w ≡ wordAt s (at + 6)) (l 
     matcher-is : lengthIn (word b 1) (word b 4) ≡ m
     matcher-is = ap₂ lengthIn (word-seen s at 1 (at + 2) (omega arith) (omega arith) ∙ sym ev) (word-seen s at 4 (at + 8) (omega arith) (omega arith) ∙ sym ef) ∙ sym em
 
+    dialect-is : dialectIn (word b 1) (word b 4) ≡ dialectIn v f
+    dialect-is = ap₂ dialectIn (word-seen s at 1 (at + 2) (omega arith) (omega arith) ∙ sym ev) (word-seen s at 4 (at + 8) (omega arith) (omega arith) ∙ sym ef)
+
     live-by : liveFormed b ≡ four true (leb m n) (zeros (249 - 2 * n) (wordsFrom s (at + 10 + 4 * n) (249 - 2 * n)))
-        (isRule (take m (joined n (wordsFrom s (at + 10) (2 * n)))) (drop m (joined n (wordsFrom s (at + 10) (2 * n)))))
-    live-by = live-is ∙ ap (λ (t : Bool). four t (leb (lengthIn (word b 1) (word b 4)) n) (zeros (249 - 2 * n) (drop (5 + 2 * n) b))
-        (isRule (take (lengthIn (word b 1) (word b 4)) (joined n (drop 5 b))) (drop (lengthIn (word b 1) (word b 4)) (joined n (drop 5 b))))) (le-leb n 124 h)
-        ∙ ap (λ (x : ℕ). four true (leb x n) (zeros (249 - 2 * n) (drop (5 + 2 * n) b)) (isRule (take x (joined n (drop 5 b))) (drop x (joined n (drop 5 b))))) matcher-is
-        ∙ ap₂ (λ (t : Bool) (zs : List ℤ). four true (leb m n) t (isRule (take m zs) (drop m zs)))
+        (isRule (dialectIn v f) (take m (joined n (wordsFrom s (at + 10) (2 * n)))) (drop m (joined n (wordsFrom s (at + 10) (2 * n)))))
+    live-by = live-is ∙ ap (λ (y : ℕ). four (leb n 124) (leb (lengthIn (word b 1) (word b 4)) n) (zeros (249 - 2 * n) (drop (5 + 2 * n) b))
+        (isRule y (take (lengthIn (word b 1) (word b 4)) (joined n (drop 5 b))) (drop (lengthIn (word b 1) (word b 4)) (joined n (drop 5 b))))) dialect-is
+        ∙ ap (λ (t : Bool). four t (leb (lengthIn (word b 1) (word b 4)) n) (zeros (249 - 2 * n) (drop (5 + 2 * n) b))
+        (isRule (dialectIn v f) (take (lengthIn (word b 1) (word b 4)) (joined n (drop 5 b))) (drop (lengthIn (word b 1) (word b 4)) (joined n (drop 5 b))))) (le-leb n 124 h)
+        ∙ ap (λ (x : ℕ). four true (leb x n) (zeros (249 - 2 * n) (drop (5 + 2 * n) b)) (isRule (dialectIn v f) (take x (joined n (drop 5 b))) (drop x (joined n (drop 5 b))))) matcher-is
+        ∙ ap₂ (λ (t : Bool) (zs : List ℤ). four true (leb m n) t (isRule (dialectIn v f) (take m zs) (drop m zs)))
         (zeros-seen s at (5 + 2 * n) (249 - 2 * n) (at + 10 + 4 * n) (omega arith) (omega arith)) (joined-seen s at n (at + 10) h refl)
 
     pub live-long : n < m → false ≡ liveFormed b
@@ -95,21 +136,22 @@ module _ (s : List ℕ) (at : ℕ) (w n : ℕ) (e : w ≡ wordAt s (at + 6)) (l 
     live-long g = sym (live-by ∙ rw (lt-leb m n g))
 
     module _ (g : m ≤ n) (z : Bool) (ez : z ≡ zeros (249 - 2 * n) (wordsFrom s (at + 10 + 4 * n) (249 - 2 * n))) where
-      live-then : liveFormed b ≡ both z (isRule (take m (joined n (wordsFrom s (at + 10) (2 * n)))) (drop m (joined n (wordsFrom s (at + 10) (2 * n)))))
+      live-then : liveFormed b ≡ both z (isRule (dialectIn v f) (take m (joined n (wordsFrom s (at + 10) (2 * n)))) (drop m (joined n (wordsFrom s (at + 10) (2 * n)))))
       unfolding four both
       live-then = live-by ∙ rw (le-leb m n g, ← ez)
 
       pub live-unused : not z ≡ true → false ≡ liveFormed b
       live-unused t = sym (live-then ∙ by z t)
         where
-          by : (y : Bool) → not y ≡ true → both y (isRule (take m (joined n (wordsFrom s (at + 10) (2 * n)))) (drop m (joined n (wordsFrom s (at + 10) (2 * n))))) ≡ false
+          by : (y : Bool) → not y ≡ true → both y (isRule (dialectIn v f) (take m (joined n (wordsFrom s (at + 10) (2 * n)))) (drop m (joined n (wordsFrom s (at + 10) (2 * n))))) ≡ false
           by true t = let q : _≡_ {A = ℕ} 0 1 = cc in absurd (omega arith)
           by false t = unfold both in refl
 
-      pub live-rule : not z ≡ false → (r : Bool) → r ≡ isRule (take m (joined n (wordsFrom s (at + 10) (2 * n)))) (drop m (joined n (wordsFrom s (at + 10) (2 * n)))) → r ≡ liveFormed b
-      live-rule t r er = er ∙ sym (live-then ∙ by z t)
+      pub live-rule : not z ≡ false → (d : ℕ) → d ≡ dialectIn v f → (r : Bool)
+          → r ≡ isRule d (take m (joined n (wordsFrom s (at + 10) (2 * n)))) (drop m (joined n (wordsFrom s (at + 10) (2 * n)))) → r ≡ liveFormed b
+      live-rule t d ed r er = er ∙ ap (λ (y : ℕ). isRule y (take m (joined n (wordsFrom s (at + 10) (2 * n)))) (drop m (joined n (wordsFrom s (at + 10) (2 * n))))) ed ∙ sym (live-then ∙ by z t)
         where
-          by : (y : Bool) → not y ≡ false → both y (isRule (take m (joined n (wordsFrom s (at + 10) (2 * n)))) (drop m (joined n (wordsFrom s (at + 10) (2 * n))))) ≡ isRule (take m (joined n (wordsFrom s (at + 10) (2 * n)))) (drop m (joined n (wordsFrom s (at + 10) (2 * n))))
+          by : (y : Bool) → not y ≡ false → both y (isRule (dialectIn v f) (take m (joined n (wordsFrom s (at + 10) (2 * n)))) (drop m (joined n (wordsFrom s (at + 10) (2 * n))))) ≡ isRule (dialectIn v f) (take m (joined n (wordsFrom s (at + 10) (2 * n)))) (drop m (joined n (wordsFrom s (at + 10) (2 * n))))
           by true t = unfold both in refl
           by false t = let q : _≡_ {A = ℕ} 0 1 = cc in absurd (omega arith)
 

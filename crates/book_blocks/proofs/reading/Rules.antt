@@ -17,20 +17,6 @@ use Rattle.book_rules.specs.Walks.{both-fst, both-snd}
 use Rattle.book_blocks.specs.Heads.{ReadAs}
 use Rattle.book_blocks.proofs.Seen.{word-seen, joined-seen, length-joined}
 
--- ---- The dialect.
-
-pub dialect-one : (v w : ℕ) → (v ≡ 2 → ⊥) → 1 ≡ dialectIn v w
-unfolding dialectIn
-dialect-one v w n = rw (ne-eqb v 2 n, dialectIn)
-
-pub dialect-low : (v w : ℕ) → v ≡ 2 → w < 32768 → 1 ≡ dialectIn v w
-unfolding dialectIn
-dialect-low v w e h = rw e (let q : w / 32768 ≡ 0 = omega arith in rw q)
-
-pub dialect-high : (v w : ℕ) → v ≡ 2 → 32768 ≤ w → w < 65536 → 2 ≡ dialectIn v w
-unfolding dialectIn
-dialect-high v w e h k = rw e (let q : w / 32768 ≡ 1 = omega arith in rw q)
-
 -- ---- The rule.
 
 module _ (s : List ℕ) (k : ℕ) (live : liveFormed (blockAt s k) ≡ true) (w n : ℕ) (ew : w ≡ wordAt s (512 * k + 6)) (en : n ≡ w) where
@@ -89,5 +75,3 @@ module _ (s : List ℕ) (k : ℕ) (live : liveFormed (blockAt s k) ≡ true) (w 
       where
         long : m ≤ length zs
         long = let l = length-joined s (512 * k + 10) n in let h = short in omega arith
-
-pub ruleset dialect-rules = (dialect-one, dialect-low, dialect-high, needs)

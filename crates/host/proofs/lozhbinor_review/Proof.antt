@@ -9,7 +9,5 @@ lozhbinor-review-spec = tie.close (tie.spec
     (λ c. search calls)
     (λ c κs. search needs)
     (λ c κs. search needs)
-    (λ c κs. search needs)
-    (λ c κs. search needs)
     (λ c. search needs)
     (λ c. search calls))

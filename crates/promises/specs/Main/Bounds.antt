@@ -13,7 +13,7 @@ use Rattle.rules.specs.Services.{accepted, Rule, ruleIn, ruleOf, targetOf, matc
 use Rattle.rules.specs.Rows.{Form}
 use Rattle.forms.specs.Written.{largest, variableTags, pair-largest}
 use Rattle.forms.specs.Faults.{rule-accepted}
-use Rattle.promises.specs.Also.{well-formed-also}
+use Rattle.forms.specs.Also.{well-formed-also}
 use Rattle.promises.specs.Reviewing.{countOf}
 use Rattle.promises.specs.Matching.{steps-bounded, rows-bounded, room-enough, tags-counted}
 use Rattle.promises.specs.Room.{widest}

@@ -24,5 +24,6 @@ is-live-formed-spec = tie.close (tie.spec
     (λ c κs. search needs)
     (λ c. search live-rules)
     (λ c. search needs)
+    (λ c. search needs)
     (λ c κs. search needs)
     (λ c. search live-rules))

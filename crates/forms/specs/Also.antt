@@ -12,11 +12,11 @@ use Rattle.rules.specs.Reading.{Verdict, ok, fault, _then_, readMatcher, readPa
 use Rattle.rules.specs.Variables.{demand, variables}
 use Rattle.rules.specs.Dialects.{Dialect, everyPlace, firstPlaces}
 use Rattle.rules.specs.Fit.{takes, toldApart, element, members, fitsIn, fitsPartsIn}
-use Rattle.rules.specs.Services.{Judged, accepted, refused, test, Rule, ruleIn, targetOf}
+use Rattle.rules.specs.Services.{Judged, accepted, refused, test, Rule, ruleIn, ruleOf, targetOf}
 use Rattle.forms.specs.Readers.{then-ok}
 use Rattle.forms.specs.Tests.{and-split}
 use Rattle.forms.specs.Numbering.{demand-ok}
-use Rattle.forms.specs.Faults.{WellFormed, Sane, target-accepted}
+use Rattle.forms.specs.Faults.{WellFormed, Sane, rule-accepted, target-accepted}
 
 -- What comes after what was found.
 next : {A B : Type 0} (x : Verdict A) (f : A → Verdict B) (a : A) (b : B) → x ≡ ok a → f a ≡ ok b → (x then f) ≡ ok b
@@ -99,6 +99,9 @@ pub well-formed-also : (dialect : Dialect) (ms ps : List ℤ) (r : Rule) → rul
 well-formed-also dialect ms ps r e =
     let t = accepted-read dialect ms ps r e in
     record { matcher = t .0; pattern = t .1; numbered = (t .2, t .4); fitting = (t .3, fits-also dialect (r .pattern) (r .matcher) 0 [] (t .3) (t .5)) }
+
+pub rule-also : (dialect : Dialect) (ms ps : List ℤ) (r : Rule) → ruleIn dialect ms ps ≡ accepted r → ruleOf ms ps ≡ accepted r
+rule-also dialect ms ps r e = rule-accepted ms ps r .1 (well-formed-also dialect ms ps r e)
 
 pub sane-also : (dialect : Dialect) (ms ps ts : List ℤ) (r : Rule) (v : Value) → ruleIn dialect ms ps ≡ accepted r → targetOf (r .matcher) ts ≡ accepted v
     → Sane ms ps ts r v
