@@ -4,7 +4,7 @@ use crate::reference::{Matched, Reviewed};
 use crate::scripts::Picks;
 
 /// Whether No. 13 has landed.
-pub const DIALECTS: bool = false;
+pub const DIALECTS: bool = true;
 
 extern "C" {
     fn lozhbinor_match(

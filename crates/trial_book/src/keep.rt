@@ -14,7 +14,7 @@ use book_blocks::BLOCK;
 use book_blocks::form::FORM;
 use book_blocks::writing::Named;
 use tests::Judgement;
-use tests::rule_refused;
+use tests::rule_refused_in;
 use words::casts::half_index;
 use words::casts::wide;
 use words::casts::wide_index;
@@ -119,10 +119,10 @@ fn keep(fd: i32, book: &[u8], c: Changed, had: usize) {
     }
 }
 
-// A refusal of an add: with 15, review's answer and place where the rule is at fault.
-fn add_refused(answer: u32, matcher: &[i32], pattern: &[i32]) {
+// A refusal of an add: with 15, review's answer and place where the rule is at fault in its dialect.
+fn add_refused(answer: u32, dialect: u32, matcher: &[i32], pattern: &[i32]) {
     if answer == FORM {
-        if let Judgement::Refused(a, i) = rule_refused(matcher, pattern) {
+        if let Judgement::Refused(a, i) = rule_refused_in(dialect == 2, matcher, pattern) {
             tell(b"rule", wide(a), wide_index(i));
             return;
         }
@@ -147,7 +147,7 @@ fn add_rule(
     if c.answer == 0 {
         keep(fd, book, c, had);
     } else {
-        add_refused(c.answer, matcher, pattern);
+        add_refused(c.answer, asked.dialect, matcher, pattern);
     }
 }
 
