@@ -120,15 +120,9 @@ pub fn recounted(services: &Services, path: &str) -> Vec<u8> {
     blocks(&bytes).into_iter().flat_map(each).collect()
 }
 
-/// Books of No. 13, and those of before that it refuses: of these, the ones that do not hold as long as it has, or has not, landed.
-fn other_books(name: &str) -> bool {
-    scripts::kind(name) == Some(scripts::Kind::Book) && name.contains("dialects") && name.contains("before") == crate::DIALECTS
-}
-
 pub fn file(services: &Services, path: &str, count: &mut Count) {
     let bytes = std::fs::read(path).unwrap_or_else(|e| panic!("{path}: {e}"));
     match Path::new(path).file_name().and_then(|name| name.to_str()) {
-        Some(name) if other_books(name) => {}
         Some(name) if scripts::kind(name).is_some() => {
             for (asked, went) in
                 scripts::file(services, scripts::kind(name).unwrap(), std::str::from_utf8(&bytes).unwrap())

@@ -3,9 +3,6 @@
 use crate::reference::{Matched, Reviewed};
 use crate::scripts::Picks;
 
-/// Whether No. 13 has landed.
-pub const DIALECTS: bool = true;
-
 extern "C" {
     fn lozhbinor_match(
         matcher: *const i32,

@@ -46,12 +46,6 @@ impl Services {
     }
 }
 
-/// Whether the calls that are tested know dialects, No. 13: only then does a rule book refuse what a dialect does.
-#[cfg(library)]
-pub use library::DIALECTS;
-#[cfg(not(library))]
-pub const DIALECTS: bool = true;
-
 fn picked_reference(picks: scripts::Picks, words: [&[i32]; 3], budget: u32, room: &mut [i32]) -> Option<reference::Matched> {
     let [form, order, dialect, table, less] = picks;
     let table = (order == 2).then(|| table.saturating_sub(less) as usize);

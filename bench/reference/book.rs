@@ -1,6 +1,6 @@
 //! The rule book of request No. 7, plainly: blocks of 512 bytes, 256 words of 16 bits each.
 
-use super::{review, review_with};
+use super::review_with;
 
 pub const BLOCK: usize = 512;
 const CHECK: usize = 254;
@@ -47,10 +47,9 @@ struct Rule {
     pattern: Vec<i32>,
 }
 
-/// Review's tests 1 to 4; those of the rule's dialect once No. 13 has landed.
+/// Review's tests 1 to 4, in the rule's dialect.
 fn is_rule(dialect: u32, matcher: &[i32], pattern: &[i32]) -> bool {
-    let told = if crate::DIALECTS { review_with(dialect, matcher, pattern, 0) } else { review(matcher, pattern, 0) };
-    !(1..=4).contains(&told[0])
+    !(1..=4).contains(&review_with(dialect, matcher, pattern, 0)[0])
 }
 
 /// The rule of a live block, if the block is laid out as one.
