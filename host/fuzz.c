@@ -239,6 +239,21 @@ static void match(uint64_t no, const struct lent *l, const struct call *c, uint8
     memcpy(kept, numbers, c->bytes);
 }
 
+/* The same in a dialect: 22 where there is no such, and in dialect 2 perhaps a misfit; else what review gives. */
+static void review_in(uint64_t no, const struct lent *l, const struct call *c, int32_t cap, struct lozhbinor_reviewed one)
+{
+    uint8_t *numbers = place_of(l->numbers, LOZHBINOR_REVIEW_BYTES, c->at_end);
+    uint32_t dialect = below(4);
+    uint32_t answer = lozhbinor_review_with(dialect, laid(l->matcher, &c->m, c->at_end), c->m.count, laid(l->pattern, &c->p, c->at_end), c->p.count, cap, numbers,
+                                            LOZHBINOR_REVIEW_BYTES);
+    struct lozhbinor_reviewed r = lozhbinor_reviewed_of(numbers);
+    int same = r.answer == one.answer && r.place == one.place && r.count == one.count;
+    if (r.answer != answer || (answer == LOZHBINOR_DIALECT) != (dialect < 1 || dialect > 2))
+        wrong(no, "an answer that review in a dialect does not give");
+    if (answer != LOZHBINOR_DIALECT && !same && (dialect == 1 || answer != LOZHBINOR_MISFIT))
+        wrong(no, "review in a dialect gives something else");
+}
+
 static void review(uint64_t no, const struct lent *l, const struct call *c)
 {
     uint8_t *numbers = place_of(l->numbers, LOZHBINOR_REVIEW_BYTES, c->at_end);
@@ -250,6 +265,7 @@ static void review(uint64_t no, const struct lent *l, const struct call *c)
         wrong(no, "an answer that review does not give");
     if (answer != LOZHBINOR_DONE && r.count != 0)
         wrong(no, "a refusal with a count");
+    review_in(no, l, c, cap, r);
 }
 
 /* The words that suffice; where there are so many, a match with them and review's count is stopped by neither. */
