@@ -12,7 +12,8 @@ use borrow.Author.Tests.{eq-eqb, eqb-true, eqb-false, ltb-true, ltb-false}
 use Rattle.words.specs.Words.{entries}
 use Rattle.tables.specs.declared.slot.Held as held-slot
 use Rattle.tables.specs.declared.slot.Frame as frame-slot
-use Rattle.tables.specs.Slot.{slotCount, Tables, section, byLine, viewOf, Slotted, heldIn, frameIn}
+use Rattle.tables.specs.Section.{section}
+use Rattle.tables.specs.Slot.{slotCount, Tables, byLine, viewOf, Slotted, heldIn, frameIn}
 use Rattle.tables.specs.SlotLaws.{long-list, line-at}
 use Rattle.value_places.specs.Held.{Held}
 use Rattle.value_rows.specs.Row.{Bound}
@@ -89,7 +90,7 @@ lines-next op arg s t j y r c e z d n l = record { inside = go (eqb j (entries -
 
 -- Lines with one slot between them.
 module _ (arg slots : List ℕ) (n : Numbered arg slots) (i j : ℕ) (a : i < entries) (b : j < entries) (e : getD arg i 0 ≡ getD arg j 0) where
-  alike-at : (c : ℕ) → c ≤ 4 → getD (byLine arg (section c slots)) i 0 ≡ getD (byLine arg (section c slots)) j 0
+  alike-at : (c : ℕ) → c ≤ 4 → getD (byLine arg (section slotCount c slots)) i 0 ≡ getD (byLine arg (section slotCount c slots)) j 0
   alike-at c h = sym (line-at arg slots i a (n .slot i) (long-list arg slots (n .long)) c h) ∙ ap (λ k. getD slots (c * slotCount + k) 0) e ∙ line-at arg slots j b (n .slot j) (long-list arg slots (n .long)) c h
 
   line-alike : (op : List ℕ) (s : List ℤ) → Line op s (viewOf arg slots) j → Line op s (viewOf arg slots) i

@@ -6,7 +6,7 @@ use lib.ListN.{length, getD}
 use lib.IntN.{ℤ}
 use Rattle.words.specs.Words.{entries}
 use Rattle.value_places.specs.Places.{Target}
-use Rattle.value_places.specs.Tables.{Ends, Places}
+use Rattle.value_places.specs.Tables.{Placed}
 use Rattle.value_places.specs.Held.{Held}
 use Rattle.value_rows.specs.Row.{Bound}
 use Rattle.value_rows.specs.declared.Binding.{Binding}
@@ -59,11 +59,10 @@ pub record Valid (e : Env) (r : Run) : Type 0 where
 
 -- ---- What the code asks at each place.
 
--- The target, and the tables of its places.
-pub record Given (s : List ℤ) (ends base places : List ℕ) : Type 0 where
+-- The target, and the table of its places.
+pub record Given (s : List ℤ) (places : List ℕ) : Type 0 where
   pub target : Target s
-  pub ended : Ends s ends
-  pub placed : Places s base places
+  pub placed : Placed s places
 
 -- A row: its values are held, and the counts can be raised.
 pub record Rows (s : List ℤ) (b : List Binding) (n : ℕ) (x : State) (room : List ℤ) : Type 0 where

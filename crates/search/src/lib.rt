@@ -8,13 +8,14 @@ use tables::line::arg_at;
 use tables::line::con_at;
 use tables::line::mat_at;
 use tables::line::op_at;
+use tables::place::Places;
+use tables::place::no_places;
 use tables::slot::Slots;
 use tables::slot::no_slots;
 use taking::filled;
 use taking::wrote;
 use value_equality::equal;
 use value_equality::is_sum;
-use value_places::places::ends_of;
 use value_places::places::places_of;
 use value_places::places::whole;
 use value_rows::Binding;
@@ -45,14 +46,12 @@ pub fn advance(
     origins: bool,
     mt: &[i32],
     s: &[i32],
-    ends: &[u16; 512],
-    base: &[u16; 512],
-    places: &[u16; 512],
+    places: &Places,
     lines: &Lines,
     slots: &mut Slots,
     room: &mut [i32],
 ) -> Found
-    requires { ⌜ Given (now s) (now ends) (now base) (now places) ⌝ ∗ ⌜ Fine (envOf (columnsOf (now lines)) (now mt) (now s) n (formBy origins)) ⌝ ∗ ⌜ Valid (envOf (columnsOf (now lines)) (now mt) (now s) n (formBy origins)) (run first (viewOf (columnsOf (now lines) .arg) (now slots)) given (now room)) ⌝ }
+    requires { ⌜ Given (now s) (now places) ⌝ ∗ ⌜ Fine (envOf (columnsOf (now lines)) (now mt) (now s) n (formBy origins)) ⌝ ∗ ⌜ Valid (envOf (columnsOf (now lines)) (now mt) (now s) n (formBy origins)) (run first (viewOf (columnsOf (now lines) .arg) (now slots)) given (now room)) ⌝ }
     ensures { λ r. ⌜ run (r .state) (viewOf (columnsOf (now (lines .entry)) .arg) (now (slots .exit))) (r .binds) (now (room .exit)) ≡ runOf (envOf (columnsOf (now (lines .entry))) (now (mt .entry)) (now (s .entry)) n (formBy origins)) (budget - first .steps) (run first (viewOf (columnsOf (now (lines .entry)) .arg) (now (slots .entry))) given (now (room .entry))) ⌝ }
 {
     let mut x = first;
@@ -85,7 +84,7 @@ pub fn advance(
                 let g = y.at;
                 let k = y.marks;
                 let i = mat_at(lines, pc);
-                q = equal(mt, i, s, base, places, g, k, at, m);
+                q = equal(mt, i, s, places, g, k, at, m);
             }
         }
         if o == 0 {
@@ -93,7 +92,7 @@ pub fn advance(
             let free = room.len() - e;
             let mut size: usize = 0;
             if free < n * (s.len() + 1) {
-                size = row_size(origins, s, ends, base, places, b, n);
+                size = row_size(origins, s, places, b, n);
             }
             if free < size {
                 x = filled(x);
@@ -103,15 +102,15 @@ pub fn advance(
                     let y = b[v];
                     let g = y.at;
                     let k = y.marks;
-                    e = put_entry(origins, s, ends, base, places, g, k, room, e);
+                    e = put_entry(origins, s, places, g, k, room, e);
                     v += 1;
                 }
                 x = wrote(x, e);
             }
         } else {
-            x = x.step(q, s, base, places, lines, slots);
+            x = x.step(q, s, places, lines, slots);
         }
-        x = settle(x, s, base, places, lines, slots);
+        x = settle(x, s, places, lines, slots);
     }
     Found { state: x, binds: b }
 }
@@ -149,11 +148,8 @@ pub fn search(
     requires { ⌜ Target (now s) ⌝ ∗ ⌜ 0 < length (now s) ⌝ ∗ ⌜ Fine (envOf (columnsOf (now lines)) (now mt) (now s) n (formBy origins)) ⌝ }
     ensures { λ r. ⌜ Searched (envOf (columnsOf (now (lines .entry))) (now (mt .entry)) (now (s .entry)) n (formBy origins)) budget (now (room .entry)) (matched (r .answer) (r .rows) (r .steps) (r .words) (now (room .exit))) ⌝ }
 {
-    let mut ends = [0u16; 512];
-    let mut base = [0u16; 512];
-    let mut places = [0u16; 512];
-    ends_of(s, &mut ends);
-    places_of(s, &ends, &mut base, &mut places);
+    let mut places = no_places();
+    places_of(s, &mut places);
     let mut slots = no_slots();
     let given = [Binding { at: 0, marks: 0 }; 16];
     let first = State {
@@ -174,8 +170,6 @@ pub fn search(
         origins,
         mt,
         s,
-        &ends,
-        &base,
         &places,
         lines,
         &mut slots,

@@ -6,6 +6,7 @@ use search_step::State;
 use tables::line::Lines;
 use tables::line::op_at;
 use tables::line::to_at;
+use tables::place::Places;
 use tables::slot::Slots;
 use tables::slot::frame_at;
 use tables::slot::held_at;
@@ -21,7 +22,7 @@ ghost use lib.ListN.{getD};
 ghost use Rattle.tables.specs.Line.{columnsOf};
 ghost use Rattle.tables.specs.Slot.{viewOf, Slotted, Alone};
 ghost use Rattle.value_places.specs.Places.{Target};
-ghost use Rattle.value_places.specs.Tables.{Places};
+ghost use Rattle.value_places.specs.Tables.{Placed};
 ghost use Rattle.search_step.specs.Steps.{turned};
 ghost use Rattle.search_choice.specs.Choices.{joinOf, consOf, resumedAt, pickOf, settleOf, Joins, Conses, Named, Picks, PicksIf};
 
@@ -50,12 +51,11 @@ fn cons(
     mut x: State,
     pc: usize,
     s: &[i32],
-    base: &[u16; 512],
-    places: &[u16; 512],
+    places: &Places,
     lines: &Lines,
     slots: &mut Slots,
 ) -> State
-    requires { ⌜ Target (now s) ⌝ ∗ ⌜ Places (now s) (now base) (now places) ⌝ ∗ ⌜ Conses (now s) ((viewOf (columnsOf (now lines) .arg) (now slots)) .ats) ((viewOf (columnsOf (now lines) .arg) (now slots)) .lefts) pc ⌝ ∗ ⌜ Slotted (columnsOf (now lines) .arg) (now slots) pc ⌝ ∗ ⌜ Alone (columnsOf (now lines) .arg) pc ⌝ }
+    requires { ⌜ Target (now s) ⌝ ∗ ⌜ Placed (now s) (now places) ⌝ ∗ ⌜ Conses (now s) ((viewOf (columnsOf (now lines) .arg) (now slots)) .ats) ((viewOf (columnsOf (now lines) .arg) (now slots)) .lefts) pc ⌝ ∗ ⌜ Slotted (columnsOf (now lines) .arg) (now slots) pc ⌝ ∗ ⌜ Alone (columnsOf (now lines) .arg) pc ⌝ }
     ensures { λ r. ⌜ turned r (viewOf (columnsOf (now (lines .entry)) .arg) (now (slots .exit))) ≡ consOf (now (s .entry)) pc x (viewOf (columnsOf (now (lines .entry)) .arg) (now (slots .entry))) ⌝ }
 {
     let f = frame_at(slots, lines, pc);
@@ -63,7 +63,7 @@ fn cons(
     let m = f.whole;
     let c = f.left;
     let k = lowest(c);
-    let e = element(s, base, places, t, k);
+    let e = element(s, places, t, k);
     let a = whole(s, e);
     let b = without(m, k);
     put_back(slots, lines, pc, b);
@@ -93,15 +93,8 @@ fn resume(mut x: State, o: u16, pc: usize, lines: &Lines, slots: &Slots) -> Stat
 }
 
 // The next choice of the last open frame.
-pub fn pick(
-    mut x: State,
-    s: &[i32],
-    base: &[u16; 512],
-    places: &[u16; 512],
-    lines: &Lines,
-    slots: &mut Slots,
-) -> State
-    requires { ⌜ Target (now s) ⌝ ∗ ⌜ Places (now s) (now base) (now places) ⌝ ∗ ⌜ Named (columnsOf (now lines) .op) (columnsOf (now lines) .from) (columnsOf (now lines) .arg) (now slots) ⌝ ∗ ⌜ Picks (columnsOf (now lines) .op) (now s) (x .top) ((viewOf (columnsOf (now lines) .arg) (now slots)) .ats) ((viewOf (columnsOf (now lines) .arg) (now slots)) .wholes) ((viewOf (columnsOf (now lines) .arg) (now slots)) .lefts) ⌝ }
+pub fn pick(mut x: State, s: &[i32], places: &Places, lines: &Lines, slots: &mut Slots) -> State
+    requires { ⌜ Target (now s) ⌝ ∗ ⌜ Placed (now s) (now places) ⌝ ∗ ⌜ Named (columnsOf (now lines) .op) (columnsOf (now lines) .from) (columnsOf (now lines) .arg) (now slots) ⌝ ∗ ⌜ Picks (columnsOf (now lines) .op) (now s) (x .top) ((viewOf (columnsOf (now lines) .arg) (now slots)) .ats) ((viewOf (columnsOf (now lines) .arg) (now slots)) .wholes) ((viewOf (columnsOf (now lines) .arg) (now slots)) .lefts) ⌝ }
     ensures { λ r. ⌜ turned r (viewOf (columnsOf (now (lines .entry)) .arg) (now (slots .exit))) ≡ pickOf (columnsOf (now (lines .entry)) .op) (columnsOf (now (lines .entry)) .from) (columnsOf (now (lines .entry)) .to) (now (s .entry)) x (viewOf (columnsOf (now (lines .entry)) .arg) (now (slots .entry))) ⌝ }
 {
     let top = x.top;
@@ -117,24 +110,17 @@ pub fn pick(
         }
         return resume(x, o, pc, lines, slots);
     }
-    cons(x, pc, s, base, places, lines, slots)
+    cons(x, pc, s, places, lines, slots)
 }
 
 // The next choice is taken where no state stands.
-pub fn settle(
-    x: State,
-    s: &[i32],
-    base: &[u16; 512],
-    places: &[u16; 512],
-    lines: &Lines,
-    slots: &mut Slots,
-) -> State
-    requires { ⌜ Target (now s) ⌝ ∗ ⌜ Places (now s) (now base) (now places) ⌝ ∗ ⌜ Named (columnsOf (now lines) .op) (columnsOf (now lines) .from) (columnsOf (now lines) .arg) (now slots) ⌝ ∗ ⌜ PicksIf (x .live) (columnsOf (now lines) .op) (now s) (x .top) ((viewOf (columnsOf (now lines) .arg) (now slots)) .ats) ((viewOf (columnsOf (now lines) .arg) (now slots)) .wholes) ((viewOf (columnsOf (now lines) .arg) (now slots)) .lefts) ⌝ }
+pub fn settle(x: State, s: &[i32], places: &Places, lines: &Lines, slots: &mut Slots) -> State
+    requires { ⌜ Target (now s) ⌝ ∗ ⌜ Placed (now s) (now places) ⌝ ∗ ⌜ Named (columnsOf (now lines) .op) (columnsOf (now lines) .from) (columnsOf (now lines) .arg) (now slots) ⌝ ∗ ⌜ PicksIf (x .live) (columnsOf (now lines) .op) (now s) (x .top) ((viewOf (columnsOf (now lines) .arg) (now slots)) .ats) ((viewOf (columnsOf (now lines) .arg) (now slots)) .wholes) ((viewOf (columnsOf (now lines) .arg) (now slots)) .lefts) ⌝ }
     ensures { λ r. ⌜ turned r (viewOf (columnsOf (now (lines .entry)) .arg) (now (slots .exit))) ≡ settleOf (columnsOf (now (lines .entry)) .op) (columnsOf (now (lines .entry)) .from) (columnsOf (now (lines .entry)) .to) (now (s .entry)) x (viewOf (columnsOf (now (lines .entry)) .arg) (now (slots .entry))) ⌝ }
 {
     let live = x.live;
     if live == 2 {
-        return pick(x, s, base, places, lines, slots);
+        return pick(x, s, places, lines, slots);
     }
     x
 }

@@ -11,6 +11,7 @@ use tables::line::Lines;
 use tables::line::from_at;
 use tables::line::op_at;
 use tables::line::to_at;
+use tables::place::Places;
 use tables::slot::Frame;
 use tables::slot::Slots;
 use tables::slot::held_at;
@@ -28,7 +29,7 @@ ghost use Rattle.words.specs.Words.{entries};
 ghost use Rattle.tables.specs.Line.{columnsOf};
 ghost use Rattle.tables.specs.Slot.{viewOf, Slotted, Alone};
 ghost use Rattle.value_places.specs.Places.{Target};
-ghost use Rattle.value_places.specs.Tables.{Places};
+ghost use Rattle.value_places.specs.Tables.{Placed};
 ghost use Rattle.value_places.specs.Held.{Held};
 ghost use Rattle.search_step.specs.Steps.{turned, dropped, pushed, pushedIn, splitOf, headOf, apartOf, divideOf, stepOf, Steps, Divides, Aparts};
 
@@ -95,15 +96,8 @@ impl State {
     }
 
     // A list's cons: its one choice is taken at once, and the frame is left as one that is no longer open.
-    fn head(
-        mut self,
-        s: &[i32],
-        base: &[u16; 512],
-        places: &[u16; 512],
-        lines: &Lines,
-        slots: &mut Slots,
-    ) -> State
-        requires { ⌜ Target (now s) ⌝ ∗ ⌜ Places (now s) (now base) (now places) ⌝ ∗ ⌜ Held (now s) (self .at) (self .marks) ⌝ ∗ ⌜ Slotted (columnsOf (now lines) .arg) (now slots) (self .pc) ⌝ ∗ ⌜ Alone (columnsOf (now lines) .arg) (self .pc) ⌝ }
+    fn head(mut self, s: &[i32], places: &Places, lines: &Lines, slots: &mut Slots) -> State
+        requires { ⌜ Target (now s) ⌝ ∗ ⌜ Placed (now s) (now places) ⌝ ∗ ⌜ Held (now s) (self .at) (self .marks) ⌝ ∗ ⌜ Slotted (columnsOf (now lines) .arg) (now slots) (self .pc) ⌝ ∗ ⌜ Alone (columnsOf (now lines) .arg) (self .pc) ⌝ }
         ensures { λ r. ⌜ turned r (viewOf (columnsOf (now (lines .entry)) .arg) (now (slots .exit))) ≡ headOf (now (s .entry)) self (viewOf (columnsOf (now (lines .entry)) .arg) (now (slots .entry))) ⌝ }
     {
         let m = self.marks;
@@ -121,7 +115,7 @@ impl State {
         };
         put_frame(slots, lines, pc, f, self.top);
         put_back(slots, lines, pc, rest(m));
-        let e = element(s, base, places, at, k);
+        let e = element(s, places, at, k);
         self.pc = pc + 1;
         self.at = e;
         self.marks = whole(s, e);
@@ -134,12 +128,11 @@ impl State {
         mut self,
         o: u16,
         s: &[i32],
-        base: &[u16; 512],
-        places: &[u16; 512],
+        places: &Places,
         lines: &Lines,
         slots: &mut Slots,
     ) -> State
-        requires { ⌜ Target (now s) ⌝ ∗ ⌜ Places (now s) (now base) (now places) ⌝ ∗ ⌜ Aparts (now s) o (columnsOf (now lines) .arg) (now slots) self ⌝ }
+        requires { ⌜ Target (now s) ⌝ ∗ ⌜ Placed (now s) (now places) ⌝ ∗ ⌜ Aparts (now s) o (columnsOf (now lines) .arg) (now slots) self ⌝ }
         ensures { λ r. ⌜ turned r (viewOf (columnsOf (now (lines .entry)) .arg) (now (slots .exit))) ≡ apartOf (now (s .entry)) (o - 10) self (viewOf (columnsOf (now (lines .entry)) .arg) (now (slots .entry))) ⌝ }
     {
         let n = later(o);
@@ -147,8 +140,8 @@ impl State {
         let fits = is_wide(s, at, n);
         if fits {
             let from = self.pc;
-            keep(s, base, places, at, from, n, lines, slots);
-            let first = element(s, base, places, at, 0);
+            keep(s, places, at, from, n, lines, slots);
+            let first = element(s, places, at, 0);
             self.pc = from + n;
             self.at = first;
             self.marks = whole(s, first);
@@ -160,26 +153,18 @@ impl State {
     }
 
     // A cons, a join, a tuple; and, or, not.
-    fn divide(
-        self,
-        o: u16,
-        s: &[i32],
-        base: &[u16; 512],
-        places: &[u16; 512],
-        lines: &Lines,
-        slots: &mut Slots,
-    ) -> State
-        requires { ⌜ Target (now s) ⌝ ∗ ⌜ Places (now s) (now base) (now places) ⌝ ∗ ⌜ Divides (now s) o (columnsOf (now lines) .from) (columnsOf (now lines) .arg) (now slots) self ⌝ }
+    fn divide(self, o: u16, s: &[i32], places: &Places, lines: &Lines, slots: &mut Slots) -> State
+        requires { ⌜ Target (now s) ⌝ ∗ ⌜ Placed (now s) (now places) ⌝ ∗ ⌜ Divides (now s) o (columnsOf (now lines) .from) (columnsOf (now lines) .arg) (now slots) self ⌝ }
         ensures { λ r. ⌜ turned r (viewOf (columnsOf (now (lines .entry)) .arg) (now (slots .exit))) ≡ divideOf (now (s .entry)) o (columnsOf (now (lines .entry)) .from) self (viewOf (columnsOf (now (lines .entry)) .arg) (now (slots .entry))) ⌝ }
     {
         if 10 < o {
             if o < 14 {
-                return self.apart(o, s, base, places, lines, slots);
+                return self.apart(o, s, places, lines, slots);
             }
             return self.sides(o, lines, slots);
         }
         if o == 8 {
-            return self.head(s, base, places, lines, slots);
+            return self.head(s, places, lines, slots);
         }
         self.split(o, lines, slots)
     }
@@ -189,12 +174,11 @@ impl State {
         mut self,
         q: bool,
         s: &[i32],
-        base: &[u16; 512],
-        places: &[u16; 512],
+        places: &Places,
         lines: &Lines,
         slots: &mut Slots,
     ) -> State
-        requires { ⌜ Target (now s) ⌝ ∗ ⌜ Places (now s) (now base) (now places) ⌝ ∗ ⌜ Steps (now s) (columnsOf (now lines) .op) (columnsOf (now lines) .from) (columnsOf (now lines) .arg) (columnsOf (now lines) .con) (now slots) self ⌝ }
+        requires { ⌜ Target (now s) ⌝ ∗ ⌜ Placed (now s) (now places) ⌝ ∗ ⌜ Steps (now s) (columnsOf (now lines) .op) (columnsOf (now lines) .from) (columnsOf (now lines) .arg) (columnsOf (now lines) .con) (now slots) self ⌝ }
         ensures { λ r. ⌜ turned r (viewOf (columnsOf (now (lines .entry)) .arg) (now (slots .exit))) ≡ stepOf (columnsOf (now (lines .entry)) .op) (columnsOf (now (lines .entry)) .from) (columnsOf (now (lines .entry)) .to) (columnsOf (now (lines .entry)) .con) (now (s .entry)) q self (viewOf (columnsOf (now (lines .entry)) .arg) (now (slots .entry))) ⌝ }
     {
         let pc = self.pc;
@@ -206,7 +190,7 @@ impl State {
             return self;
         }
         if 7 < o {
-            return self.divide(o, s, base, places, lines, slots);
+            return self.divide(o, s, places, lines, slots);
         }
         let at = self.at;
         let m = self.marks;

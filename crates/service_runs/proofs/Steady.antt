@@ -10,7 +10,8 @@ use lib.IntN.{ℤ}
 use borrow.Author.Needs.{needs}
 use borrow.Author.Tests.{ltb-true, ltb-false}
 use Rattle.words.specs.Words.{entries}
-use Rattle.tables.specs.Slot.{slotCount, Tables, section, byLine, viewOf}
+use Rattle.tables.specs.Section.{section}
+use Rattle.tables.specs.Slot.{slotCount, Tables, byLine, viewOf}
 use Rattle.tables.specs.Line.{Columns, columnsOf, noLines}
 use Rattle.tables.specs.declared.line.Line.{Line}
 use Rattle.tables.specs.SlotLaws.{long-list, long-line}

@@ -6,8 +6,8 @@ use search::advance;
 use search_step::State;
 use tables::line::Lines;
 use tables::line::no_lines;
+use tables::place::no_places;
 use tables::slot::Slots;
-use value_places::places::ends_of;
 use value_places::places::places_of;
 use value_rows::Binding;
 use words::casts::wide;
@@ -57,26 +57,9 @@ fn search_on(
     requires { ⌜ Target (now t) ⌝ ∗ ⌜ Fine (envOf (columnsOf (now lines)) (now m) (now t) n (formBy origins)) ⌝ ∗ ⌜ Valid (envOf (columnsOf (now lines)) (now m) (now t) n (formBy origins)) (run x (viewOf (columnsOf (now lines) .arg) (now slots)) b (now room)) ⌝ }
     ensures { λ r. ⌜ run (r .state) (viewOf (columnsOf (now (lines .entry)) .arg) (now (slots .exit))) (r .binds) (now (room .exit)) ≡ runOf (envOf (columnsOf (now (lines .entry))) (now (m .entry)) (now (t .entry)) n (formBy origins)) (budget - x .steps) (run x (viewOf (columnsOf (now (lines .entry)) .arg) (now (slots .entry))) b (now (room .entry))) ⌝ }
 {
-    let mut ends = [0u16; 512];
-    let mut base = [0u16; 512];
-    let mut places = [0u16; 512];
-    ends_of(t, &mut ends);
-    places_of(t, &ends, &mut base, &mut places);
-    advance(
-        x,
-        b,
-        budget,
-        n,
-        origins,
-        m,
-        t,
-        &ends,
-        &base,
-        &places,
-        lines,
-        slots,
-        room,
-    )
+    let mut places = no_places();
+    places_of(t, &mut places);
+    advance(x, b, budget, n, origins, m, t, &places, lines, slots, room)
 }
 
 // What was found, and whether the run was sound.

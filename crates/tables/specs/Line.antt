@@ -1,11 +1,12 @@
 -- The lines of a program as one list of numbers, and the columns that are read from it.
 use Prim.Native.Nat.{ℕ, _+_, _*_}
 use mathlib.Core.List.{List, [], _∷_}
-use lib.ListN.{take, drop, set, replicate}
+use lib.ListN.{drop, set, replicate}
 use lib.IntN.{ℤ}
 use mir.Syntax.{w32}
 use mir.Val.{toZ}
 use Rattle.words.specs.Words.{entries}
+use Rattle.tables.specs.Section.{section}
 use Rattle.tables.specs.declared.line.Line.{Line}
 
 -- A column for each number of a line, and one for the places where the next states stand.
@@ -34,9 +35,6 @@ named a t = columns (t .op) (t .from) a (t .mat) (t .con) (t .to)
 
 -- ---- The sections of the list: op, arg, mat, from, to; then the constants, each in two halves of its bits, the low one first.
 
-unfoldable pub section : (c : ℕ) → List ℕ → List ℕ
-section c t = take entries (drop (c * entries) t)
-
 abbrev pub halves : (low high : ℕ) → ℕ
 halves l h = l + 65536 * h
 
@@ -47,7 +45,7 @@ constants (l ∷ (h ∷ t)) = toZ w32 (halves l h) ∷ constants t
 
 unfoldable pub columnsOf : List ℕ → Columns
 unfolding section constants
-columnsOf t = columns (section 0 t) (section 3 t) (section 1 t) (section 2 t) (constants (drop (5 * entries) t)) (section 4 t)
+columnsOf t = columns (section entries 0 t) (section entries 3 t) (section entries 1 t) (section entries 2 t) (constants (drop (5 * entries) t)) (section entries 4 t)
 
 -- Before a program is laid.
 abbrev pub noLines : List ℕ

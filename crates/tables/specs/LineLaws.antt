@@ -1,40 +1,18 @@
--- Laws of the table of lines: what is read from a section is what stands in the list, and a number that is put in one section leaves the others.
+-- Laws of the table of lines: what is read from a column is what stands in the list, and a line that is put in its place.
 use Prim.Native.Nat.{ℕ, zero, suc, _+_, _-_, _*_, _<_, _≤_, _%_, _/_}
 use native.Mathlib.Omega.{arith}
 use mathlib.Core.Path.{_≡_, refl, sym, ap, _∙_}
 use mathlib.Core.List.{List, [], _∷_}
-use lib.ListN.{length, take, drop, getD, set, replicate}
-use lib.Seq.{getD-take, getD-drop, drop-set-add, drop-set-lt, take-set-lt, take-set-le}
+use lib.ListN.{length, drop, getD, set, replicate}
+use lib.Seq.{getD-drop, drop-set-add, drop-set-lt}
 use lib.IntN.{ℤ, pos}
 use mir.Syntax.{w32}
 use mir.Val.{toZ, ofZ, Fits, SFits}
 use mir.Facts.{toZ-ofZ}
 use Rattle.words.specs.Words.{entries}
 use Rattle.tables.specs.declared.line.Line.{Line}
-use Rattle.tables.specs.Line.{columns, section, halves, constants, columnsOf, written, aimed, named, noLines}
-
--- ---- A section.
-
-pub section-at : (c : ℕ) (t : List ℕ) (pc : ℕ) → pc < entries → getD (section c t) pc 0 ≡ getD t (c * entries + pc) 0
-unfolding section
-section-at c t pc h = getD-take entries (drop (c * entries) t) pc 0 h ∙ getD-drop (c * entries) t pc 0
-
-pub section-put : (c : ℕ) (t : List ℕ) (pc v : ℕ) → pc < entries → section c (set t (c * entries + pc) v) ≡ set (section c t) pc v
-unfolding section
-section-put c t pc v h = ap (take entries) (drop-set-add (c * entries) t pc v) ∙ take-set-lt entries (drop (c * entries) t) pc v h
-
--- A number that is put before or after it.
-pub section-after : (c : ℕ) (t : List ℕ) (i v : ℕ) → i < c * entries → section c (set t i v) ≡ section c t
-unfolding section
-section-after c t i v h = ap (take entries) (drop-set-lt (c * entries) t i v h)
-
-pub section-before : (c : ℕ) (t : List ℕ) (i v : ℕ) → c * entries + entries ≤ i → section c (set t i v) ≡ section c t
-unfolding section
-section-before c t i v h =
-    let e : c * entries + (i - c * entries) ≡ i = omega arith in
-    ap (λ k. take entries (drop (c * entries) (set t k v))) (sym e)
-    ∙ ap (take entries) (drop-set-add (c * entries) t (i - c * entries) v)
-    ∙ take-set-le entries (drop (c * entries) t) (i - c * entries) v (omega arith)
+use Rattle.tables.specs.Section.{section, section-at, section-put, section-after, section-before, drop-zeros, section-zeros}
+use Rattle.tables.specs.Line.{columns, halves, constants, columnsOf, written, aimed, named, noLines}
 
 -- ---- The constants.
 
@@ -66,23 +44,23 @@ constants-put (x ∷ (y ∷ t)) (suc i) l u =
 
 pub arg-at : (t : List ℕ) (pc : ℕ) → pc < entries → getD t (entries + pc) 0 ≡ getD (columnsOf t .arg) pc 0
 unfolding columnsOf
-arg-at t pc h = sym (section-at 1 t pc h)
+arg-at t pc h = sym (section-at entries 1 t pc h)
 
 pub op-at : (t : List ℕ) (pc : ℕ) → pc < entries → getD t pc 0 ≡ getD (columnsOf t .op) pc 0
 unfolding columnsOf
-op-at t pc h = let e : 0 + pc ≡ pc = omega arith in sym (rw e at (section-at 0 t pc h))
+op-at t pc h = let e : 0 + pc ≡ pc = omega arith in sym (rw e at (section-at entries 0 t pc h))
 
 pub mat-at : (t : List ℕ) (pc : ℕ) → pc < entries → getD t (2 * entries + pc) 0 ≡ getD (columnsOf t .mat) pc 0
 unfolding columnsOf
-mat-at t pc h = sym (section-at 2 t pc h)
+mat-at t pc h = sym (section-at entries 2 t pc h)
 
 pub from-at : (t : List ℕ) (pc : ℕ) → pc < entries → getD t (3 * entries + pc) 0 ≡ getD (columnsOf t .from) pc 0
 unfolding columnsOf
-from-at t pc h = sym (section-at 3 t pc h)
+from-at t pc h = sym (section-at entries 3 t pc h)
 
 pub to-at : (t : List ℕ) (pc : ℕ) → pc < entries → getD t (4 * entries + pc) 0 ≡ getD (columnsOf t .to) pc 0
 unfolding columnsOf
-to-at t pc h = sym (section-at 4 t pc h)
+to-at t pc h = sym (section-at entries 4 t pc h)
 
 pub con-at : (t : List ℕ) (pc : ℕ) → pc < length (columnsOf t .con)
     → toZ w32 (halves (getD t (5 * entries + 2 * pc) 0) (getD t (5 * entries + 2 * pc + 1) 0)) ≡ getD (columnsOf t .con) pc (pos 0)
@@ -97,11 +75,11 @@ pub to-put : (t : List ℕ) (pc v : ℕ) → pc < entries → columnsOf (set t (
 unfolding columnsOf aimed
 to-put t pc v h =
     rw (
-      section-before 0 t (4 * entries + pc) v (omega arith),
-      section-before 1 t (4 * entries + pc) v (omega arith),
-      section-before 2 t (4 * entries + pc) v (omega arith),
-      section-before 3 t (4 * entries + pc) v (omega arith),
-      section-put 4 t pc v h,
+      section-before entries 0 t (4 * entries + pc) v (omega arith),
+      section-before entries 1 t (4 * entries + pc) v (omega arith),
+      section-before entries 2 t (4 * entries + pc) v (omega arith),
+      section-before entries 3 t (4 * entries + pc) v (omega arith),
+      section-put entries 4 t pc v h,
       drop-set-lt (5 * entries) t (4 * entries + pc) v (omega arith),
     )
 
@@ -109,11 +87,11 @@ pub arg-named : (t : List ℕ) (pc v : ℕ) → pc < entries → columnsOf (set 
 unfolding columnsOf named
 arg-named t pc v h =
     rw (
-      section-before 0 t (entries + pc) v (omega arith),
-      section-put 1 t pc v h,
-      section-after 2 t (entries + pc) v (omega arith),
-      section-after 3 t (entries + pc) v (omega arith),
-      section-after 4 t (entries + pc) v (omega arith),
+      section-before entries 0 t (entries + pc) v (omega arith),
+      section-put entries 1 t pc v h,
+      section-after entries 2 t (entries + pc) v (omega arith),
+      section-after entries 3 t (entries + pc) v (omega arith),
+      section-after entries 4 t (entries + pc) v (omega arith),
       drop-set-lt (5 * entries) t (entries + pc) v (omega arith),
     )
 
@@ -131,39 +109,39 @@ module _ (t : List ℕ) (pc o a i f : ℕ) (h : pc < entries) where
   abbrev t3 : List ℕ
   t3 = set t2 (2 * entries + pc) i
 
-  op-put : section 0 (numbersPut t pc o a i f) ≡ set (section 0 t) pc o
+  op-put : section entries 0 (numbersPut t pc o a i f) ≡ set (section entries 0 t) pc o
   op-put =
-      section-before 0 t3 (3 * entries + pc) f (omega arith)
-      ∙ section-before 0 t2 (2 * entries + pc) i (omega arith)
-      ∙ section-before 0 t1 (entries + pc) a (omega arith)
-      ∙ (let e : 0 + pc ≡ pc = omega arith in rw e at (section-put 0 t pc o h))
+      section-before entries 0 t3 (3 * entries + pc) f (omega arith)
+      ∙ section-before entries 0 t2 (2 * entries + pc) i (omega arith)
+      ∙ section-before entries 0 t1 (entries + pc) a (omega arith)
+      ∙ (let e : 0 + pc ≡ pc = omega arith in rw e at (section-put entries 0 t pc o h))
 
-  arg-put : section 1 (numbersPut t pc o a i f) ≡ set (section 1 t) pc a
+  arg-put : section entries 1 (numbersPut t pc o a i f) ≡ set (section entries 1 t) pc a
   arg-put =
-      section-before 1 t3 (3 * entries + pc) f (omega arith)
-      ∙ section-before 1 t2 (2 * entries + pc) i (omega arith)
-      ∙ section-put 1 t1 pc a h
-      ∙ ap (λ x. set x pc a) (section-after 1 t pc o (omega arith))
+      section-before entries 1 t3 (3 * entries + pc) f (omega arith)
+      ∙ section-before entries 1 t2 (2 * entries + pc) i (omega arith)
+      ∙ section-put entries 1 t1 pc a h
+      ∙ ap (λ x. set x pc a) (section-after entries 1 t pc o (omega arith))
 
-  mat-put : section 2 (numbersPut t pc o a i f) ≡ set (section 2 t) pc i
+  mat-put : section entries 2 (numbersPut t pc o a i f) ≡ set (section entries 2 t) pc i
   mat-put =
-      section-before 2 t3 (3 * entries + pc) f (omega arith)
-      ∙ section-put 2 t2 pc i h
-      ∙ ap (λ x. set x pc i) (section-after 2 t1 (entries + pc) a (omega arith) ∙ section-after 2 t pc o (omega arith))
+      section-before entries 2 t3 (3 * entries + pc) f (omega arith)
+      ∙ section-put entries 2 t2 pc i h
+      ∙ ap (λ x. set x pc i) (section-after entries 2 t1 (entries + pc) a (omega arith) ∙ section-after entries 2 t pc o (omega arith))
 
-  from-put : section 3 (numbersPut t pc o a i f) ≡ set (section 3 t) pc f
+  from-put : section entries 3 (numbersPut t pc o a i f) ≡ set (section entries 3 t) pc f
   from-put =
-      section-put 3 t3 pc f h
-      ∙ ap (λ x. set x pc f) (section-after 3 t2 (2 * entries + pc) i (omega arith)
-      ∙ section-after 3 t1 (entries + pc) a (omega arith)
-      ∙ section-after 3 t pc o (omega arith))
+      section-put entries 3 t3 pc f h
+      ∙ ap (λ x. set x pc f) (section-after entries 3 t2 (2 * entries + pc) i (omega arith)
+      ∙ section-after entries 3 t1 (entries + pc) a (omega arith)
+      ∙ section-after entries 3 t pc o (omega arith))
 
-  to-kept : section 4 (numbersPut t pc o a i f) ≡ section 4 t
+  to-kept : section entries 4 (numbersPut t pc o a i f) ≡ section entries 4 t
   to-kept =
-      section-after 4 t3 (3 * entries + pc) f (omega arith)
-      ∙ section-after 4 t2 (2 * entries + pc) i (omega arith)
-      ∙ section-after 4 t1 (entries + pc) a (omega arith)
-      ∙ section-after 4 t pc o (omega arith)
+      section-after entries 4 t3 (3 * entries + pc) f (omega arith)
+      ∙ section-after entries 4 t2 (2 * entries + pc) i (omega arith)
+      ∙ section-after entries 4 t1 (entries + pc) a (omega arith)
+      ∙ section-after entries 4 t pc o (omega arith)
 
   con-kept : drop (5 * entries) (numbersPut t pc o a i f) ≡ drop (5 * entries) t
   con-kept =
@@ -176,9 +154,9 @@ module _ (t : List ℕ) (pc o a i f : ℕ) (h : pc < entries) where
 abbrev pub constantPut : (t : List ℕ) (pc l u : ℕ) → List ℕ
 constantPut t pc l u = set (set t (5 * entries + 2 * pc) l) (5 * entries + 2 * pc + 1) u
 
-section-kept : (c : ℕ) (t : List ℕ) (pc l u : ℕ) → c ≤ 4 → section c (constantPut t pc l u) ≡ section c t
+section-kept : (c : ℕ) (t : List ℕ) (pc l u : ℕ) → c ≤ 4 → section entries c (constantPut t pc l u) ≡ section entries c t
 section-kept c t pc l u h =
-    section-before c (set t (5 * entries + 2 * pc) l) (5 * entries + 2 * pc + 1) u (omega arith) ∙ section-before c t (5 * entries + 2 * pc) l (omega arith)
+    section-before entries c (set t (5 * entries + 2 * pc) l) (5 * entries + 2 * pc + 1) u (omega arith) ∙ section-before entries c t (5 * entries + 2 * pc) l (omega arith)
 
 con-put : (t : List ℕ) (pc l u : ℕ)
     → constants (drop (5 * entries) (constantPut t pc l u)) ≡ set (constants (drop (5 * entries) t)) pc (toZ w32 (halves l u))
@@ -219,18 +197,6 @@ module _ (t : List ℕ) (pc l u : ℕ) (x : Line) (h : pc < entries) where
 
 -- ---- Before a program is laid: zeros.
 
-drop-same : (k m : ℕ) → drop {A = ℕ} k (replicate (m + k) 0) ≡ replicate m 0
-drop-same zero m = let e : m + 0 ≡ m = omega arith in rw e
-drop-same (suc k) m = let e : m + suc k ≡ suc (m + k) = omega arith in rw e (drop-same k m)
-
-take-same : (m r : ℕ) → take {A = ℕ} m (replicate (r + m) 0) ≡ replicate m 0
-take-same zero r = refl
-take-same (suc m) r = let e : r + suc m ≡ suc (r + m) = omega arith in rw e (ap (λ l. 0 ∷ l) (take-same m r))
-
-section-zeros : (c n r : ℕ) → n ≡ r + entries + c * entries → section c (replicate n 0) ≡ replicate entries 0
-unfolding section
-section-zeros c n r e = rw e (ap (take entries) (drop-same (c * entries) (r + entries)) ∙ take-same entries r)
-
 constants-zeros : (n : ℕ) → constants (replicate (2 * n) 0) ≡ replicate n (pos 0)
 unfolding constants
 constants-zeros zero = refl
@@ -242,13 +208,13 @@ zeros : (n : ℕ) → n ≡ 7 * entries
 unfolding columnsOf
 zeros n e =
     let g : n ≡ 2 * entries + 5 * entries = omega arith in
-    let d : drop {A = ℕ} (5 * entries) (replicate n 0) ≡ replicate (2 * entries) 0 = rw g (drop-same (5 * entries) (2 * entries)) in
+    let d : drop {A = ℕ} (5 * entries) (replicate n 0) ≡ replicate (2 * entries) 0 = rw g (drop-zeros (5 * entries) (2 * entries)) in
     rw (
-      section-zeros 0 n (6 * entries) (omega arith),
-      section-zeros 1 n (5 * entries) (omega arith),
-      section-zeros 2 n (4 * entries) (omega arith),
-      section-zeros 3 n (3 * entries) (omega arith),
-      section-zeros 4 n (2 * entries) (omega arith),
+      section-zeros entries 0 n (6 * entries) (omega arith),
+      section-zeros entries 1 n (5 * entries) (omega arith),
+      section-zeros entries 2 n (4 * entries) (omega arith),
+      section-zeros entries 3 n (3 * entries) (omega arith),
+      section-zeros entries 4 n (2 * entries) (omega arith),
       d,
       constants-zeros entries,
     )

@@ -2,8 +2,9 @@
 use Prim.Native.Nat.{ℕ, zero, suc, _+_, _*_, _<_}
 use mathlib.Core.Path.{_≡_}
 use mathlib.Core.List.{List, [], _∷_}
-use lib.ListN.{length, take, drop, getD, set, replicate}
+use lib.ListN.{length, getD, set, replicate}
 use Rattle.words.specs.Words.{entries}
+use Rattle.tables.specs.Section.{section}
 use Rattle.tables.specs.declared.slot.Held.{Held}
 use Rattle.tables.specs.declared.slot.Frame.{Frame}
 
@@ -24,9 +25,6 @@ tables a w c l b = record { ats = a; wholes = w; lefts = c; lows = l; backs = b 
 
 -- ---- The sections of the list, in that order; each has an entry for each slot.
 
-unfoldable pub section : (c : ℕ) → List ℕ → List ℕ
-section c t = take slotCount (drop (c * slotCount) t)
-
 unfoldable pub listed : (n : ℕ) → (ℕ → ℕ) → List ℕ
 listed zero f = []
 listed (suc n) f = f 0 ∷ listed n (λ j. f (suc j))
@@ -38,7 +36,7 @@ byLine arg t = listed (length t + 378) (λ j. getD t (getD arg j 0) 0)
 
 unfoldable pub viewOf : (arg slots : List ℕ) → Tables
 unfolding section byLine
-viewOf arg t = tables (byLine arg (section 0 t)) (byLine arg (section 1 t)) (byLine arg (section 2 t)) (byLine arg (section 3 t)) (byLine arg (section 4 t))
+viewOf arg t = tables (byLine arg (section slotCount 0 t)) (byLine arg (section slotCount 1 t)) (byLine arg (section slotCount 2 t)) (byLine arg (section slotCount 3 t)) (byLine arg (section slotCount 4 t))
 
 -- Before the first step.
 abbrev pub noSlots : List ℕ

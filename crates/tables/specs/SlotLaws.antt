@@ -12,7 +12,8 @@ use borrow.Author.Tests.{eqb-true, eqb-false}
 use Rattle.words.specs.Words.{entries}
 use Rattle.tables.specs.declared.slot.Held.{Held}
 use Rattle.tables.specs.declared.slot.Frame.{Frame}
-use Rattle.tables.specs.Slot.{slotCount, Tables, tables, section, listed, byLine, viewOf, noSlots, Slotted, Alone, heldIn, frameIn, putHeld, putFrame, putSide, putLeft, putBack}
+use Rattle.tables.specs.Section.{section, section-at, section-put, section-after, section-before, section-long, section-zeros}
+use Rattle.tables.specs.Slot.{slotCount, Tables, tables, listed, byLine, viewOf, noSlots, Slotted, Alone, heldIn, frameIn, putHeld, putFrame, putSide, putLeft, putBack}
 
 -- ---- A list by its entries.
 
@@ -41,28 +42,6 @@ listed-put (suc n) f g zero v e h =
 listed-put (suc n) f g (suc i) v e h =
     ap₂ (λ x l. x ∷ l) (h 0 (λ z. absurd (omega arith))) (listed-put n (λ j. f (suc j)) (λ j. g (suc j)) i v e (λ j z. h (suc j) (λ y. z (omega arith))))
 
--- ---- A section.
-
-section-at : (c : ℕ) (t : List ℕ) (j : ℕ) → j < slotCount → getD (section c t) j 0 ≡ getD t (c * slotCount + j) 0
-unfolding section
-section-at c t j h = getD-take slotCount (drop (c * slotCount) t) j 0 h ∙ getD-drop (c * slotCount) t j 0
-
-section-put : (c : ℕ) (t : List ℕ) (j v : ℕ) → j < slotCount → section c (set t (c * slotCount + j) v) ≡ set (section c t) j v
-unfolding section
-section-put c t j v h = ap (take slotCount) (drop-set-add (c * slotCount) t j v) ∙ take-set-lt slotCount (drop (c * slotCount) t) j v h
-
-section-after : (c : ℕ) (t : List ℕ) (i v : ℕ) → i < c * slotCount → section c (set t i v) ≡ section c t
-unfolding section
-section-after c t i v h = ap (take slotCount) (drop-set-lt (c * slotCount) t i v h)
-
-section-before : (c : ℕ) (t : List ℕ) (i v : ℕ) → c * slotCount + slotCount ≤ i → section c (set t i v) ≡ section c t
-unfolding section
-section-before c t i v h =
-    let e : c * slotCount + (i - c * slotCount) ≡ i = omega arith in
-    ap (λ k. take slotCount (drop (c * slotCount) (set t k v))) (sym e)
-    ∙ ap (take slotCount) (drop-set-add (c * slotCount) t (i - c * slotCount) v)
-    ∙ take-set-le slotCount (drop (c * slotCount) t) (i - c * slotCount) v (omega arith)
-
 -- ---- The list has all of its numbers.
 
 take-short : {A : Type 0} (n : ℕ) (l : List A) → length (take n l) ≤ length l
@@ -73,41 +52,40 @@ take-short (suc n) (x ∷ l) = let h = take-short n l in omega arith
 pub long-list : (arg t : List ℕ) → length (viewOf arg t .backs) ≡ entries → 5 * slotCount ≤ length t
 unfolding viewOf byLine section
 long-list arg t h =
-    let a = length-listed (length (section 4 t) + 378) (λ j. getD (section 4 t) (getD arg j 0) 0) in
+    let a = length-listed (length (section slotCount 4 t) + 378) (λ j. getD (section slotCount 4 t) (getD arg j 0) 0) in
     let b = take-short slotCount (drop (4 * slotCount) t) in
     let d = length-drop (4 * slotCount) t in
     omega arith
 
-long-section : (c : ℕ) (t : List ℕ) → c ≤ 4 → 5 * slotCount ≤ length t → length (section c t) ≡ slotCount
-unfolding section
-long-section c t h l = length-take-le slotCount (drop (c * slotCount) t) (let d = length-drop (c * slotCount) t in omega arith)
+long-section : (c : ℕ) (t : List ℕ) → c ≤ 4 → 5 * slotCount ≤ length t → length (section slotCount c t) ≡ slotCount
+long-section c t h l = section-long slotCount c t (omega arith)
 
-pub long-line : (c : ℕ) (arg t : List ℕ) → c ≤ 4 → 5 * slotCount ≤ length t → length (byLine arg (section c t)) ≡ entries
+pub long-line : (c : ℕ) (arg t : List ℕ) → c ≤ 4 → 5 * slotCount ≤ length t → length (byLine arg (section slotCount c t)) ≡ entries
 unfolding byLine
 long-line c arg t h l =
-    let a = length-listed (length (section c t) + 378) (λ j. getD (section c t) (getD arg j 0) 0) in
+    let a = length-listed (length (section slotCount c t) + 378) (λ j. getD (section slotCount c t) (getD arg j 0) 0) in
     let b = long-section c t h l in
     omega arith
 
 -- ---- A section by lines.
 
 module _ (arg t : List ℕ) (pc : ℕ) (p : pc < entries) (q : getD arg pc 0 < slotCount) (l : 5 * slotCount ≤ length t) where
-  pub line-at : (c : ℕ) → c ≤ 4 → getD t (c * slotCount + getD arg pc 0) 0 ≡ getD (byLine arg (section c t)) pc 0
+  pub line-at : (c : ℕ) → c ≤ 4 → getD t (c * slotCount + getD arg pc 0) 0 ≡ getD (byLine arg (section slotCount c t)) pc 0
   unfolding byLine
   line-at c h =
       let b = long-section c t h l in
-      sym (listed-at (length (section c t) + 378) (λ j. getD (section c t) (getD arg j 0) 0) pc (omega arith) ∙ section-at c t (getD arg pc 0) q)
+      sym (listed-at (length (section slotCount c t) + 378) (λ j. getD (section slotCount c t) (getD arg j 0) 0) pc (omega arith) ∙ section-at slotCount c t (getD arg pc 0) q)
 
   module _ (a : Alone arg pc) (v : ℕ) where
-    pub line-put : (c : ℕ) → c ≤ 4 → byLine arg (section c (set t (c * slotCount + getD arg pc 0) v)) ≡ set (byLine arg (section c t)) pc v
+    pub line-put : (c : ℕ) → c ≤ 4 → byLine arg (section slotCount c (set t (c * slotCount + getD arg pc 0) v)) ≡ set (byLine arg (section slotCount c t)) pc v
     unfolding byLine
     line-put c h =
         let b = long-section c t h l in
-        let n = length-set (section c t) (getD arg pc 0) v in
-        rw (section-put c t (getD arg pc 0) v q, n)
-        (listed-put (length (section c t) + 378) (λ j. getD (section c t) (getD arg j 0) 0) (λ j. getD (set (section c t) (getD arg pc 0) v) (getD arg j 0) 0) pc v
-        (getD-set-same (section c t) (getD arg pc 0) v 0 (omega arith))
-        (λ j z. getD-set-other (section c t) (getD arg pc 0) (getD arg j 0) v 0 (λ y. z (a .only j y))))
+        let n = length-set (section slotCount c t) (getD arg pc 0) v in
+        rw (section-put slotCount c t (getD arg pc 0) v q, n)
+        (listed-put (length (section slotCount c t) + 378) (λ j. getD (section slotCount c t) (getD arg j 0) 0) (λ j. getD (set (section slotCount c t) (getD arg pc 0) v) (getD arg j 0) 0) pc v
+        (getD-set-same (section slotCount c t) (getD arg pc 0) v 0 (omega arith))
+        (λ j z. getD-set-other (section slotCount c t) (getD arg pc 0) (getD arg j 0) v 0 (λ y. z (a .only j y))))
 
 -- ---- A number put for a line, by section.
 
@@ -119,24 +97,24 @@ module _ (arg t : List ℕ) (pc v : ℕ) (p : pc < entries) (q : getD arg pc 0 <
   unfolding viewOf
   put-at =
       let e : 0 + j ≡ j = omega arith in
-      let f : byLine arg (section 0 (set t j v)) ≡ set (byLine arg (section 0 t)) pc v = rw e at (line-put arg t pc p q l a v 0 (omega arith)) in
-      rw (f, section-after 1 t j v (omega arith), section-after 2 t j v (omega arith), section-after 3 t j v (omega arith), section-after 4 t j v (omega arith))
+      let f : byLine arg (section slotCount 0 (set t j v)) ≡ set (byLine arg (section slotCount 0 t)) pc v = rw e at (line-put arg t pc p q l a v 0 (omega arith)) in
+      rw (f, section-after slotCount 1 t j v (omega arith), section-after slotCount 2 t j v (omega arith), section-after slotCount 3 t j v (omega arith), section-after slotCount 4 t j v (omega arith))
 
   pub put-whole : viewOf arg (set t (slotCount + getD arg pc 0) v) ≡ tables (viewOf arg t .ats) (set (viewOf arg t .wholes) pc v) (viewOf arg t .lefts) (viewOf arg t .lows) (viewOf arg t .backs)
   unfolding viewOf
-  put-whole = rw (section-before 0 t (slotCount + j) v (omega arith), line-put arg t pc p q l a v 1 (omega arith), section-after 2 t (slotCount + j) v (omega arith), section-after 3 t (slotCount + j) v (omega arith), section-after 4 t (slotCount + j) v (omega arith))
+  put-whole = rw (section-before slotCount 0 t (slotCount + j) v (omega arith), line-put arg t pc p q l a v 1 (omega arith), section-after slotCount 2 t (slotCount + j) v (omega arith), section-after slotCount 3 t (slotCount + j) v (omega arith), section-after slotCount 4 t (slotCount + j) v (omega arith))
 
   pub put-left : viewOf arg (set t (2 * slotCount + getD arg pc 0) v) ≡ putLeft pc v (viewOf arg t)
   unfolding viewOf putLeft
-  put-left = rw (section-before 0 t (2 * slotCount + j) v (omega arith), section-before 1 t (2 * slotCount + j) v (omega arith), line-put arg t pc p q l a v 2 (omega arith), section-after 3 t (2 * slotCount + j) v (omega arith), section-after 4 t (2 * slotCount + j) v (omega arith))
+  put-left = rw (section-before slotCount 0 t (2 * slotCount + j) v (omega arith), section-before slotCount 1 t (2 * slotCount + j) v (omega arith), line-put arg t pc p q l a v 2 (omega arith), section-after slotCount 3 t (2 * slotCount + j) v (omega arith), section-after slotCount 4 t (2 * slotCount + j) v (omega arith))
 
   pub put-low : viewOf arg (set t (3 * slotCount + getD arg pc 0) v) ≡ tables (viewOf arg t .ats) (viewOf arg t .wholes) (viewOf arg t .lefts) (set (viewOf arg t .lows) pc v) (viewOf arg t .backs)
   unfolding viewOf
-  put-low = rw (section-before 0 t (3 * slotCount + j) v (omega arith), section-before 1 t (3 * slotCount + j) v (omega arith), section-before 2 t (3 * slotCount + j) v (omega arith), line-put arg t pc p q l a v 3 (omega arith), section-after 4 t (3 * slotCount + j) v (omega arith))
+  put-low = rw (section-before slotCount 0 t (3 * slotCount + j) v (omega arith), section-before slotCount 1 t (3 * slotCount + j) v (omega arith), section-before slotCount 2 t (3 * slotCount + j) v (omega arith), line-put arg t pc p q l a v 3 (omega arith), section-after slotCount 4 t (3 * slotCount + j) v (omega arith))
 
   pub put-back : viewOf arg (set t (4 * slotCount + getD arg pc 0) v) ≡ putBack pc v (viewOf arg t)
   unfolding viewOf putBack
-  put-back = rw (section-before 0 t (4 * slotCount + j) v (omega arith), section-before 1 t (4 * slotCount + j) v (omega arith), section-before 2 t (4 * slotCount + j) v (omega arith), section-before 3 t (4 * slotCount + j) v (omega arith), line-put arg t pc p q l a v 4 (omega arith))
+  put-back = rw (section-before slotCount 0 t (4 * slotCount + j) v (omega arith), section-before slotCount 1 t (4 * slotCount + j) v (omega arith), section-before slotCount 2 t (4 * slotCount + j) v (omega arith), section-before slotCount 3 t (4 * slotCount + j) v (omega arith), line-put arg t pc p q l a v 4 (omega arith))
 
 -- ---- As the leaves read and write.
 
@@ -225,18 +203,6 @@ unfolding listed
 listed-zeros zero f h = refl
 listed-zeros (suc n) f h = ap₂ (λ x l. x ∷ l) (h 0) (listed-zeros n (λ j. f (suc j)) (λ j. h (suc j)))
 
-drop-zeros : (k m : ℕ) → drop {A = ℕ} k (replicate (m + k) 0) ≡ replicate m 0
-drop-zeros zero m = let e : m + 0 ≡ m = omega arith in rw e
-drop-zeros (suc k) m = let e : m + suc k ≡ suc (m + k) = omega arith in rw e (drop-zeros k m)
-
-take-zeros : (m r : ℕ) → take {A = ℕ} m (replicate (r + m) 0) ≡ replicate m 0
-take-zeros zero r = refl
-take-zeros (suc m) r = let e : r + suc m ≡ suc (r + m) = omega arith in rw e (ap (λ l. 0 ∷ l) (take-zeros m r))
-
-section-zeros : (c n r : ℕ) → n ≡ r + slotCount + c * slotCount → section c (replicate n 0) ≡ replicate slotCount 0
-unfolding section
-section-zeros c n r e = rw e (ap (take slotCount) (drop-zeros (c * slotCount) (r + slotCount)) ∙ take-zeros slotCount r)
-
 by-zeros : (arg : List ℕ) (n : ℕ) → byLine arg (replicate n 0) ≡ replicate (n + 378) 0
 unfolding byLine
 by-zeros arg n = rw (length-replicate {A = ℕ} n 0) (listed-zeros (n + 378) (λ j. getD (replicate n 0) (getD arg j 0) 0) (λ j. zeros-at n (getD arg j 0)))
@@ -246,11 +212,11 @@ zeros : (n : ℕ) (arg : List ℕ) → n ≡ 5 * slotCount
 unfolding viewOf
 zeros n arg e =
     rw (
-      section-zeros 0 n (4 * slotCount) (omega arith),
-      section-zeros 1 n (3 * slotCount) (omega arith),
-      section-zeros 2 n (2 * slotCount) (omega arith),
-      section-zeros 3 n slotCount (omega arith),
-      section-zeros 4 n 0 (omega arith),
+      section-zeros slotCount 0 n (4 * slotCount) (omega arith),
+      section-zeros slotCount 1 n (3 * slotCount) (omega arith),
+      section-zeros slotCount 2 n (2 * slotCount) (omega arith),
+      section-zeros slotCount 3 n slotCount (omega arith),
+      section-zeros slotCount 4 n 0 (omega arith),
       by-zeros arg slotCount,
     )
 

@@ -2,6 +2,7 @@
 // place in a table of eight levels; multisets by marking off, tuples part by part.
 use matchers::matcher_end;
 use matchers::width_at;
+use tables::place::Places;
 use value_places::places::count_at;
 use value_places::places::element;
 use value_places::places::number_at;
@@ -19,7 +20,7 @@ ghost use lib.ListN.{length, getD};
 ghost use lib.IntN.{pos};
 ghost use Rattle.rules.specs.Numbers.{same};
 ghost use Rattle.value_places.specs.Places.{Target, Tag};
-ghost use Rattle.value_places.specs.Tables.{Places};
+ghost use Rattle.value_places.specs.Tables.{Placed};
 ghost use Rattle.value_places.specs.Held.{Held};
 ghost use Rattle.value_equality.specs.Equality.{equalAt, tuplesEqual, isSum, integersEqual, firstInteger, integersPaired};
 ghost use Rattle.value_equality.specs.Levels.{endedOf, outcomeOf, levelOf, onwardOf, settledOf, takenOf, questionOf, firstOf, secondOf, comesTo, Marks, Both, Open, Opens};
@@ -201,14 +202,14 @@ fn taken(mt: &[i32], l: Level, yes: bool) -> Level
 }
 
 // The level's question.
-fn asked(mt: &[i32], s: &[i32], base: &[u16; 512], places: &[u16; 512], l: Level) -> Level
-    requires { ⌜ Target (now s) ⌝ ∗ ⌜ Places (now s) (now base) (now places) ⌝ ∗ ⌜ Open (now s) l ⌝ ∗ ⌜ (0 < l .x) × (0 < l .z) ⌝ }
+fn asked(mt: &[i32], s: &[i32], places: &Places, l: Level) -> Level
+    requires { ⌜ Target (now s) ⌝ ∗ ⌜ Placed (now s) (now places) ⌝ ∗ ⌜ Open (now s) l ⌝ ∗ ⌜ (0 < l .x) × (0 < l .z) ⌝ }
     ensures { λ r. ⌜ Opens (now (mt .entry)) (now (s .entry)) (firstOf (now (s .entry)) l) r (questionOf (now (mt .entry)) (now (s .entry)) l) ⌝ }
 {
     let j = lowest(l.x);
     let k = lowest(l.z);
-    let e = element(s, base, places, l.a, j);
-    let f = element(s, base, places, l.b, k);
+    let e = element(s, places, l.a, j);
+    let f = element(s, places, l.b, k);
     let x = whole(s, e);
     let y = whole(s, f);
     opened(mt, l.at, s, e, x, f, y)
@@ -229,31 +230,24 @@ fn same_integers(s: &[i32], a: usize, b: usize) -> bool
 }
 
 // The level's question, where it is of two integers.
-fn asked_integers(s: &[i32], base: &[u16; 512], places: &[u16; 512], l: Level) -> bool
-    requires { ⌜ Target (now s) ⌝ ∗ ⌜ Places (now s) (now base) (now places) ⌝ ∗ ⌜ Open (now s) l ⌝ ∗ ⌜ (0 < l .x) × (0 < l .z) ⌝ }
+fn asked_integers(s: &[i32], places: &Places, l: Level) -> bool
+    requires { ⌜ Target (now s) ⌝ ∗ ⌜ Placed (now s) (now places) ⌝ ∗ ⌜ Open (now s) l ⌝ ∗ ⌜ (0 < l .x) × (0 < l .z) ⌝ }
     ensures { λ r. ⌜ r ≡ integersEqual (now (s .entry)) (firstOf (now (s .entry)) l) (secondOf (now (s .entry)) l) ⌝ }
 {
-    let e = element(s, base, places, l.a, lowest(l.x));
-    let f = element(s, base, places, l.b, lowest(l.z));
+    let e = element(s, places, l.a, lowest(l.x));
+    let f = element(s, places, l.b, lowest(l.z));
     same_integers(s, e, f)
 }
 
 // The first of the marked elements of b that is the integer at e; 64 where none is.
-fn first_integer(
-    s: &[i32],
-    base: &[u16; 512],
-    places: &[u16; 512],
-    e: usize,
-    b: usize,
-    y: u64,
-) -> u32
-    requires { ⌜ Target (now s) ⌝ ∗ ⌜ Places (now s) (now base) (now places) ⌝ ∗ ⌜ Tag (now s) e ⌝ ∗ ⌜ Marks (now s) b y ⌝ }
+fn first_integer(s: &[i32], places: &Places, e: usize, b: usize, y: u64) -> u32
+    requires { ⌜ Target (now s) ⌝ ∗ ⌜ Placed (now s) (now places) ⌝ ∗ ⌜ Tag (now s) e ⌝ ∗ ⌜ Marks (now s) b y ⌝ }
     ensures { λ r. ⌜ r ≡ firstInteger (now (s .entry)) e b y ⌝ }
 {
     let mut z = y;
     while 0 < z {
         let k = lowest(z);
-        let f = element(s, base, places, b, k);
+        let f = element(s, places, b, k);
         if same_integers(s, e, f) {
             return k;
         }
@@ -263,23 +257,15 @@ fn first_integer(
 }
 
 // Two multisets of integers: each of x with the first equal one of y that is left.
-fn paired_integers(
-    s: &[i32],
-    base: &[u16; 512],
-    places: &[u16; 512],
-    a: usize,
-    am: u64,
-    b: usize,
-    bm: u64,
-) -> bool
-    requires { ⌜ Target (now s) ⌝ ∗ ⌜ Places (now s) (now base) (now places) ⌝ ∗ ⌜ Both (now s) a am b bm ⌝ }
+fn paired_integers(s: &[i32], places: &Places, a: usize, am: u64, b: usize, bm: u64) -> bool
+    requires { ⌜ Target (now s) ⌝ ∗ ⌜ Placed (now s) (now places) ⌝ ∗ ⌜ Both (now s) a am b bm ⌝ }
     ensures { λ r. ⌜ r ≡ integersPaired (now (s .entry)) a am b bm ⌝ }
 {
     let mut x = am;
     let mut y = bm;
     while 0 < x {
-        let e = element(s, base, places, a, lowest(x));
-        let k = first_integer(s, base, places, e, b, y);
+        let e = element(s, places, a, lowest(x));
+        let k = first_integer(s, places, e, b, y);
         if k == 64 {
             return false;
         }
@@ -293,8 +279,7 @@ fn paired_integers(
 fn compared(
     mt: &[i32],
     s: &[i32],
-    base: &[u16; 512],
-    places: &[u16; 512],
+    places: &Places,
     kind: u32,
     at: usize,
     a: usize,
@@ -302,13 +287,13 @@ fn compared(
     b: usize,
     y: u64,
 ) -> bool
-    requires { ⌜ Target (now s) ⌝ ∗ ⌜ Places (now s) (now base) (now places) ⌝ ∗ ⌜ Tag (now s) a ⌝ ∗ ⌜ (0 < x → Open (now s) (levelOf kind at a x b y)) ⌝ }
+    requires { ⌜ Target (now s) ⌝ ∗ ⌜ Placed (now s) (now places) ⌝ ∗ ⌜ Tag (now s) a ⌝ ∗ ⌜ (0 < x → Open (now s) (levelOf kind at a x b y)) ⌝ }
     ensures { λ r. ⌜ r ≡ comesTo (now (mt .entry)) (now (s .entry)) (levelOf kind at a x b y) ⌝ }
 {
     let of = tag_at(mt, at);
     if kind == 3 {
         if of == 1 {
-            return paired_integers(s, base, places, a, x, b, y);
+            return paired_integers(s, places, a, x, b, y);
         }
     }
     let mut l = begun(kind, at, a, x, b, y);
@@ -326,12 +311,12 @@ fn compared(
         } else {
             let of = tag_at(mt, l.at);
             if of == 1 {
-                let yes = asked_integers(s, base, places, l);
+                let yes = asked_integers(s, places, l);
                 l = taken(mt, l, yes);
             } else {
                 levels[depth] = l;
                 depth += 1;
-                l = asked(mt, s, base, places, l);
+                l = asked(mt, s, places, l);
             }
         }
     }
@@ -343,19 +328,18 @@ pub fn equal(
     mt: &[i32],
     i: usize,
     s: &[i32],
-    base: &[u16; 512],
-    places: &[u16; 512],
+    places: &Places,
     a: usize,
     am: u64,
     b: usize,
     bm: u64,
 ) -> bool
-    requires { ⌜ Target (now s) ⌝ ∗ ⌜ Places (now s) (now base) (now places) ⌝ ∗ ⌜ Held (now s) a am ⌝ ∗ ⌜ Held (now s) b bm ⌝ }
+    requires { ⌜ Target (now s) ⌝ ∗ ⌜ Placed (now s) (now places) ⌝ ∗ ⌜ Held (now s) a am ⌝ ∗ ⌜ Held (now s) b bm ⌝ }
     ensures { λ r. ⌜ r ≡ equalAt (now (mt .entry)) i (now (s .entry)) a am b bm ⌝ }
 {
     let l = opened(mt, i, s, a, am, b, bm);
     if l.kind == 4 {
-        return compared(mt, s, base, places, 4, l.at, l.a, l.x, l.b, l.x);
+        return compared(mt, s, places, 4, l.at, l.a, l.x, l.b, l.x);
     }
-    compared(mt, s, base, places, l.kind, l.at, l.a, l.x, l.b, l.y)
+    compared(mt, s, places, l.kind, l.at, l.a, l.x, l.b, l.y)
 }

@@ -12,6 +12,8 @@ use mir.Syntax.{w64}
 use mir.Val.{Fits}
 use Rattle.rules.specs.Forms.{size}
 use Rattle.words.proofs.Signed.{inside}
+use Rattle.tables.specs.Place.{Sections, Whole, putEnd}
+use Rattle.tables.specs.PlaceLaws.{end-whole}
 use Rattle.value_places.specs.Places.{valueAt, countAt, Target, Tag, Standing, hops}
 use Rattle.value_places.specs.Tables.{EndsFrom, Ends}
 use Rattle.value_places.proofs.Forest.{is-here, even-length, hop-none, hop-one, standing-tag, standing-next}
@@ -23,9 +25,6 @@ use Rattle.value_places.proofs.Counting.{tag-half}
 module _ (s : List ℤ) (ends : List ℕ) (from k e : ℕ) (g : Target s) (q : EndsFrom s ends from) (r : Standing s k e) (l : from ≤ e) (h : 0 < k) where
   pub hop-half : e / 2 < 512
   hop-half = tag-half s e g (standing-tag s k e g r h)
-
-  pub hop-mul : Fits w64 (e / 2 * 2)
-  hop-mul = let i = hop-half in record { fits = omega arith }
 
   module _ (x : ℕ) (d : x ≡ getD ends (e / 2) 0) where
     hop-end : x ≡ e + size (valueAt s e)
@@ -43,7 +42,7 @@ module _ (s : List ℤ) (ends : List ℕ) (from k e : ℕ) (g : Target s) (q : E
 pub hop-out : (s : List ℤ) (k e x : ℕ) → x ≡ hops s k e → k ≤ 0 → e ≡ x
 hop-out s k e x i h = hop-none s k e h ∙ sym i
 
-pub ruleset hop-rules = (hop-half, hop-mul, hop-again, hop-standing, hop-from, hop-out, needs)
+pub ruleset hop-rules = (hop-half, hop-again, hop-standing, hop-from, hop-out, needs)
 
 -- ---- The table of ends is filled from the right.
 
@@ -56,18 +55,15 @@ ends-done s ends at q l e = record { are = λ j w. q .are j w (omega arith) }
 pub ends-even : (at : ℕ) → at % 2 ≡ 0 → 1 < at → (at - 2) % 2 ≡ 0
 ends-even at e h = omega arith
 
-module _ (s : List ℤ) (ends : List ℕ) (at : ℕ) (g : Target s) (e : at % 2 ≡ 0) (q : EndsFrom s ends at) (l : at ≤ length s) (h : 1 < at) where
+module _ (s : List ℤ) (t : Sections) (at : ℕ) (g : Target s) (e : at % 2 ≡ 0) (q : EndsFrom s (t .ends) at) (l : at ≤ length s) (h : 1 < at) where
   pub ends-tag : Tag s (at - 2)
   ends-tag = record { even = omega arith; inside = omega arith }
 
-  pub ends-from : EndsFrom s ends (at - 2 + 2)
+  pub ends-from : EndsFrom s (t .ends) (at - 2 + 2)
   ends-from = let z : at - 2 + 2 ≡ at = omega arith in rw z q
 
   pub ends-in : (at - 2) / 2 < 512
   ends-in = tag-half s (at - 2) g ends-tag
-
-  pub ends-mul : Fits w64 ((at - 2) / 2 * 2)
-  ends-mul = let i = ends-in in record { fits = omega arith }
 
   pub ends-standing : (n : ℕ) → n ≡ countAt s (at - 2) → Standing s n (at - 2 + 2)
   ends-standing n d = standing-at s (at - 2) g ends-tag n (omega arith)
@@ -79,14 +75,16 @@ module _ (s : List ℤ) (ends : List ℕ) (at : ℕ) (g : Target s) (e : at % 2 
     pub ends-small : x < 65536
     ends-small = let k = g .short in omega (arith, ends-is, is-here s (at - 2) g ends-tag .fits)
 
-    pub ends-turn : (r : ℕ) → length ends ≡ 512 → r ≡ x → EndsFrom s (set ends ((at - 2) / 2) r) (at - 2)
-    ends-turn r b j = record { are = λ k w f. go k w f (decLe at k) }
+    pub ends-turn : (y : Sections) → y ≡ putEnd ((at - 2) / 2) x t → Whole t → EndsFrom s (y .ends) (at - 2)
+    unfolding putEnd
+    ends-turn y p b = rw p (record { are = λ k w f. go k w f (decLe at k) })
       where
-        go : (k : ℕ) → Tag s k → at - 2 ≤ k → Dec (at ≤ k) → getD (set ends ((at - 2) / 2) r) (k / 2) 0 ≡ k + size (valueAt s k)
-        go k w f (yes y) = rw (getD-set-other ends ((at - 2) / 2) (k / 2) r 0 (λ z. omega arith)) (q .are k w y)
+        go : (k : ℕ) → Tag s k → at - 2 ≤ k → Dec (at ≤ k) → getD (set (t .ends) ((at - 2) / 2) x) (k / 2) 0 ≡ k + size (valueAt s k)
+        go k w f (yes m) = rw (getD-set-other (t .ends) ((at - 2) / 2) (k / 2) x 0 (λ z. omega arith)) (q .are k w m)
         go k w f (no n) =
             let u = w .even in
             let z : k ≡ at - 2 = omega arith in
-            rw (z, getD-set-same ends ((at - 2) / 2) r 0 (omega (arith, ends-in))) (j ∙ ends-is)
+            let l = b .ends in
+            rw (z, getD-set-same (t .ends) ((at - 2) / 2) x 0 (omega (arith, ends-in, l))) ends-is
 
-pub ruleset ends-rules = (even-length, ends-start, ends-done, ends-even, ends-tag, ends-from, ends-in, ends-mul, ends-standing, ends-small, ends-turn, needs)
+pub ruleset ends-rules = (even-length, ends-start, ends-done, ends-even, ends-tag, ends-from, ends-in, ends-standing, ends-small, ends-turn, end-whole, needs)

@@ -1,11 +1,12 @@
--- Tables over a target's words, so that element k of a collection and part k of a tuple are found at once. `ends` and `base` have an entry for each
--- value: where it ends, and where the places of its elements or parts begin in `places`, which has one for each element or part.
+-- What the table of places tells of a target's words, so that element k of a collection and part k of a tuple are found at once: of each value where it
+-- ends, and where the places of its elements or parts begin in `places`, which has one for each element or part.
 use Prim.Native.Nat.{ℕ, _+_, _/_, _<_, _≤_}
 use mathlib.Core.Path.{_≡_}
 use mathlib.Core.List.{List}
 use lib.ListN.{length, getD}
 use lib.IntN.{ℤ}
 use Rattle.rules.specs.Forms.{size}
+use Rattle.tables.specs.Place.{valueCount, Sections, sectionsOf}
 use Rattle.value_places.specs.Places.{valueAt, countAt, elementAt, Tag}
 
 -- The ends of the values whose tags stand from an index on.
@@ -15,17 +16,21 @@ pub record EndsFrom (s : List ℤ) (ends : List ℕ) (from : ℕ) : Type 0 where
 pub record Ends (s : List ℤ) (ends : List ℕ) : Type 0 where
   pub are : (at : ℕ) → Tag s at → getD ends (at / 2) 0 ≡ at + size (valueAt s at)
 
--- n places written from `from` on, those below as they were.
-pub record Filled (s : List ℤ) (at n from : ℕ) (old new : List ℕ) : Type 0 where
-  pub long : length new ≡ length old
-  pub below : (j : ℕ) → j < from → getD new j 0 ≡ getD old j 0
-  pub written : (k : ℕ) → k < n → getD new (from + k) 0 ≡ elementAt s at k
+-- n places written from `from` on, those below and the other sections as they were.
+pub record Filled (s : List ℤ) (at n from : ℕ) (old new : Sections) : Type 0 where
+  pub ends : new .ends ≡ old .ends
+  pub bases : new .bases ≡ old .bases
+  pub long : length (new .places) ≡ length (old .places)
+  pub below : (j : ℕ) → j < from → getD (new .places) j 0 ≡ getD (old .places) j 0
+  pub written : (k : ℕ) → k < n → getD (new .places) (from + k) 0 ≡ elementAt s at k
 
 -- The places of the elements and parts of the values before `to`, all below `used`.
-pub record PlacesTo (s : List ℤ) (base places : List ℕ) (to used : ℕ) : Type 0 where
-  pub low : (at k : ℕ) → Tag s at → at < to → k < countAt s at → getD base (at / 2) 0 + k < used
-  pub are : (at k : ℕ) → Tag s at → at < to → k < countAt s at → getD places (getD base (at / 2) 0 + k) 0 ≡ elementAt s at k
+pub record PlacesTo (s : List ℤ) (x : Sections) (to used : ℕ) : Type 0 where
+  pub low : (at k : ℕ) → Tag s at → at < to → k < countAt s at → getD (x .bases) (at / 2) 0 + k < used
+  pub are : (at k : ℕ) → Tag s at → at < to → k < countAt s at → getD (x .places) (getD (x .bases) (at / 2) 0 + k) 0 ≡ elementAt s at k
 
-pub record Places (s : List ℤ) (base places : List ℕ) : Type 0 where
-  pub low : (at k : ℕ) → Tag s at → k < countAt s at → getD base (at / 2) 0 + k < 512
-  pub are : (at k : ℕ) → Tag s at → k < countAt s at → getD places (getD base (at / 2) 0 + k) 0 ≡ elementAt s at k
+-- The table of all of a target's values.
+pub record Placed (s : List ℤ) (t : List ℕ) : Type 0 where
+  pub ends : Ends s (sectionsOf t .ends)
+  pub low : (at k : ℕ) → Tag s at → k < countAt s at → getD (sectionsOf t .bases) (at / 2) 0 + k < valueCount
+  pub are : (at k : ℕ) → Tag s at → k < countAt s at → getD (sectionsOf t .places) (getD (sectionsOf t .bases) (at / 2) 0 + k) 0 ≡ elementAt s at k

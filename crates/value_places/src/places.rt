@@ -1,26 +1,22 @@
 // Where the values of a target stand, and the tables by which element k of a collection and part k of a tuple are found at once.
+use tables::place::Places;
+use tables::place::base_at;
+use tables::place::end_at;
+use tables::place::place_at;
+use tables::place::put_base;
+use tables::place::put_end;
+use tables::place::put_place;
+use words::casts::index;
 use words::marks::full;
 ghost use mathlib.Core.Path.{_≡_};
 ghost use Prim.Native.Nat.{_+_, _<_, _≤_};
 ghost use lib.ListN.{length, getD};
 ghost use Rattle.rules.specs.Forms.{size};
 ghost use Rattle.words.specs.Words.{tagAt};
+ghost use Rattle.tables.specs.Place.{sectionsOf, Whole};
 ghost use Rattle.value_places.specs.Places.{valueAt, countAt, marksAt, Target, Tag, Standing, hops, elementAt};
-ghost use Rattle.value_places.specs.Tables.{EndsFrom, Ends, Filled, PlacesTo, Places};
+ghost use Rattle.value_places.specs.Tables.{EndsFrom, Ends, Filled, Placed};
 ghost use Rattle.value_places.specs.Held.{wholeAt};
-
-pub fn wide(x: u16) -> usize
-    ensures { λ r. ⌜ r ≡ x ⌝ }
-{
-    x as usize
-}
-
-pub fn narrow(x: usize) -> u16
-    requires { ⌜ x < 65536 ⌝ }
-    ensures { λ r. ⌜ r ≡ x ⌝ }
-{
-    x as u16
-}
 
 // A word that is not negative, as a number.
 pub fn number_at(s: &[i32], at: usize) -> u32
@@ -64,51 +60,44 @@ pub fn whole(s: &[i32], at: usize) -> u64
 }
 
 // Where k values end that stand one after the other from an index on.
-fn hop(s: &[i32], ends: &[u16; 512], from: usize, k: u32) -> usize
-    requires { ⌜ Target (now s) ⌝ ∗ ⌜ EndsFrom (now s) (now ends) from ⌝ ∗ ⌜ Standing (now s) k from ⌝ }
+fn hop(s: &[i32], places: &Places, from: usize, k: u32) -> usize
+    requires { ⌜ Target (now s) ⌝ ∗ ⌜ EndsFrom (now s) (sectionsOf (now places) .ends) from ⌝ ∗ ⌜ Standing (now s) k from ⌝ }
     ensures { λ r. ⌜ r ≡ hops (now (s .entry)) k from ⌝ }
 {
     let mut e = from;
     let mut left = k;
     while 0 < left {
-        e = wide(ends[e / 2]);
+        e = end_at(places, e);
         left -= 1;
     }
     e
 }
 
-// The table of ends, filled from the right.
-pub fn ends_of(s: &[i32], ends: &mut [u16; 512])
-    requires { ⌜ Target (now s) ⌝ ∗ ⌜ length (now ends) ≡ 512 ⌝ }
-    ensures { λ r. ⌜ Ends (now (s .entry)) (now (ends .exit)) ⌝ }
+// Where each value ends, from the right.
+fn put_ends(s: &[i32], places: &mut Places)
+    requires { ⌜ Target (now s) ⌝ ∗ ⌜ Whole (sectionsOf (now places)) ⌝ }
+    ensures { λ r. ⌜ Ends (now (s .entry)) (sectionsOf (now (places .exit)) .ends) ⌝ ∗ ⌜ Whole (sectionsOf (now (places .exit))) ⌝ }
 {
     let mut at = s.len();
     while 1 < at {
         at -= 2;
         let n = count_at(s, at);
-        let e = hop(s, ends, at + 2, n);
-        ends[at / 2] = narrow(e);
+        let e = hop(s, places, at + 2, n);
+        put_end(places, at, e);
     }
 }
 
 // The places of the elements or parts of one value.
-fn fill(
-    s: &[i32],
-    ends: &[u16; 512],
-    at: usize,
-    n: u32,
-    places: &mut [u16; 512],
-    from: usize,
-) -> usize
-    requires { ⌜ Target (now s) ⌝ ∗ ⌜ Ends (now s) (now ends) ⌝ ∗ ⌜ Tag (now s) at ⌝ ∗ ⌜ (n ≡ countAt (now s) at) × (from + n ≤ 512) × (length (now places) ≡ 512) ⌝ }
-    ensures { λ r. ⌜ (r ≡ from + n) × Filled (now (s .entry)) at n from (now (places .entry)) (now (places .exit)) ⌝ }
+fn fill(s: &[i32], places: &mut Places, at: usize, n: u32, from: usize) -> usize
+    requires { ⌜ Target (now s) ⌝ ∗ ⌜ Ends (now s) (sectionsOf (now places) .ends) ⌝ ∗ ⌜ Tag (now s) at ⌝ ∗ ⌜ (n ≡ countAt (now s) at) × (from + n ≤ 512) × Whole (sectionsOf (now places)) ⌝ }
+    ensures { λ r. ⌜ (r ≡ from + n) × Filled (now (s .entry)) at n from (sectionsOf (now (places .entry))) (sectionsOf (now (places .exit))) ⌝ }
 {
     let mut e = at + 2;
     let mut o = from;
     let mut left = n;
     while 0 < left {
-        places[o] = narrow(e);
-        e = wide(ends[e / 2]);
+        put_place(places, o, e);
+        e = end_at(places, e);
         o += 1;
         left -= 1;
     }
@@ -116,26 +105,34 @@ fn fill(
 }
 
 // The places of the elements and parts of all values.
-pub fn places_of(s: &[i32], ends: &[u16; 512], base: &mut [u16; 512], places: &mut [u16; 512])
-    requires { ⌜ Target (now s) ⌝ ∗ ⌜ Ends (now s) (now ends) ⌝ ∗ ⌜ (length (now base) ≡ 512) × (length (now places) ≡ 512) ⌝ }
-    ensures { λ r. ⌜ Places (now (s .entry)) (now (base .exit)) (now (places .exit)) ⌝ }
+fn fill_all(s: &[i32], places: &mut Places)
+    requires { ⌜ Target (now s) ⌝ ∗ ⌜ Ends (now s) (sectionsOf (now places) .ends) ⌝ ∗ ⌜ Whole (sectionsOf (now places)) ⌝ }
+    ensures { λ r. ⌜ Placed (now (s .entry)) (now (places .exit)) ⌝ }
 {
     let mut at: usize = 0;
     let mut used: usize = 0;
     while at < s.len() {
         let n = count_at(s, at);
-        base[at / 2] = narrow(used);
-        used = fill(s, ends, at, n, places, used);
+        put_base(places, at, used);
+        used = fill(s, places, at, n, used);
         at += 2;
     }
 }
 
+// The table of a target's values.
+pub fn places_of(s: &[i32], places: &mut Places)
+    requires { ⌜ Target (now s) ⌝ ∗ ⌜ Whole (sectionsOf (now places)) ⌝ }
+    ensures { λ r. ⌜ Placed (now (s .entry)) (now (places .exit)) ⌝ }
+{
+    put_ends(s, places);
+    fill_all(s, places);
+}
+
 // Where element k of the collection, or part k of the tuple, at an index stands.
-pub fn element(s: &[i32], base: &[u16; 512], places: &[u16; 512], at: usize, k: u32) -> usize
-    requires { ⌜ Places (now s) (now base) (now places) ⌝ ∗ ⌜ Target (now s) ⌝ ∗ ⌜ Tag (now s) at ⌝ ∗ ⌜ k < countAt (now s) at ⌝ }
+pub fn element(s: &[i32], places: &Places, at: usize, k: u32) -> usize
+    requires { ⌜ Placed (now s) (now places) ⌝ ∗ ⌜ Target (now s) ⌝ ∗ ⌜ Tag (now s) at ⌝ ∗ ⌜ k < countAt (now s) at ⌝ }
     ensures { λ r. ⌜ r ≡ elementAt (now (s .entry)) at k ⌝ }
 {
-    let b = wide(base[at / 2]);
-    let j = b + (k as usize);
-    wide(places[j])
+    let b = base_at(places, at);
+    place_at(places, b + index(k))
 }

@@ -22,7 +22,8 @@ use Rattle.words.specs.Marked.{marked}
 use Rattle.words.proofs.marks.Places.{by-digit}
 use Rattle.words.proofs.marks.Marked.{count-marked}
 use Rattle.value_places.specs.Places.{valueAt, elements, countAt, Target, Tag, elementAt}
-use Rattle.value_places.specs.Tables.{Ends, Places}
+use Rattle.tables.specs.Place.{sectionsOf}
+use Rattle.value_places.specs.Tables.{Placed}
 use Rattle.value_places.specs.Held.{Held, heldAt, left, sizeLeft, wordsLeft, put, part}
 use Rattle.value_rows.specs.Row.{originOf, formBy, toldAt, bound, boundFrom, nothing, Bound}
 use Rattle.value_rows.specs.declared.Binding.{Binding}
@@ -31,7 +32,7 @@ use Rattle.value_places.proofs.Forest.{is-here, two-words}
 use Rattle.value_places.proofs.Elements.{second, by-tag, int-at, collection-at, tag-small, slice-words}
 use Rattle.value_places.proofs.Held.{held-int, held-collection, held-tuple, held-tag, held-clear, held-some, left-none, next-in, next-less, next-tag, next-left}
 use Rattle.value_places.proofs.Origins.{plain-origin, origin-index, origin-marks}
-use Rattle.value_places.proofs.Filling.{find-half, find-half-mul}
+use Rattle.value_places.proofs.Filling.{find-half}
 use Rattle.value_rows.proofs.Room.{length-put, put-append, put-none}
 
 -- ---- The size.
@@ -68,9 +69,9 @@ module _ (s : List ℤ) (at m tag : ℕ) (g : Target s) (w : Held s at m) (d : t
     size-held = omega (arith, size-within, g .short)
 
 -- The words of a whole value, up to its end.
-module _ (s : List ℤ) (ends : List ℕ) (at z : ℕ) (g : Target s) (q : Ends s ends) (w : Tag s at) (u : z ≡ getD ends (at / 2) 0) where
+module _ (s : List ℤ) (t : List ℕ) (at z : ℕ) (g : Target s) (q : Placed s t) (w : Tag s at) (u : z ≡ getD (sectionsOf t .ends) (at / 2) 0) where
   whole-end : z ≡ at + size (valueAt s at)
-  whole-end = u ∙ q .are at w
+  whole-end = u ∙ q .ends .are at w
 
   pub whole-le : at ≤ z
   whole-le = omega (arith, whole-end)
@@ -92,7 +93,7 @@ module _ (s : List ℤ) (ends : List ℕ) (at z : ℕ) (g : Target s) (q : Ends 
     unfolding part
     copied room room′ e = e ∙ ap (put room from) (rw whole-end (slice-words s at g w))
 
-pub ruleset whole-rules = (find-half, find-half-mul, whole-le, whole-size, needs)
+pub ruleset whole-rules = (find-half, whole-le, whole-size, needs)
 
 -- An integer: two words.
 module _ (s : List ℤ) (at from tag : ℕ) (g : Target s) (w : Tag s at) (d : tag ≡ tagAt s at) (z : tag ≡ 0) where
@@ -107,7 +108,7 @@ module _ (s : List ℤ) (at from tag : ℕ) (g : Target s) (w : Tag s at) (d : t
 pub two-room : (s : List ℤ) (at from l : ℕ) → from + size (valueAt s at) ≤ l → from + 2 ≤ l
 two-room s at from l b = omega (arith, two-words (valueAt s at))
 
-pub ruleset put-whole-rules = (tag-small, second, integer-end, integer-words, two-room, find-half, find-half-mul, whole-le, whole-fits, copied-room, copied-end, copied, length-put, needs)
+pub ruleset put-whole-rules = (tag-small, second, integer-end, integer-words, two-room, find-half, whole-le, whole-fits, copied-room, copied-end, copied, length-put, needs)
 
 pub size-done : (s : List ℤ) (at m n x : ℕ) → x ≡ n + sizeLeft s at m → m ≤ 0 → n ≡ x
 unfolding sizeLeft sizeAll
@@ -133,7 +134,7 @@ module _ (s : List ℤ) (at m k e : ℕ) (g : Target s) (w : Held s at m) (d : k
   pub put-room : (o x l : ℕ) → x ≡ o + sizeLeft s at m → x ≤ l → o + size (valueAt s e) ≤ l
   put-room o x l a b = let c = next-size _ refl in omega arith
 
-module _ (s : List ℤ) (ends : List ℕ) (at m k e : ℕ) (g : Target s) (q : Ends s ends) (w : Held s at m) (d : k ≡ trailingZeros 64 m) (h : 0 < m)
+module _ (s : List ℤ) (t : List ℕ) (at m k e : ℕ) (g : Target s) (q : Placed s t) (w : Held s at m) (d : k ≡ trailingZeros 64 m) (h : 0 < m)
     (i : e ≡ elementAt s at k) where
   next-is : (x : ℕ) → x ≡ clear (trailingZeros 64 m) m → sizeLeft s at m ≡ size (valueAt s e) + sizeLeft s at x
   next-is = next-size s at m k e g w d h i
@@ -141,12 +142,9 @@ module _ (s : List ℤ) (ends : List ℕ) (at m k e : ℕ) (g : Target s) (q : E
   pub end-half : e / 2 < 512
   end-half = let t = next-tag s at m k g w d h e i in let l = g .short in omega (arith, t .inside)
 
-  pub end-mul : Fits w64 (e / 2 * 2)
-  end-mul = let b = end-half in record { fits = omega arith }
-
-  module _ (z : ℕ) (u : z ≡ getD ends (e / 2) 0) where
+  module _ (z : ℕ) (u : z ≡ getD (sectionsOf t .ends) (e / 2) 0) where
     end-is : z ≡ e + size (valueAt s e)
-    end-is = u ∙ q .are e (next-tag s at m k g w d h e i)
+    end-is = u ∙ q .ends .are e (next-tag s at m k g w d h e i)
 
     pub end-le : e ≤ z
     end-le = omega (arith, end-is)
@@ -157,7 +155,7 @@ module _ (s : List ℤ) (ends : List ℕ) (at m k e : ℕ) (g : Target s) (q : E
     pub size-fits : (n y : ℕ) → y ≡ n + sizeLeft s at m → y ≤ 1024 → Fits w64 (n + (z - e))
     size-fits n y a l = let b = next-is _ refl in record { fits = omega (arith, end-is) }
 
-pub ruleset next-rules = (tag-small, end-half, end-mul, end-le, held-clear, next-in, next-less, needs)
+pub ruleset next-rules = (tag-small, end-half, end-le, held-clear, next-in, next-less, needs)
 
 pub ruleset size-rules = (size-int, size-tuple, size-collection, size-held, size-done, size-turn, size-fits, held-tag, next-rules)
 

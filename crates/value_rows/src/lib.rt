@@ -3,9 +3,10 @@
 pub mod origins;
 
 use origins::put_origin;
+use tables::place::Places;
+use tables::place::end_at;
 use value_places::places::element;
 use value_places::places::number_at;
-use value_places::places::wide;
 use words::marks::count;
 use words::marks::lowest;
 use words::marks::rest;
@@ -18,7 +19,7 @@ ghost use lib.Count.{ones};
 ghost use Rattle.rules.specs.Forms.{size, words};
 ghost use Rattle.rules.specs.Rows.{asWords, row};
 ghost use Rattle.value_places.specs.Places.{valueAt, Target, Tag};
-ghost use Rattle.value_places.specs.Tables.{Ends, Places};
+ghost use Rattle.value_places.specs.Tables.{Placed};
 ghost use Rattle.value_places.specs.Held.{Held, heldAt, sizeLeft, wordsLeft, put, part};
 ghost use Rattle.value_rows.specs.Row.{formBy, toldAt, bound, Bound};
 
@@ -29,24 +30,17 @@ pub struct Binding {
 }
 
 // How many words the value at an index has.
-fn size_at(s: &[i32], ends: &[u16; 512], at: usize) -> usize
-    requires { ⌜ Target (now s) ⌝ ∗ ⌜ Ends (now s) (now ends) ⌝ ∗ ⌜ Tag (now s) at ⌝ }
+fn size_at(s: &[i32], places: &Places, at: usize) -> usize
+    requires { ⌜ Target (now s) ⌝ ∗ ⌜ Placed (now s) (now places) ⌝ ∗ ⌜ Tag (now s) at ⌝ }
     ensures { λ r. ⌜ r ≡ size (valueAt (now (s .entry)) at) ⌝ }
 {
-    let end = wide(ends[at / 2]);
+    let end = end_at(places, at);
     end - at
 }
 
 // How many words a held value has. A tuple is held whole.
-fn size_of(
-    s: &[i32],
-    ends: &[u16; 512],
-    base: &[u16; 512],
-    places: &[u16; 512],
-    at: usize,
-    m: u64,
-) -> usize
-    requires { ⌜ Target (now s) ⌝ ∗ ⌜ Ends (now s) (now ends) ⌝ ∗ ⌜ Places (now s) (now base) (now places) ⌝ ∗ ⌜ Held (now s) at m ⌝ }
+fn size_of(s: &[i32], places: &Places, at: usize, m: u64) -> usize
+    requires { ⌜ Target (now s) ⌝ ∗ ⌜ Placed (now s) (now places) ⌝ ∗ ⌜ Held (now s) at m ⌝ }
     ensures { λ r. ⌜ r ≡ size (heldAt (now (s .entry)) at m) ⌝ }
 {
     let tag = number_at(s, at);
@@ -54,14 +48,14 @@ fn size_of(
         return 2;
     }
     if tag == 2 {
-        return size_at(s, ends, at);
+        return size_at(s, places, at);
     }
     let mut n: usize = 2;
     let mut left = m;
     while 0 < left {
         let k = lowest(left);
-        let e = element(s, base, places, at, k);
-        let end = wide(ends[e / 2]);
+        let e = element(s, places, at, k);
+        let end = end_at(places, e);
         n += end - e;
         left = rest(left);
     }
@@ -93,8 +87,8 @@ fn put_two(room: &mut [i32], from: usize, a: i32, b: i32)
 }
 
 // The words of a whole value, an integer's at once.
-fn put_whole(s: &[i32], ends: &[u16; 512], at: usize, room: &mut [i32], from: usize) -> usize
-    requires { ⌜ Target (now s) ⌝ ∗ ⌜ Ends (now s) (now ends) ⌝ ∗ ⌜ Tag (now s) at ⌝ ∗ ⌜ from + size (valueAt (now s) at) ≤ length (now room) ⌝ }
+fn put_whole(s: &[i32], places: &Places, at: usize, room: &mut [i32], from: usize) -> usize
+    requires { ⌜ Target (now s) ⌝ ∗ ⌜ Placed (now s) (now places) ⌝ ∗ ⌜ Tag (now s) at ⌝ ∗ ⌜ from + size (valueAt (now s) at) ≤ length (now room) ⌝ }
     ensures { λ r. ⌜ (r ≡ from + size (valueAt (now (s .entry)) at)) × (now (room .exit) ≡ put (now (room .entry)) from (words (valueAt (now (s .entry)) at))) ⌝ }
 {
     let tag = number_at(s, at);
@@ -103,7 +97,7 @@ fn put_whole(s: &[i32], ends: &[u16; 512], at: usize, room: &mut [i32], from: us
         put_two(room, from, 0, x);
         return from + 2;
     }
-    let end = wide(ends[at / 2]);
+    let end = end_at(places, at);
     copy(s, at, end, room, from)
 }
 
@@ -115,25 +109,16 @@ fn count_word(m: u64) -> i32
 }
 
 // The words of the elements marked.
-fn put_left(
-    s: &[i32],
-    ends: &[u16; 512],
-    base: &[u16; 512],
-    places: &[u16; 512],
-    at: usize,
-    m: u64,
-    room: &mut [i32],
-    from: usize,
-) -> usize
-    requires { ⌜ Target (now s) ⌝ ∗ ⌜ Ends (now s) (now ends) ⌝ ∗ ⌜ Places (now s) (now base) (now places) ⌝ ∗ ⌜ Held (now s) at m ⌝ ∗ ⌜ from + sizeLeft (now s) at m ≤ length (now room) ⌝ }
+fn put_left(s: &[i32], places: &Places, at: usize, m: u64, room: &mut [i32], from: usize) -> usize
+    requires { ⌜ Target (now s) ⌝ ∗ ⌜ Placed (now s) (now places) ⌝ ∗ ⌜ Held (now s) at m ⌝ ∗ ⌜ from + sizeLeft (now s) at m ≤ length (now room) ⌝ }
     ensures { λ r. ⌜ (r ≡ from + sizeLeft (now (s .entry)) at m) × (now (room .exit) ≡ put (now (room .entry)) from (wordsLeft (now (s .entry)) at m)) ⌝ }
 {
     let mut o = from;
     let mut left = m;
     while 0 < left {
         let k = lowest(left);
-        let e = element(s, base, places, at, k);
-        o = put_whole(s, ends, e, room, o);
+        let e = element(s, places, at, k);
+        o = put_whole(s, places, e, room, o);
         left = rest(left);
     }
     o
@@ -142,57 +127,46 @@ fn put_left(
 // A held value's words, written into the room from an index on.
 pub fn put_value(
     s: &[i32],
-    ends: &[u16; 512],
-    base: &[u16; 512],
-    places: &[u16; 512],
+    places: &Places,
     at: usize,
     m: u64,
     room: &mut [i32],
     from: usize,
 ) -> usize
-    requires { ⌜ Target (now s) ⌝ ∗ ⌜ Ends (now s) (now ends) ⌝ ∗ ⌜ Places (now s) (now base) (now places) ⌝ ∗ ⌜ Held (now s) at m ⌝ ∗ ⌜ from + size (heldAt (now s) at m) ≤ length (now room) ⌝ }
+    requires { ⌜ Target (now s) ⌝ ∗ ⌜ Placed (now s) (now places) ⌝ ∗ ⌜ Held (now s) at m ⌝ ∗ ⌜ from + size (heldAt (now s) at m) ≤ length (now room) ⌝ }
     ensures { λ r. ⌜ (r ≡ from + size (heldAt (now (s .entry)) at m)) × (now (room .exit) ≡ put (now (room .entry)) from (words (heldAt (now (s .entry)) at m))) ⌝ }
 {
     let tag = number_at(s, at);
     if tag != 1 {
-        return put_whole(s, ends, at, room, from);
+        return put_whole(s, places, at, room, from);
     }
     let n = count_word(m);
     put_two(room, from, 1, n);
-    put_left(s, ends, base, places, at, m, room, from + 2)
+    put_left(s, places, at, m, room, from + 2)
 }
 
 // What a row tells of a held value, written into the room from an index on: its words, or its origin.
 pub fn put_entry(
     origins: bool,
     s: &[i32],
-    ends: &[u16; 512],
-    base: &[u16; 512],
-    places: &[u16; 512],
+    places: &Places,
     at: usize,
     m: u64,
     room: &mut [i32],
     from: usize,
 ) -> usize
-    requires { ⌜ Target (now s) ⌝ ∗ ⌜ Ends (now s) (now ends) ⌝ ∗ ⌜ Places (now s) (now base) (now places) ⌝ ∗ ⌜ Held (now s) at m ⌝ ∗ ⌜ from + length (toldAt (formBy origins) (now s) at m) ≤ length (now room) ⌝ }
+    requires { ⌜ Target (now s) ⌝ ∗ ⌜ Placed (now s) (now places) ⌝ ∗ ⌜ Held (now s) at m ⌝ ∗ ⌜ from + length (toldAt (formBy origins) (now s) at m) ≤ length (now room) ⌝ }
     ensures { λ r. ⌜ (r ≡ from + length (toldAt (formBy origins) (now (s .entry)) at m)) × (now (room .exit) ≡ put (now (room .entry)) from (toldAt (formBy origins) (now (s .entry)) at m)) ⌝ }
 {
     if origins {
         return put_origin(at, m, room, from);
     }
-    put_value(s, ends, base, places, at, m, room, from)
+    put_value(s, places, at, m, room, from)
 }
 
 // How many words the row has in form 1, of which n variables are bound.
-fn words_size(
-    s: &[i32],
-    ends: &[u16; 512],
-    base: &[u16; 512],
-    places: &[u16; 512],
-    b: [Binding; 16],
-    n: usize,
-) -> usize
-    requires { ⌜ Target (now s) ⌝ ∗ ⌜ Ends (now s) (now ends) ⌝ ∗ ⌜ Places (now s) (now base) (now places) ⌝ ∗ ⌜ Bound (now s) b n ⌝ }
+fn words_size(s: &[i32], places: &Places, b: [Binding; 16], n: usize) -> usize
+    requires { ⌜ Target (now s) ⌝ ∗ ⌜ Placed (now s) (now places) ⌝ ∗ ⌜ Bound (now s) b n ⌝ }
     ensures { λ r. ⌜ r ≡ length (row asWords (bound (now (s .entry)) b n)) ⌝ }
 {
     let mut size: usize = 0;
@@ -201,27 +175,19 @@ fn words_size(
         let x = b[v];
         let at = x.at;
         let m = x.marks;
-        size += size_of(s, ends, base, places, at, m);
+        size += size_of(s, places, at, m);
         v += 1;
     }
     size
 }
 
 // How many words the row has of which n variables are bound; in form 2 three for each.
-pub fn row_size(
-    origins: bool,
-    s: &[i32],
-    ends: &[u16; 512],
-    base: &[u16; 512],
-    places: &[u16; 512],
-    b: [Binding; 16],
-    n: usize,
-) -> usize
-    requires { ⌜ Target (now s) ⌝ ∗ ⌜ Ends (now s) (now ends) ⌝ ∗ ⌜ Places (now s) (now base) (now places) ⌝ ∗ ⌜ Bound (now s) b n ⌝ }
+pub fn row_size(origins: bool, s: &[i32], places: &Places, b: [Binding; 16], n: usize) -> usize
+    requires { ⌜ Target (now s) ⌝ ∗ ⌜ Placed (now s) (now places) ⌝ ∗ ⌜ Bound (now s) b n ⌝ }
     ensures { λ r. ⌜ r ≡ length (row (formBy origins) (bound (now (s .entry)) b n)) ⌝ }
 {
     if origins {
         return 3 * n;
     }
-    words_size(s, ends, base, places, b, n)
+    words_size(s, places, b, n)
 }

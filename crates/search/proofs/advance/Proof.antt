@@ -31,20 +31,20 @@ use Rattle.search_step.proofs.State.step.Reads as step-reads
 use Rattle.search_choice.proofs.settle.Reads as settle-reads
 
 abbrev Inv-loop2 : tie.InvT-loop2
-Inv-loop2 budget n origins mt s ends base places lines slots room₀ x b steps pc at m o q e₀ free size v₀ room e v =
+Inv-loop2 budget n origins mt s places lines slots room₀ x b steps pc at m o q e₀ free size v₀ room e v =
     (v ≤ n) × (length room ≡ length room₀) × (e₀ + length (row (formBy origins) (bound s b n)) ≤ length room) × (e₀ + length (row (formBy origins) (bound s b n)) ≡ e + length (row (formBy origins) (boundFrom s b v n)))
     × (put room₀ e₀ (row (formBy origins) (bound s b n)) ≡ put room e (row (formBy origins) (boundFrom s b v n)))
 
 abbrev μ-loop2 : tie.MeasureT-loop2
-μ-loop2 budget n origins mt s ends base places lines slots room₀ x b steps pc at m o q e₀ free size v₀ room e v = n - v
+μ-loop2 budget n origins mt s places lines slots room₀ x b steps pc at m o q e₀ free size v₀ room e v = n - v
 
 abbrev Inv-loop : tie.InvT-loop
-Inv-loop budget n origins mt s ends base places lines slots₀ room₀ x₀ b₀ slots room x b =
+Inv-loop budget n origins mt s places lines slots₀ room₀ x₀ b₀ slots room x b =
     Here (envOf (columnsOf lines) mt s n (formBy origins)) (runOf (envOf (columnsOf lines) mt s n (formBy origins)) (budget - x₀ .steps) (run x₀ (viewOf (columnsOf lines .arg) slots₀) b₀ room₀)) budget room₀
     (run x (viewOf (columnsOf lines .arg) slots) b room)
 
 abbrev μ-loop : tie.MeasureT-loop
-μ-loop budget n origins mt s ends base places lines slots₀ room₀ x₀ b₀ slots room x b = budget - x .steps
+μ-loop budget n origins mt s places lines slots₀ room₀ x₀ b₀ slots room x b = budget - x .steps
 
 -- The program and the run at the loop's head.
 abbrev program : tie.At-loop Inv-loop2 μ-loop2 Inv-loop μ-loop → Env
@@ -167,7 +167,7 @@ mul-if9 : tie.Need-mul-if9 Inv-loop2 μ-loop2 Inv-loop μ-loop
 mul-if9 c = let h = stands (c .before .before .before) in targets-fit _ _ (h .target) (h .fine .few)
 
 row-size-requires : tie.Need-row-size-requires Inv-loop2 μ-loop2 Inv-loop μ-loop
-row-size-requires c κs = let g = c .before .before .before .before .before .before .before .before .pre .0 in (g .target, (g .ended, (g .placed, rows (c .before) .bound)))
+row-size-requires c κs = let g = c .before .before .before .before .before .before .before .before .pre .0 in (g .target, (g .placed, rows (c .before) .bound))
 
 filled-requires : tie.Need-filled-requires Inv-loop2 μ-loop2 Inv-loop μ-loop
 filled-requires c κs = rows (c .before .before) .steps
@@ -191,7 +191,7 @@ put-entry-requires c κs =
     let k = rows (c .before .before .before .before .before .before) .bound in
     let i = c .before .before .before .loop2 .inv in
     let h = c .before .before .loop2-test .taken in
-    (g .target, (g .ended, (g .placed, (row-held _ _ _ _ k h, row-room _ _ _ _ k h _ _ _ _ (i .3) (i .2)))))
+    (g .target, (g .placed, (row-held _ _ _ _ k h, row-room _ _ _ _ k h _ _ _ _ (i .3) (i .2))))
 
 add-v : tie.Need-add-v Inv-loop2 μ-loop2 Inv-loop μ-loop
 add-v c = let l = row-16 _ _ _ _ (rows (c .before .before .before .before .before .before .before .before) .bound) (c .before .before .before .before .loop2-test .taken) in record { fits = omega arith }

@@ -1,28 +1,28 @@
 -- `search::search` meets its contract. Assumes nothing.
 use borrow.Author.Needs.{needs}
+use Rattle.tables.specs.PlaceLaws.{no-places}
 use Rattle.search.specs.Run.{run}
 use Rattle.search.proofs.Begun.{first-valid, first-searched}
 use Rattle.search.proofs.search.Statement.{statement}
 use Rattle.search.proofs.search.Tie as tie
 
 advance-requires : tie.Need-advance-requires
-advance-requires c κs = (
-  record { target = c .before .before .before .before .before .before .before .before .before .before .before .before .before .pre .0; ended = c .before .before .before .before .before .before .before .before .before .before .before .ends-of .ensures; placed = c .before .before .before .before .before .before .before .places-of .ensures },
-  (c .before .before .before .before .before .before .before .before .before .before .before .before .before .pre .1 .1, first-valid _ (c .before .before .before .before .before .before .before .before .before .before .before .before .before .pre .1 .0) _ (c .before .before .before .before .before .whole .ensures) _ (c .before .before .before .before .before .before .no-slots .ensures) _),
-)
+advance-requires c κs =
+    let p = c .before .before .before .before .before .before .before .before .pre in
+    (record { target = p .0; placed = c .before .before .before .before .before .places-of .ensures }, (p .1 .1, first-valid _ (p .1 .0) _ (c .before .before .before .whole .ensures) _ (c .before .before .before .before .no-slots .ensures) _))
 
 returns : tie.Need-returns
 returns c =
-    let p = c .before .before .before .before .before .before .before .before .before .before .before .before .before .before .before .before .before .pre in
-    first-searched _ (p .1 .0) _ (c .before .before .before .before .before .before .before .before .before .whole .ensures) _ (c .before .before .before .before .before .before .before .before .before .before .no-slots .ensures) _ (p .0) (p .1 .1) _ _
+    let p = c .before .before .before .before .before .before .before .before .before .before .before .before .pre in
+    first-searched _ (p .1 .0) _ (c .before .before .before .before .before .before .before .whole .ensures) _ (c .before .before .before .before .before .before .before .before .no-slots .ensures) _ (p .0) (p .1 .1) _ _
     (run (c .before .before .before .advance .result .state) _ (c .before .before .before .advance .result .binds) _) (c .before .before .before .advance .ensures) (c .answer-of .ensures)
 
 pub search-spec : {M : Type 1} → statement M
 search-spec =
     tie.close
     (tie.spec
-    (λ c κs. search needs)  -- ends-of-requires
-    (λ c κs. search needs)  -- places-of-requires
+    (λ c κs. search needs)  -- no-places-requires
+    (λ c κs. (c .before .before .pre .0, no-places _ (c .before .no-places .ensures)))  -- places-of-requires
     (λ c κs. search needs)  -- no-slots-requires
     (λ c κs. search needs)  -- whole-requires
     advance-requires

@@ -12,10 +12,10 @@ use Rattle.value_equality.proofs.outcome.Reads as outcome-reads
 use Rattle.value_equality.proofs.taken.Reads as taken-reads
 
 abbrev Inv-loop : tie.InvT-loop
-Inv-loop mt s base places kind at a x b y of l₀ levels₀ depth₀ l levels depth = Going mt s (comesTo mt s (levelOf kind at a x b y)) levels depth l
+Inv-loop mt s places kind at a x b y of l₀ levels₀ depth₀ l levels depth = Going mt s (comesTo mt s (levelOf kind at a x b y)) levels depth l
 
 abbrev μ-loop : tie.MeasureT-loop
-μ-loop mt s base places kind at a x b y of l₀ levels₀ depth₀ l levels depth = toGo s levels depth l
+μ-loop mt s places kind at a x b y of l₀ levels₀ depth₀ l levels depth = toGo s levels depth l
 
 pub compared-spec : {M : Type 1} → statement M
 compared-spec =

@@ -7,10 +7,10 @@ use Rattle.value_equality.proofs.first_integer.Statement.{statement}
 use Rattle.value_equality.proofs.first_integer.Tie as tie
 
 abbrev Inv-loop : tie.InvT-loop
-Inv-loop s base places e b y z₀ z = (firstInteger s e b y ≡ firstInteger s e b z) × Marks s b z
+Inv-loop s places e b y z₀ z = (firstInteger s e b y ≡ firstInteger s e b z) × Marks s b z
 
 abbrev μ-loop : tie.MeasureT-loop
-μ-loop s base places e b y z₀ z = z
+μ-loop s places e b y z₀ z = z
 
 pub first-integer-spec : {M : Type 1} → statement M
 first-integer-spec = tie.close (tie.spec

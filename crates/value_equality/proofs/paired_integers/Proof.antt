@@ -7,10 +7,10 @@ use Rattle.value_equality.proofs.paired_integers.Statement.{statement}
 use Rattle.value_equality.proofs.paired_integers.Tie as tie
 
 abbrev Inv-loop : tie.InvT-loop
-Inv-loop s base places a am b bm x₀ y₀ x y = (integersPaired s a am b bm ≡ integersPaired s a x b y) × Both s a x b y
+Inv-loop s places a am b bm x₀ y₀ x y = (integersPaired s a am b bm ≡ integersPaired s a x b y) × Both s a x b y
 
 abbrev μ-loop : tie.MeasureT-loop
-μ-loop s base places a am b bm x₀ y₀ x y = x
+μ-loop s places a am b bm x₀ y₀ x y = x
 
 pub paired-integers-spec : {M : Type 1} → statement M
 paired-integers-spec = tie.close (tie.spec

@@ -8,6 +8,6 @@ put-entry-spec = tie.close (tie.spec
     (λ c κs. (search entry-rules, search entry-rules))
     (λ c. search entry-rules)
     (λ c. (search entry-rules, search entry-rules))
-    (λ c κs. (search entry-rules, (search entry-rules, (search entry-rules, (search entry-rules, search entry-rules)))))
+    (λ c κs. (search entry-rules, (search entry-rules, (search entry-rules, search entry-rules))))
     (λ c. search entry-rules)
     (λ c. (search entry-rules, search entry-rules)))

@@ -8,10 +8,10 @@ use Rattle.value_rows.proofs.put_left.Statement.{statement}
 use Rattle.value_rows.proofs.put_left.Tie as tie
 
 abbrev Inv-loop : tie.InvT-loop
-Inv-loop s ends base places at m room₀ from o₀ left₀ room o left = (from + sizeLeft s at m ≡ o + sizeLeft s at left) × Held s at left × (length room ≡ length room₀) × (from + sizeLeft s at m ≤ length room) × (put room₀ from (wordsLeft s at m) ≡ put room o (wordsLeft s at left))
+Inv-loop s places at m room₀ from o₀ left₀ room o left = (from + sizeLeft s at m ≡ o + sizeLeft s at left) × Held s at left × (length room ≡ length room₀) × (from + sizeLeft s at m ≤ length room) × (put room₀ from (wordsLeft s at m) ≡ put room o (wordsLeft s at left))
 
 abbrev μ-loop : tie.MeasureT-loop
-μ-loop s ends base places at m room₀ from o₀ left₀ room o left = left
+μ-loop s places at m room₀ from o₀ left₀ room o left = left
 
 pub put-left-spec : {M : Type 1} → statement M
 put-left-spec =

@@ -12,6 +12,6 @@ put-value-spec = tie.close (tie.spec
     (λ c κs. search put-rules)  -- count-word-requires
     (λ c κs. search put-rules)  -- put-two-requires
     (λ c. search put-rules)  -- add-put-left
-    (λ c κs. (search put-rules, (search put-rules, (search put-rules, (search put-rules, search put-rules)))))  -- put-left-requires
+    (λ c κs. (search put-rules, (search put-rules, (search put-rules, search put-rules))))  -- put-left-requires
     (λ c. search put-rules)  -- same-length-2
     (λ c. search put-rules))  -- returns-2

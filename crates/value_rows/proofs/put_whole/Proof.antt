@@ -4,7 +4,9 @@ use Rattle.value_rows.proofs.put_whole.Statement.{statement}
 use Rattle.value_rows.proofs.put_whole.Tie as tie
 
 pub put-whole-spec : {M : Type 1} → statement M
-put-whole-spec = tie.close (tie.spec
+put-whole-spec =
+    tie.close
+    (tie.spec
     (λ c κs. search put-whole-rules)  -- number-at-requires
     (λ c. search put-whole-rules)  -- add-x
     (λ c. search put-whole-rules)  -- mul-x
@@ -13,9 +15,7 @@ put-whole-spec = tie.close (tie.spec
     (λ c. search put-whole-rules)  -- add-result
     (λ c. search put-whole-rules)  -- same-length
     (λ c. search put-whole-rules)  -- returns
-    (λ c. search put-whole-rules)  -- mul-wide
-    (λ c. search put-whole-rules)  -- element-copy-out-wide
-    (λ c κs. search put-whole-rules)  -- wide-requires
+    (λ c κs. search put-whole-rules)  -- end-at-requires
     (λ c κs. search put-whole-rules)  -- copy-requires
     (λ c. search put-whole-rules)  -- same-length-2
     (λ c. search put-whole-rules))  -- returns-2

@@ -2,14 +2,11 @@
 use Rattle.value_rows.proofs.Row.{whole-rules}
 use Rattle.value_rows.proofs.size_at.Statement.{statement}
 use Rattle.value_rows.proofs.size_at.Tie as tie
-use Rattle.value_places.proofs.places.wide.Reads as wide-reads
 
 pub size-at-spec : {M : Type 1} → statement M
 size-at-spec =
     tie.close
     (tie.spec
-    (λ c. search whole-rules)
-    (λ c. search whole-rules)
-    (λ c κs. search whole-rules)
-    (λ c. search whole-rules)
-    (λ c. search whole-rules))
+    (λ c κs. search whole-rules)  -- end-at-requires
+    (λ c. search whole-rules)  -- sub-result
+    (λ c. search whole-rules))  -- returns

@@ -10,10 +10,10 @@ use Rattle.value_rows.proofs.words_size.Tie as tie
 use Rattle.value_rows.proofs.size_of.Reads as size-of-reads
 
 abbrev Inv-loop : tie.InvT-loop
-Inv-loop s ends base places n b size₀ v₀ size v = (v ≤ n) × Bound s b n × (length (row asWords (bound s b n)) ≡ size + length (row asWords (boundFrom s b v n))) × (size ≤ v * 1024)
+Inv-loop s places n b size₀ v₀ size v = (v ≤ n) × Bound s b n × (length (row asWords (bound s b n)) ≡ size + length (row asWords (boundFrom s b v n))) × (size ≤ v * 1024)
 
 abbrev μ-loop : tie.MeasureT-loop
-μ-loop s ends base places n b size₀ v₀ size v = n - v
+μ-loop s places n b size₀ v₀ size v = n - v
 
 pub words-size-spec : {M : Type 1} → statement M
 words-size-spec =

@@ -5,13 +5,12 @@ use Rattle.value_places.specs.Places.{hops, Standing}
 use Rattle.value_places.proofs.Ends.{hop-rules}
 use Rattle.value_places.proofs.places.hop.Statement.{statement}
 use Rattle.value_places.proofs.places.hop.Tie as tie
-use Rattle.value_places.proofs.places.wide.Reads as wide-reads
 
 abbrev Inv-loop : tie.InvT-loop
-Inv-loop s ends from k e₀ left₀ e left = (hops s k from ≡ hops s left e) × Standing s left e × (from ≤ e)
+Inv-loop s places from k e₀ left₀ e left = (hops s k from ≡ hops s left e) × Standing s left e × (from ≤ e)
 
 abbrev μ-loop : tie.MeasureT-loop
-μ-loop s ends from k e₀ left₀ e left = left
+μ-loop s places from k e₀ left₀ e left = left
 
 pub hop-spec : {M : Type 1} → statement M
 hop-spec =
@@ -19,11 +18,9 @@ hop-spec =
     (tie.spec
     Inv-loop
     μ-loop
-    (λ c. search hop-rules)
-    (λ c. search hop-rules)
-    (λ c. search hop-rules)
-    (λ c κs. search hop-rules)
-    (λ c. search hop-rules)
-    (λ c. search hop-rules)
-    (λ c. search hop-rules)
-    (λ c. search hop-rules))
+    (λ c. search hop-rules)  -- loop-holds
+    (λ c κs. search hop-rules)  -- end-at-requires
+    (λ c. search hop-rules)  -- sub-left
+    (λ c. search hop-rules)  -- loop-less
+    (λ c. search hop-rules)  -- loop-again
+    (λ c. search hop-rules))  -- returns
