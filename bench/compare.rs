@@ -43,7 +43,7 @@ fn near(r: &mut Random, end: u64, most: u64) -> u64 {
 }
 
 /// 1 or 2, now and then what is no form and no dialect.
-fn one_or_two(r: &mut Random) -> u32 {
+pub fn one_or_two(r: &mut Random) -> u32 {
     if r.once_in(20) {
         return r.pick(&[0, 3, i32::MAX]) as u32;
     }

@@ -19,6 +19,7 @@ mod library;
 mod listing;
 #[cfg(not(library))]
 mod model;
+mod portions;
 mod reference;
 mod scripts;
 mod speed;
@@ -134,7 +135,13 @@ fn run_cases(services: &Services, paths: &[String]) -> bool {
 fn run_comparison(inputs: u64, seed: u64) -> bool {
     #[cfg(library)]
     println!("{}: {} slices too short for the numbers, answer 24, nothing written", TESTED.name, library::short());
+    let portions = portions::random(&TESTED, inputs / 10, seed);
+    if let Some(runs) = &portions {
+        println!("{} against the reference: {} random runs in {} portions, {} differ", TESTED.name, runs.runs, runs.advances, runs.differ);
+        println!("  by answer, 0 to 8 and 19 to 22: {:?}, {:?}", &runs.answers[..9], &runs.answers[19..]);
+    }
     let tally = compare::random(&TESTED, inputs, seed);
+    let alike = portions.map_or(true, |runs| runs.differ == 0);
     println!("{} against the reference: {} random inputs, {} differ", TESTED.name, tally.inputs, tally.differ);
     let by_answer = |name: &str, of: &[u64; 23]| println!("  {name}: {:?}, {:?}", &of[..12], &of[20..]);
     by_answer("by answer, 0 to 11 and 20 to 22", &tally.answers);
@@ -145,11 +152,11 @@ fn run_comparison(inputs: u64, seed: u64) -> bool {
     println!("  answer 5 by cause, 1 to 7: {:?}", &tally.causes[1..]);
     let books = match &TESTED.book {
         Some(book) => books::random(book, inputs, seed),
-        None => return tally.differ == 0,
+        None => return tally.differ == 0 && alike,
     };
     println!("{} against the reference: {} random calls on rule books, {} differ", TESTED.name, books.calls, books.differ);
     println!("  by answer, 0 and 12 to 23: {} {:?}", books.answers[0], &books.answers[12..24]);
-    tally.differ == 0 && books.differ == 0
+    tally.differ == 0 && alike && books.differ == 0
 }
 
 fn list_rules() -> bool {
