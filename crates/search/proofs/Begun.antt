@@ -13,10 +13,14 @@ use Rattle.program_rules.specs.Columns.{lineIn}
 use Rattle.value_places.specs.Places.{Target, Tag, marksAt}
 use Rattle.value_places.specs.Held.{Held, wholeAt}
 use Rattle.value_rows.specs.Row.{nothing}
+use Rattle.value_rows.specs.declared.Binding.{Binding}
+use Rattle.search_step.specs.declared.State.{State}
 use Rattle.tables.specs.Slot.{tables, viewOf, noSlots}
 use Rattle.tables.specs.SlotLaws.{no-slots}
 use Rattle.search_machine.proofs.Instance.{target-is}
-use Rattle.search.specs.Run.{Env, Run, run, lineAt, runOf, opening, answerOf, matched, told}
+use Rattle.search.specs.Run.{Env, Run, run, lineAt, runOf, opening, matched, told}
+use Rattle.search.specs.declared.Report.{Report}
+use Rattle.search.specs.Told.{reported}
 use Rattle.search.specs.Valid.{Fine, Valid}
 use Rattle.search.specs.Searched.{zeros, unbound, begun, Searched}
 use Rattle.search.proofs.Frames.{held-whole}
@@ -72,22 +76,20 @@ module _ (e : Env) (some : 0 < length (e .words)) where
 
 -- ---- As the code has it.
 
-module _ (e : Env) (some : 0 < length (e .words)) (m : ℕ) (whole : m ≡ wholeAt (e .words) 0) (slots : List ℕ) (none : slots ≡ noSlots) (room : List ℤ) where
-  -- The run as the code begins it.
-  abbrev pub first : Run
-  first = run (record { pc = 0; at = 0; marks = m; top = 0; live = 1; rows = 0; steps = 0; words = 0 }) (viewOf (e .arg) slots) (replicate 16 nothing) room
+module _ (e : Env) (some : 0 < length (e .words)) (x : State) (opened : x ≡ opening 0 (wholeAt (e .words) 0)) (b : List Binding) (free : b ≡ unbound 16) (slots : List ℕ)
+    (none : slots ≡ noSlots) (room : List ℤ) where
+  -- The run as the code opens it.
+  first-is : run x (viewOf (e .arg) slots) b room ≡ begun e room
+  unfolding begun zeros
+  first-is = rw (opened, free, none, no-slots (e .arg))
 
-  first-is : first ≡ begun e room
-  unfolding begun opening zeros unbound
-  first-is = rw (none, no-slots (e .arg), whole)
-
-  pub first-valid : Valid e first
+  pub first-valid : Valid e (run x (viewOf (e .arg) slots) b room)
   first-valid = subst (Valid e) (sym first-is) (begun-valid e some room)
 
-  pub first-searched : Target (e .words) → Fine e → (budget answer : ℕ) (r : Run) → r ≡ runOf e (budget - 0) first → answer ≡ answerOf (r .state .live)
-      → Searched e budget room (matched answer (r .state .rows) (r .state .steps) (r .state .words) (r .room))
-  unfolding told
-  first-searched g fine budget answer r q a =
-      let z : budget - 0 ≡ budget = omega arith in
-      let p : r ≡ runOf e budget (begun e room) = q ∙ ap (λ n. runOf e n first) z ∙ ap (runOf e budget) first-is in
+  pub first-searched : Target (e .words) → Fine e → (budget : ℕ) (r : Run) (out : Report) → r ≡ runOf e (budget - x .steps) (run x (viewOf (e .arg) slots) b room) → out ≡ reported (r .state)
+      → Searched e budget room (matched (out .answer) (out .rows) (out .steps) (out .words) (r .room))
+  unfolding told reported opening
+  first-searched g fine budget r out q a =
+      let z : budget - x .steps ≡ budget = rw opened (omega arith) in
+      let p : r ≡ runOf e budget (begun e room) = q ∙ ap (λ n. runOf e n (run x (viewOf (e .arg) slots) b room)) z ∙ ap (runOf e budget) first-is in
       rw a (subst (λ k. Searched e budget room (told k)) (sym p) (searched e some g fine budget room))

@@ -4,9 +4,9 @@ use mathlib.Core.Bool.{Bool, true, false}
 use mathlib.Core.List.{List}
 use Prim.Native.Nat.{ℕ, suc, _+_, _-_, _*_, _^_, _<_, _≤_}
 use native.Mathlib.Omega.{arith}
-use borrow.Author.Tests.{eq-eqb, ne-eqb, lt-ltb, le-ltb, eqb-true, eqb-false}
+use borrow.Author.Tests.{eq-eqb, ne-eqb, lt-ltb, le-ltb, eqb-true, eqb-false, ltb-true, ltb-false}
 use lib.ListN.{length, getD, set}
-use lib.Dec.{eqb}
+use lib.Dec.{eqb, ltb}
 use lib.IntN.{ℤ, pos}
 use mir.Syntax.{w64}
 use mir.Val.{Fits}
@@ -27,26 +27,39 @@ use Rattle.search_step.specs.Steps as steps
 use Rattle.search_step.specs.Steps.{Turned, turned, counted, dropped, splitOf, headOf, Steps}
 use Rattle.search.specs.Plain.{divideOf, stepBy, stepOf}
 use Rattle.search_choice.specs.Choices.{pickOf, settleOf, Named, PicksIf}
-use Rattle.search.specs.Run.{Env, Run, run, filled, wroteTo, wrote, endBy, endOf, askOf, boundAt, asked, afterTurn, afterEnd, takeEnd, takeBind, takeStep, takeOf, settled, runOf}
+use Rattle.search.specs.Run.{Env, Run, run, goesOn, valueOf, filled, wroteTo, wrote, endBy, endOf, askOf, boundAt, asked, afterTurn, afterEnd, takeEnd, takeBind, takeStep, takeOf, settled, runOf, answerOf}
+use Rattle.search.specs.declared.Report.{Report}
+use Rattle.search.specs.Told.{reported}
 use Rattle.search.specs.Valid.{Fine, Valid, Rows}
 use Rattle.search.proofs.Keeps.{take-keeps}
 use Rattle.search.proofs.Settles.{settle-keeps}
 use Rattle.search.proofs.Counts.{settled-is, takes-is, run-over, run-more}
 use Rattle.search.proofs.Heads.{head-next, head-picks, head-backs}
 
--- ---- The row: its size is asked only where the room may be short of it.
+-- ---- Whether a state is taken up, and whether a row is short of room.
 
--- What the code knows as the row's size tells whether it fits into the words that are free.
-pub record Sized (form : Form) (s : List ℤ) (b : List Binding) (n free size : ℕ) : Type 0 where
-  pub short : free < size → free < length (row form (bound s b n))
-  pub fits : size ≤ free → length (row form (bound s b n)) ≤ free
+module _ (x : State) (n : ℕ) (r : Bool) (e : r ≡ goesOn x n) where
+  goes : r ≡ true → (x .live ≡ 1) × (x .steps < n)
+  unfolding goesOn when
+  goes t = go (eqb (x .live) 1) refl (ltb (x .steps) n) refl (sym e ∙ t)
+    where
+      go : (d : Bool) → eqb (x .live) 1 ≡ d → (c : Bool) → ltb (x .steps) n ≡ c → when d c false ≡ true → (x .live ≡ 1) × (x .steps < n)
+      go true j true k y = (eqb-true _ _ j, ltb-true _ _ k)
+      go true j false k y = let w : _≡_ {A = ℕ} 0 1 = cc in absurd (omega arith)
+      go false j c k y = let w : _≡_ {A = ℕ} 0 1 = cc in absurd (omega arith)
 
-module _ (form : Form) (s : List ℤ) (b : List Binding) (n free size : ℕ) where
-  pub sized-asked : size ≡ length (row form (bound s b n)) → Sized form s b n free size
-  sized-asked e = record { short = λ l. omega arith; fits = λ l. omega arith }
+  pub goes-live : r ≡ true → x .live ≡ 1
+  goes-live t = goes t .0
 
-  pub sized-ample : Target s → 0 < length s → Bound s b n → size ≡ 0 → n * (length s + 1) ≤ free → Sized form s b n free size
-  sized-ample g w q z l = let m = row-within s b n q g form w in record { short = λ k. absurd (omega arith); fits = λ k. omega arith }
+  pub goes-less : r ≡ true → x .steps < n
+  goes-less t = goes t .1
+
+module _ (form : Form) (s : List ℤ) (b : List Binding) (n free : ℕ) (g : Target s) (w : 0 < length s) (q : Bound s b n) where
+  pub short-asked : (r : Bool) (size : ℕ) → size ≡ length (row form (bound s b n)) → r ≡ ltb free size → r ≡ ltb free (length (row form (bound s b n)))
+  short-asked r size e d = rw (sym e) d
+
+  pub short-ample : n * (length s + 1) ≤ free → false ≡ ltb free (length (row form (bound s b n)))
+  short-ample l = let m = row-within s b n q g form w in sym (le-ltb free (length (row form (bound s b n))) (omega arith))
 
 pub turned-path : {x y : State} {t u : Tables} → x ≡ y → t ≡ u → turned x t ≡ turned y u
 turned-path p q i = turned (p i) (q i)
@@ -62,12 +75,21 @@ pub here-start : (e : Env) (n : ℕ) (r : Run) → Valid e r → Here e (runOf e
 here-start e n r v = record { whole = refl; valid = v; long = refl }
 
 module _ (e : Env) (w : Run) (budget : ℕ) (room : List ℤ) (r : Run) (h : Here e w budget room r) where
-  pub here-end : (r .state .live ≡ 1 → ⊥) → r ≡ w
-  here-end m = sym (h .whole ∙ run-over e (budget - r .state .steps) r m)
+  here-over : (r .state .live ≡ 1 → ⊥) → r ≡ w
+  here-over m = sym (h .whole ∙ run-over e (budget - r .state .steps) r m)
 
-  pub here-spent : budget ≤ r .state .steps → r ≡ w
+  here-spent : budget ≤ r .state .steps → r ≡ w
   unfolding runOf
   here-spent l = let z : budget - r .state .steps ≡ 0 = omega arith in sym (h .whole ∙ ap (λ (k : ℕ). runOf e k r) z)
+
+  pub here-end : (c : Bool) → c ≡ goesOn (r .state) budget → c ≡ false → r ≡ w
+  unfolding goesOn when
+  here-end c p f = go (eqb (r .state .live) 1) refl (ltb (r .state .steps) budget) refl (sym p ∙ f)
+    where
+      go : (d : Bool) → eqb (r .state .live) 1 ≡ d → (k : Bool) → ltb (r .state .steps) budget ≡ k → when d k false ≡ false → r ≡ w
+      go true j true k y = let z : _≡_ {A = ℕ} 0 1 = cc in absurd (omega arith)
+      go true j false k y = here-spent (ltb-false _ _ k)
+      go false j d k y = here-over (eqb-false _ _ j)
 
   module _ (fine : Fine e) (g : Target (e .words)) (l : r .state .live ≡ 1) (s : r .state .steps < budget) where
     pub next-steps : (z : Run) → z ≡ settled e (takeOf e r) → z .state .steps ≡ r .state .steps + 1
@@ -86,6 +108,14 @@ module _ (e : Env) (w : Run) (budget : ℕ) (room : List ℤ) (r : Run) (h : Her
     pub next-less : (z : Run) → z ≡ settled e (takeOf e r) → budget - z .state .steps < budget - r .state .steps
     next-less z q = let c = next-steps z q in omega arith
 
+-- ---- What tag 3 asks, by the numbers of its line.
+
+pub sum-is : (s : List ℤ) (a at : ℕ) (c z : ℤ) (r : Bool) → r ≡ isSum s a c at → c ≡ z → r ≡ isSum s a z at
+sum-is s a at c z r e d = e ∙ ap (λ y. isSum s a y at) d
+
+pub equal-is : (mt s : List ℤ) (i j a x b y : ℕ) (r : Bool) → r ≡ equalAt mt i s a x b y → i ≡ j → r ≡ equalAt mt j s a x b y
+equal-is mt s i j a x b y r e d = e ∙ ap (λ k. equalAt mt k s a x b y) d
+
 -- ---- What the branches before a step leave: the answer to tag 3, and the bindings.
 
 pub record Asked (e : Env) (r : Run) (q : Bool) (b : List Binding) : Type 0 where
@@ -98,12 +128,12 @@ module _ (e : Env) (x : State) (t : Tables) (b : List Binding) (room : List ℤ)
   unfolding asked askOf when
   not-asked n m = rw (ne-eqb (getD (e .op) (x .pc) 0) 5 (λ z. n (i ∙ z)), ne-eqb (getD (e .op) (x .pc) 0) 6 (λ z. m (i ∙ z)))
 
-  pub asked-3 : (v : ℕ) → o ≡ 3 → v ≡ getD (e .arg) (x .pc) 0 → b′ ≡ set b v (record { at = x .at; marks = x .marks }) → q ≡ false
+  pub asked-3 : (v : ℕ) (y : Binding) → o ≡ 3 → v ≡ getD (e .arg) (x .pc) 0 → y ≡ valueOf x → b′ ≡ set b v y → q ≡ false
       → Asked e (run x t b room) q b′
-  unfolding when
-  asked-3 v z a p f = record {
+  unfolding when valueOf
+  asked-3 v y z a d p f = record {
     ask = f ∙ sym (not-asked (λ y. omega arith) (λ y. omega arith));
-    binds = p ∙ rw (a, eq-eqb (getD (e .op) (x .pc) 0) 3 (sym i ∙ z));
+    binds = p ∙ rw (d, a, eq-eqb (getD (e .op) (x .pc) 0) 3 (sym i ∙ z));
   }
 
   asked-n : (o ≡ 3 → ⊥) → (o ≡ 5 → ⊥) → (o ≡ 6 → ⊥) → b′ ≡ b → q ≡ false → Asked e (run x t b room) q b′
@@ -120,19 +150,19 @@ module _ (e : Env) (x : State) (t : Tables) (b : List Binding) (room : List ℤ)
   pub asked-above : 7 ≤ o → b′ ≡ b → q ≡ false → Asked e (run x t b room) q b′
   asked-above l = asked-n (λ y. omega arith) (λ y. omega arith) (λ y. omega arith)
 
-  pub asked-5 : (v : ℕ) (r : Bool) (c : ℤ) → o ≡ 5 → v ≡ getD (e .arg) (x .pc) 0 → b′ ≡ b → q ≡ r → c ≡ getD (e .con) (x .pc) (pos 0)
-      → r ≡ isSum (e .words) (getD b v nothing .at) c (x .at) → Asked e (run x t b room) q b′
+  pub asked-5 : (v : ℕ) (r : Bool) → o ≡ 5 → v ≡ getD (e .arg) (x .pc) 0 → b′ ≡ b → q ≡ r
+      → r ≡ isSum (e .words) (getD b v nothing .at) (getD (e .con) (x .pc) (pos 0)) (x .at) → Asked e (run x t b room) q b′
   unfolding asked askOf boundAt when
-  asked-5 v r c z a p f d h =
-      record { ask = f ∙ h ∙ rw (d, a, eq-eqb (getD (e .op) (x .pc) 0) 5 (sym i ∙ z)); binds = p ∙ rw (ne-eqb (getD (e .op) (x .pc) 0) 3 (λ y. omega arith)) }
+  asked-5 v r z a p f h =
+      record { ask = f ∙ h ∙ rw (a, eq-eqb (getD (e .op) (x .pc) 0) 5 (sym i ∙ z)); binds = p ∙ rw (ne-eqb (getD (e .op) (x .pc) 0) 3 (λ y. omega arith)) }
 
-  pub asked-6 : (v k : ℕ) (r : Bool) → (o ≡ 5 → ⊥) → 5 ≤ o → o < 7 → v ≡ getD (e .arg) (x .pc) 0
-      → k ≡ getD (e .mat) (x .pc) 0 → b′ ≡ b → q ≡ r → r ≡ equalAt (e .matcher) k (e .words) (getD b v nothing .at) (getD b v nothing .marks) (x .at) (x .marks)
+  pub asked-6 : (v : ℕ) (r : Bool) → (o ≡ 5 → ⊥) → 5 ≤ o → o < 7 → v ≡ getD (e .arg) (x .pc) 0
+      → b′ ≡ b → q ≡ r → r ≡ equalAt (e .matcher) (getD (e .mat) (x .pc) 0) (e .words) (getD b v nothing .at) (getD b v nothing .marks) (x .at) (x .marks)
       → Asked e (run x t b room) q b′
   unfolding asked askOf boundAt when
-  asked-6 v k r m j l a d p f h =
+  asked-6 v r m j l a p f h =
       let z : getD (e .op) (x .pc) 0 ≡ 6 = omega arith in
-      record { ask = f ∙ h ∙ rw (d, a, ne-eqb (getD (e .op) (x .pc) 0) 5 (λ y. m (i ∙ y)), eq-eqb (getD (e .op) (x .pc) 0) 6 z); binds = p ∙ rw (ne-eqb (getD (e .op) (x .pc) 0) 3 (λ y. omega arith)) }
+      record { ask = f ∙ h ∙ rw (a, ne-eqb (getD (e .op) (x .pc) 0) 5 (λ y. m (i ∙ y)), eq-eqb (getD (e .op) (x .pc) 0) 6 z); binds = p ∙ rw (ne-eqb (getD (e .op) (x .pc) 0) 3 (λ y. omega arith)) }
 
 -- ---- A turn.
 
@@ -323,3 +353,9 @@ module _ (e : Env) (x : State) (t : Tables) (b : List Binding) (room : List ℤ)
 
     pub ready-sum : (getD b v nothing .at + 1 < length (e .words)) × (x .at + 1 < length (e .words))
     ready-sum = (second (e .words) (getD b v nothing .at) (h .target) (ready-bound .tag), second (e .words) (x .at) (h .target) (h .valid .held .tag))
+
+-- ---- What is told.
+
+pub report-is : (x : State) (r : Report) → r .answer ≡ answerOf (x .live) → r .rows ≡ x .rows → r .steps ≡ x .steps → r .words ≡ x .words → r ≡ reported x
+unfolding reported
+report-is x r a b c d i = record { answer = a i; rows = b i; steps = c i; words = d i }

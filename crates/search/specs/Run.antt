@@ -51,6 +51,15 @@ pub record Run : Type 0 where
 abbrev pub run : State → Tables → List Binding → List ℤ → Run
 run x t b room = record { state = x; tables = t; binds = b; room = room }
 
+-- Whether a state is taken up: one stands, and the budget is not used up.
+unfoldable pub goesOn : State → (budget : ℕ) → Bool
+unfolding when
+goesOn x n = when (eqb (x .live) 1) (ltb (x .steps) n) false
+
+-- The value of its first atom.
+unfoldable pub valueOf : State → Binding
+valueOf x = record { at = x .at; marks = x .marks }
+
 -- ---- The row of a state with no atom left: a row that does not fit is not begun.
 
 unfoldable pub filled : State → State

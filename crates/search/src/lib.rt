@@ -1,118 +1,127 @@
 // Document 01, section 4: "a run takes up states until none remain or the budget is used". The bindings are sixteen structs by value, beside the state.
+pub mod asking;
 pub mod taking;
 
+use asking::is_equal_at;
+use asking::is_sum_at;
+use asking::value_of;
 use search_choice::settle;
+use search_step::Asked;
 use search_step::State;
 use tables::line::Lines;
 use tables::line::arg_at;
-use tables::line::con_at;
-use tables::line::mat_at;
 use tables::line::op_at;
 use tables::place::Places;
 use tables::place::no_places;
 use tables::slot::Slots;
 use tables::slot::no_slots;
 use taking::filled;
+use taking::goes_on;
+use taking::is_short;
 use taking::wrote;
-use value_equality::equal;
-use value_equality::is_sum;
 use value_places::places::places_of;
 use value_places::places::whole;
 use value_rows::Binding;
 use value_rows::put_entry;
-use value_rows::row_size;
 ghost use mathlib.Core.Path.{_≡_};
 ghost use Prim.Native.Nat.{_-_, _<_};
 ghost use lib.ListN.{length};
 ghost use Rattle.value_places.specs.Places.{Target};
-ghost use Rattle.value_rows.specs.Row.{formBy};
+ghost use Rattle.value_places.specs.Held.{wholeAt};
 ghost use Rattle.tables.specs.Line.{columnsOf};
 ghost use Rattle.tables.specs.Slot.{viewOf};
-ghost use Rattle.search.specs.Run.{envOf, run, runOf, answerOf, matched};
+ghost use Rattle.search.specs.Run.{run, runOf, opening, answerOf, matched};
+ghost use Rattle.search.specs.Told.{envBy, reported};
 ghost use Rattle.search.specs.Valid.{Given, Fine, Valid};
-ghost use Rattle.search.specs.Searched.{Searched};
+ghost use Rattle.search.specs.Searched.{unbound, Searched};
 
-pub struct Found {
+// What a run keeps to, beside its rule and its target: the most steps, how many variables there are, whether a row tells origins.
+pub struct Terms {
+    pub budget: u64,
+    pub vars: usize,
+    pub origins: bool,
+}
+
+// How far a run is: its state and its bindings. What waits stands in its slots.
+pub struct Progress {
     pub state: State,
     pub binds: [Binding; 16],
 }
 
-// The run: states are taken up while the budget lasts, and the next choice is taken wherever no state stands.
+// The run, from where it is: states are taken up while the budget lasts, and the next choice is taken wherever no state stands.
 pub fn advance(
-    first: State,
-    given: [Binding; 16],
-    budget: u64,
-    n: usize,
-    origins: bool,
+    from: Progress,
+    terms: Terms,
     mt: &[i32],
     s: &[i32],
     places: &Places,
     lines: &Lines,
     slots: &mut Slots,
     room: &mut [i32],
-) -> Found
-    requires { ⌜ Given (now s) (now places) ⌝ ∗ ⌜ Fine (envOf (columnsOf (now lines)) (now mt) (now s) n (formBy origins)) ⌝ ∗ ⌜ Valid (envOf (columnsOf (now lines)) (now mt) (now s) n (formBy origins)) (run first (viewOf (columnsOf (now lines) .arg) (now slots)) given (now room)) ⌝ }
-    ensures { λ r. ⌜ run (r .state) (viewOf (columnsOf (now (lines .entry)) .arg) (now (slots .exit))) (r .binds) (now (room .exit)) ≡ runOf (envOf (columnsOf (now (lines .entry))) (now (mt .entry)) (now (s .entry)) n (formBy origins)) (budget - first .steps) (run first (viewOf (columnsOf (now (lines .entry)) .arg) (now (slots .entry))) given (now (room .entry))) ⌝ }
+) -> Progress
+    requires { ⌜ Given (now s) (now places) ⌝ ∗ ⌜ Fine (envBy (columnsOf (now lines)) (now mt) (now s) terms) ⌝ ∗ ⌜ Valid (envBy (columnsOf (now lines)) (now mt) (now s) terms) (run (from .state) (viewOf (columnsOf (now lines) .arg) (now slots)) (from .binds) (now room)) ⌝ }
+    ensures { λ r. ⌜ run (r .state) (viewOf (columnsOf (now (lines .entry)) .arg) (now (slots .exit))) (r .binds) (now (room .exit)) ≡ runOf (envBy (columnsOf (now (lines .entry))) (now (mt .entry)) (now (s .entry)) terms) (terms .budget - from .state .steps) (run (from .state) (viewOf (columnsOf (now (lines .entry)) .arg) (now (slots .entry))) (from .binds) (now (room .entry))) ⌝ }
 {
-    let mut x = first;
-    let mut b = given;
-    while x.live == 1 {
-        let steps = x.steps;
-        if budget <= steps {
-            return Found { state: x, binds: b };
-        }
-        let pc = x.pc;
-        let at = x.at;
-        let m = x.marks;
-        let o = op_at(lines, pc);
-        let mut q = false;
+    let mut x = from.state;
+    let mut b = from.binds;
+    while goes_on(x, terms.budget) {
+        let o = op_at(lines, x.pc);
+        let mut same = false;
         if 2 < o {
             if o == 5 {
-                let v = arg_at(lines, pc);
-                let y = b[v];
-                let g = y.at;
-                let c = con_at(lines, pc);
-                q = is_sum(s, g, c, at);
+                let v = arg_at(lines, x.pc);
+                same = is_sum_at(x, b[v], s, lines);
             } else if o < 5 {
                 if o == 3 {
-                    let v = arg_at(lines, pc);
-                    b[v] = Binding { at: at, marks: m };
+                    let v = arg_at(lines, x.pc);
+                    b[v] = value_of(x);
                 }
             } else if o < 7 {
-                let v = arg_at(lines, pc);
-                let y = b[v];
-                let g = y.at;
-                let k = y.marks;
-                let i = mat_at(lines, pc);
-                q = equal(mt, i, s, places, g, k, at, m);
+                let v = arg_at(lines, x.pc);
+                same = is_equal_at(x, b[v], mt, s, places, lines);
             }
         }
         if o == 0 {
             let mut e = x.words;
-            let free = room.len() - e;
-            let mut size: usize = 0;
-            if free < n * (s.len() + 1) {
-                size = row_size(origins, s, places, b, n);
-            }
-            if free < size {
+            if is_short(terms, b, room.len() - e, s, places) {
                 x = filled(x);
             } else {
                 let mut v: usize = 0;
-                while v < n {
+                while v < terms.vars {
                     let y = b[v];
-                    let g = y.at;
-                    let k = y.marks;
-                    e = put_entry(origins, s, places, g, k, room, e);
+                    e = put_entry(terms.origins, s, places, y.at, y.marks, room, e);
                     v += 1;
                 }
                 x = wrote(x, e);
             }
         } else {
-            x = x.step(q, s, places, lines, slots);
+            x = x.step(Asked { same: same }, s, places, lines, slots);
         }
         x = settle(x, s, places, lines, slots);
     }
-    Found { state: x, binds: b }
+    Progress { state: x, binds: b }
+}
+
+// Before the first step: the target as a whole is held, its tag at the first index, and no variable is bound.
+pub fn open(s: &[i32]) -> Progress
+    requires { ⌜ Target (now s) ⌝ ∗ ⌜ 0 < length (now s) ⌝ }
+    ensures { λ r. ⌜ r .state ≡ opening 0 (wholeAt (now (s .entry)) 0) ⌝ ∗ ⌜ r .binds ≡ unbound 16 ⌝ }
+{
+    let first = State {
+        pc: 0,
+        at: 0,
+        marks: whole(s, 0),
+        top: 0,
+        live: 1,
+        rows: 0,
+        steps: 0,
+        words: 0,
+    };
+    let none = [Binding { at: 0, marks: 0 }; 16];
+    Progress {
+        state: first,
+        binds: none,
+    }
 }
 
 pub struct Report {
@@ -135,51 +144,27 @@ fn answer_of(live: u64) -> u32
     7
 }
 
-// The whole run of a program on a target, from its first state.
-pub fn search(
-    budget: u32,
-    n: usize,
-    origins: bool,
-    mt: &[i32],
-    s: &[i32],
-    lines: &Lines,
-    room: &mut [i32],
-) -> Report
-    requires { ⌜ Target (now s) ⌝ ∗ ⌜ 0 < length (now s) ⌝ ∗ ⌜ Fine (envOf (columnsOf (now lines)) (now mt) (now s) n (formBy origins)) ⌝ }
-    ensures { λ r. ⌜ Searched (envOf (columnsOf (now (lines .entry))) (now (mt .entry)) (now (s .entry)) n (formBy origins)) budget (now (room .entry)) (matched (r .answer) (r .rows) (r .steps) (r .words) (now (room .exit))) ⌝ }
+// What a run tells where it stands.
+pub fn tell(x: State) -> Report
+    ensures { λ r. ⌜ r ≡ reported x ⌝ }
 {
-    let mut places = no_places();
-    places_of(s, &mut places);
-    let mut slots = no_slots();
-    let given = [Binding { at: 0, marks: 0 }; 16];
-    let first = State {
-        pc: 0,
-        at: 0,
-        marks: whole(s, 0),
-        top: 0,
-        live: 1,
-        rows: 0,
-        steps: 0,
-        words: 0,
-    };
-    let found = advance(
-        first,
-        given,
-        budget as u64,
-        n,
-        origins,
-        mt,
-        s,
-        &places,
-        lines,
-        &mut slots,
-        room,
-    );
-    let x = found.state;
     Report {
         answer: answer_of(x.live),
         rows: x.rows,
         steps: x.steps,
         words: x.words,
     }
+}
+
+// The whole run of a program on a target: it is opened, advanced by its budget, and told.
+pub fn search(terms: Terms, mt: &[i32], s: &[i32], lines: &Lines, room: &mut [i32]) -> Report
+    requires { ⌜ Target (now s) ⌝ ∗ ⌜ 0 < length (now s) ⌝ ∗ ⌜ Fine (envBy (columnsOf (now lines)) (now mt) (now s) terms) ⌝ }
+    ensures { λ r. ⌜ Searched (envBy (columnsOf (now (lines .entry))) (now (mt .entry)) (now (s .entry)) terms) (terms .budget) (now (room .entry)) (matched (r .answer) (r .rows) (r .steps) (r .words) (now (room .exit))) ⌝ }
+{
+    let mut places = no_places();
+    places_of(s, &mut places);
+    let mut slots = no_slots();
+    let first = open(s);
+    let last = advance(first, terms, mt, s, &places, lines, &mut slots, room);
+    tell(last.state)
 }

@@ -1,9 +1,40 @@
-// Document 01, section 4: a state with no atom left is taken up, and its row is written or does not fit.
+// Document 01, section 4: whether a state is taken up; one with no atom left, whose row is written or does not fit.
+use crate::Terms;
 use search_step::State;
+use tables::place::Places;
+use value_rows::Binding;
+use value_rows::row_size;
 ghost use mathlib.Core.Path.{_≡_};
 ghost use Prim.Native.Nat.{_+_, _^_, _<_};
+ghost use lib.ListN.{length};
+ghost use lib.Dec.{ltb};
+ghost use Rattle.rules.specs.Rows.{row};
+ghost use Rattle.value_rows.specs.Row.{formBy, bound, Bound};
 ghost use Rattle.search_step.specs.Steps.{counted, lived};
-ghost use Rattle.search.specs.Run.{filled, wroteTo};
+ghost use Rattle.search.specs.Run.{goesOn, filled, wroteTo};
+ghost use Rattle.search.specs.Valid.{Given};
+
+// Whether a state stands, and the budget is not used up.
+pub fn goes_on(x: State, budget: u64) -> bool
+    ensures { λ r. ⌜ r ≡ goesOn x budget ⌝ }
+{
+    if x.live == 1 {
+        return x.steps < budget;
+    }
+    false
+}
+
+// Whether a row does not fit into the words that are free. Its size is asked only where it could be so: no value has more words than the target.
+pub fn is_short(terms: Terms, b: [Binding; 16], free: usize, s: &[i32], places: &Places) -> bool
+    requires { ⌜ Given (now s) (now places) ⌝ ∗ ⌜ Bound (now s) b (terms .vars) ⌝ ∗ ⌜ 0 < length (now s) ⌝ }
+    ensures { λ r. ⌜ r ≡ ltb free (length (row (formBy (terms .origins)) (bound (now (s .entry)) b (terms .vars)))) ⌝ }
+{
+    let n = terms.vars;
+    if free < n * (s.len() + 1) {
+        return free < row_size(terms.origins, s, places, b, n);
+    }
+    false
+}
 
 // It takes a step; `live` says how the run goes on.
 fn ended(mut x: State, live: u64) -> State

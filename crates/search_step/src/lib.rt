@@ -46,6 +46,11 @@ pub struct State {
     pub words: usize,
 }
 
+// What was asked of the first atom before its state is taken up. same: what its tag 3 asks is equal.
+pub struct Asked {
+    pub same: bool,
+}
+
 impl State {
     // The atom is dropped: the next one in prefix order, whose value waits in a slot.
     fn drop(mut self, lines: &Lines, slots: &Slots) -> State
@@ -169,17 +174,17 @@ impl State {
         self.split(o, lines, slots)
     }
 
-    // Takes up a state that has an atom left; q: what the atom's tag 3 asks is equal.
+    // Takes up a state that has an atom left.
     pub fn step(
         mut self,
-        q: bool,
+        asked: Asked,
         s: &[i32],
         places: &Places,
         lines: &Lines,
         slots: &mut Slots,
     ) -> State
         requires { ⌜ Target (now s) ⌝ ∗ ⌜ Placed (now s) (now places) ⌝ ∗ ⌜ Steps (now s) (columnsOf (now lines) .op) (columnsOf (now lines) .from) (columnsOf (now lines) .arg) (columnsOf (now lines) .con) (now slots) self ⌝ }
-        ensures { λ r. ⌜ turned r (viewOf (columnsOf (now (lines .entry)) .arg) (now (slots .exit))) ≡ stepOf (columnsOf (now (lines .entry)) .op) (columnsOf (now (lines .entry)) .from) (columnsOf (now (lines .entry)) .to) (columnsOf (now (lines .entry)) .con) (now (s .entry)) q self (viewOf (columnsOf (now (lines .entry)) .arg) (now (slots .entry))) ⌝ }
+        ensures { λ r. ⌜ turned r (viewOf (columnsOf (now (lines .entry)) .arg) (now (slots .exit))) ≡ stepOf (columnsOf (now (lines .entry)) .op) (columnsOf (now (lines .entry)) .from) (columnsOf (now (lines .entry)) .to) (columnsOf (now (lines .entry)) .con) (now (s .entry)) (asked .same) self (viewOf (columnsOf (now (lines .entry)) .arg) (now (slots .entry))) ⌝ }
     {
         let pc = self.pc;
         let o = op_at(lines, pc);
@@ -194,7 +199,7 @@ impl State {
         }
         let at = self.at;
         let m = self.marks;
-        let ok = passes(o, q, s, at, m, lines, pc);
+        let ok = passes(o, asked.same, s, at, m, lines, pc);
         if ok {
             return self.drop(lines, slots);
         }

@@ -1,7 +1,8 @@
 // An advance of a run in which a state stands: its lines and places are computed again, and it is tested before the search goes on from it.
 use program::compile;
 use run_sound::is_sound;
-use search::Found;
+use search::Progress;
+use search::Terms;
 use search::advance;
 use search_step::State;
 use tables::line::Lines;
@@ -53,13 +54,19 @@ fn search_on(
     lines: &Lines,
     slots: &mut Slots,
     room: &mut [i32],
-) -> Found
+) -> Progress
     requires { ⌜ Target (now t) ⌝ ∗ ⌜ Fine (envOf (columnsOf (now lines)) (now m) (now t) n (formBy origins)) ⌝ ∗ ⌜ Valid (envOf (columnsOf (now lines)) (now m) (now t) n (formBy origins)) (run x (viewOf (columnsOf (now lines) .arg) (now slots)) b (now room)) ⌝ }
     ensures { λ r. ⌜ run (r .state) (viewOf (columnsOf (now (lines .entry)) .arg) (now (slots .exit))) (r .binds) (now (room .exit)) ≡ runOf (envOf (columnsOf (now (lines .entry))) (now (m .entry)) (now (t .entry)) n (formBy origins)) (budget - x .steps) (run x (viewOf (columnsOf (now (lines .entry)) .arg) (now (slots .entry))) b (now (room .entry))) ⌝ }
 {
     let mut places = no_places();
     places_of(t, &mut places);
-    advance(x, b, budget, n, origins, m, t, &places, lines, slots, room)
+    let from = Progress { state: x, binds: b };
+    let terms = Terms {
+        budget: budget,
+        vars: n,
+        origins: origins,
+    };
+    advance(from, terms, m, t, &places, lines, slots, room)
 }
 
 // What was found, and whether the run was sound.

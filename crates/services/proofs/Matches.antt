@@ -1,7 +1,7 @@
 -- Match's answer by its tests, as the code asks for it. Assumes nothing.
 use Prim.Native.Nat.{ℕ, zero, suc, _≤_, _<_}
 use native.Mathlib.Omega.{arith}
-use mathlib.Core.Path.{_≡_, refl, sym, ap, _∙_}
+use mathlib.Core.Path.{_≡_, refl, sym, ap, _∙_, subst}
 use mathlib.Core.Bool.{true, false}
 use mathlib.Core.List.{List}
 use lib.ListN.{length}
@@ -119,8 +119,10 @@ module _ (ms ps ts : List ℤ) (n : ℕ) (none lines : List ℕ) (form : Form) (
   pub ready-fine : Fine (envOf (columnsOf lines) ms ts n form)
   ready-fine = accepted-fine ms ts (g .rule) n (columnsOf lines) form holds
 
-  pub ready-match : (budget : ℕ) (room : List ℤ) (out : paper.Matched) → Searched (envOf (columnsOf lines) ms ts n form) budget room out → out ≡ matchIn form ms ps ts budget room
-  ready-match budget room out s = accepted-match ms ts (g .rule) n (columnsOf lines) form holds ps (g .value) (ready-sane g) budget room out s
+  pub ready-match : (budget w : ℕ) (room : List ℤ) (out : paper.Matched) → w ≡ budget → Searched (envOf (columnsOf lines) ms ts n form) w room out → out ≡ matchIn form ms ps ts budget room
+  ready-match budget w room out q s =
+      accepted-match ms ts (g .rule) n (columnsOf lines) form holds ps (g .value) (ready-sane g) budget room out
+      (subst (λ k. Searched (envOf (columnsOf lines) ms ts n form) k room out) q s)
 
 -- ---- The form that the caller picks.
 

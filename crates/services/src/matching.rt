@@ -1,11 +1,13 @@
 // The service match: a rule's rows on a target, written into a lent room.
 use program::compile;
+use search::Terms;
 use search::search;
 use tables::line::no_lines;
 use tests::Judgement;
 use tests::TargetJudgement;
 use tests::rule_refused;
 use tests::target_refused;
+use words::casts::wide;
 ghost use mathlib.Core.Path.{_≡_};
 ghost use Rattle.rules.specs.Services.{matchIn, match, matchWith};
 ghost use Rattle.value_rows.specs.Row.{formBy};
@@ -51,7 +53,12 @@ fn carry_out(
 {
     let mut lines = no_lines();
     let n = compile(matcher, pattern, &mut lines);
-    let r = search(budget, n, origins, matcher, target, &lines, room);
+    let terms = Terms {
+        budget: wide(budget),
+        vars: n,
+        origins: origins,
+    };
+    let r = search(terms, matcher, target, &lines, room);
     Matched {
         answer: r.answer,
         place: 0,

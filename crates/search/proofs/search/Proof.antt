@@ -9,13 +9,14 @@ use Rattle.search.proofs.search.Tie as tie
 advance-requires : tie.Need-advance-requires
 advance-requires c κs =
     let p = c .before .before .before .before .before .before .before .before .pre in
-    (record { target = p .0; placed = c .before .before .before .before .before .places-of .ensures }, (p .1 .1, first-valid _ (p .1 .0) _ (c .before .before .before .whole .ensures) _ (c .before .before .before .before .no-slots .ensures) _))
+    let o = c .before .before .before .«open» .ensures in
+    (record { target = p .0; placed = c .before .before .before .before .before .places-of .ensures }, (p .1 .1, first-valid _ (p .1 .0) _ (o .0) _ (o .1) _ (c .before .before .before .before .no-slots .ensures) _))
 
 returns : tie.Need-returns
 returns c =
-    let p = c .before .before .before .before .before .before .before .before .before .before .before .before .pre in
-    first-searched _ (p .1 .0) _ (c .before .before .before .before .before .before .before .whole .ensures) _ (c .before .before .before .before .before .before .before .before .no-slots .ensures) _ (p .0) (p .1 .1) _ _
-    (run (c .before .before .before .advance .result .state) _ (c .before .before .before .advance .result .binds) _) (c .before .before .before .advance .ensures) (c .answer-of .ensures)
+    let p = c .before .before .before .before .before .before .before .before .before .before .before .pre in
+    let o = c .before .before .before .before .before .before .«open» .ensures in
+    first-searched _ (p .1 .0) _ (o .0) _ (o .1) _ (c .before .before .before .before .before .before .before .no-slots .ensures) _ (p .0) (p .1 .1) _ (run (c .before .before .advance .result .state) _ (c .before .before .advance .result .binds) _) _ (c .before .before .advance .ensures) (c .tell .ensures)
 
 pub search-spec : {M : Type 1} → statement M
 search-spec =
@@ -24,8 +25,8 @@ search-spec =
     (λ c κs. search needs)  -- no-places-requires
     (λ c κs. (c .before .before .pre .0, no-places _ (c .before .no-places .ensures)))  -- places-of-requires
     (λ c κs. search needs)  -- no-slots-requires
-    (λ c κs. search needs)  -- whole-requires
+    (λ c κs. search needs)  -- open-requires
     advance-requires
-    (λ c κs. search needs)  -- answer-of-requires
+    (λ c κs. search needs)  -- tell-requires
     (λ c. search needs)  -- same-length
     returns)

@@ -11,6 +11,7 @@ unfolding told matched
 carry-out-spec = tie.close (tie.spec
     (λ c κs. search needs)
     (λ c κs. search (matcher-few, pattern-few, needs))
+    (λ c κs. search needs)
     (λ c κs. (search (ready-target, needs), (search (ready-some, needs), search (ready-fine, needs))))
     (λ c. search needs)
     (λ c. search (ready-match, needs)))
