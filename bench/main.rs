@@ -13,6 +13,7 @@ mod books;
 mod cases;
 mod compare;
 mod inputs;
+mod laws;
 #[cfg(library)]
 mod library;
 #[cfg(library)]
@@ -135,13 +136,19 @@ fn run_cases(services: &Services, paths: &[String]) -> bool {
 fn run_comparison(inputs: u64, seed: u64) -> bool {
     #[cfg(library)]
     println!("{}: {} slices too short for the numbers, answer 24, nothing written", TESTED.name, library::short());
+    let lawful = [REFERENCE, TESTED].iter().all(|services| {
+        let laws = laws::random(services, inputs / 5, seed);
+        let [two, rounds] = [laws.dialects, laws.rounds];
+        println!("{}: {two} times dialect 2 and {rounds} times the rounds beside dialect 1 depth-first, {} differ from what is proved", services.name, laws.broken);
+        laws.broken == 0
+    });
     let portions = portions::random(&TESTED, inputs / 10, seed);
     if let Some(runs) = &portions {
         println!("{} against the reference: {} random runs in {} portions, {} differ", TESTED.name, runs.runs, runs.advances, runs.differ);
         println!("  by answer, 0 to 8 and 19 to 22: {:?}, {:?}", &runs.answers[..9], &runs.answers[19..]);
     }
     let tally = compare::random(&TESTED, inputs, seed);
-    let alike = portions.map_or(true, |runs| runs.differ == 0);
+    let alike = lawful && portions.map_or(true, |runs| runs.differ == 0);
     println!("{} against the reference: {} random inputs, {} differ", TESTED.name, tally.inputs, tally.differ);
     let by_answer = |name: &str, of: &[u64; 23]| println!("  {name}: {:?}, {:?}", &of[..12], &of[20..]);
     by_answer("by answer, 0 to 11 and 20 to 22", &tally.answers);
