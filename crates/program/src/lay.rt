@@ -14,6 +14,8 @@ use program_parts::tags::op_of;
 use program_parts::tags::operands;
 use program_parts::tags::reserved;
 use program_parts::wide;
+use tables::instruction::END;
+use tables::instruction::NIL;
 use tables::line::Lines;
 use words::tag_at;
 ghost use mathlib.Core.Path.{_≡_};
@@ -40,7 +42,7 @@ pub fn lay(m: &[i32], p: &[i32], lines: &mut Lines) -> usize
         let o = op_of(t, k);
         let f = slots[depth];
         at += 1;
-        if 7 < o {
+        if NIL < o {
             let e = reserved(p, at, o);
             let j = first_under(o, i);
             depth += 1;
@@ -56,7 +58,7 @@ pub fn lay(m: &[i32], p: &[i32], lines: &mut Lines) -> usize
             pc += depth - d;
             depth = d;
             if depth == 0 {
-                put(pc, 0, 0, 0, 0, 0, lines);
+                put(pc, END, 0, 0, 0, 0, lines);
                 return pc;
             }
             i = under[depth];
@@ -65,6 +67,6 @@ pub fn lay(m: &[i32], p: &[i32], lines: &mut Lines) -> usize
             at += operands(o);
         }
     }
-    put(pc, 0, 0, 0, 0, 0, lines);
+    put(pc, END, 0, 0, 0, 0, lines);
     pc
 }

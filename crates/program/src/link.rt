@@ -1,4 +1,10 @@
 // The second pass: where the next state stands, from the last line to the first.
+use tables::instruction::BIND;
+use tables::instruction::NOT;
+use tables::instruction::NOT_END;
+use tables::instruction::OR;
+use tables::instruction::OR_END;
+use tables::instruction::OR_OTHER;
 use tables::line::Lines;
 use tables::line::op_at;
 use tables::line::put_to;
@@ -17,9 +23,9 @@ pub fn keeps_place(o: u16) -> bool
     ensures { λ r. ⌜ r ≡ keeps o ⌝ }
 {
     match o {
-        17 => true,
-        18 => true,
-        19 => true,
+        NOT_END => true,
+        OR_OTHER => true,
+        OR_END => true,
         _ => false,
     }
 }
@@ -29,9 +35,9 @@ pub fn takes_place(o: u16) -> bool
     ensures { λ r. ⌜ r ≡ takes o ⌝ }
 {
     match o {
-        15 => true,
-        16 => true,
-        18 => true,
+        OR => true,
+        NOT => true,
+        OR_OTHER => true,
         _ => false,
     }
 }
@@ -48,7 +54,7 @@ pub fn place_by(o: u16, pc: usize, land: u16) -> u16
     requires { ⌜ pc < entries ⌝ }
     ensures { λ r. ⌜ r ≡ placeBy o pc land ⌝ }
 {
-    if o == 18 { (pc + 1) as u16 } else { land }
+    if o == OR_OTHER { (pc + 1) as u16 } else { land }
 }
 
 // Where a state stands that comes to this line, x being the last place kept.
@@ -57,8 +63,8 @@ pub fn land_by(o: u16, pc: usize, land: u16, x: u16) -> u16
     ensures { λ r. ⌜ r ≡ landAt o pc land x ⌝ }
 {
     match o {
-        18 => x,
-        19 => land,
+        OR_OTHER => x,
+        OR_END => land,
         _ => pc as u16,
     }
 }
@@ -92,7 +98,7 @@ pub fn counted(n: usize, o: u16) -> usize
     requires { ⌜ n < 1000 ⌝ }
     ensures { λ r. ⌜ r ≡ n + binding o ⌝ }
 {
-    if o == 3 { n + 1 } else { n }
+    if o == BIND { n + 1 } else { n }
 }
 
 // For each line up to the last the place where the next state stands, and how many variables there are.
@@ -108,7 +114,7 @@ pub fn link(last: usize, lines: &mut Lines) -> usize
     while 0 < pc {
         pc -= 1;
         let o = op_at(lines, pc);
-        if o < 15 {
+        if o < OR {
             put_to(lines, pc, land);
             land = pc as u16;
             n = counted(n, o);

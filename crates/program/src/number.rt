@@ -1,4 +1,9 @@
 // The numbers of the slots: each line that divides has one, and each line that is reserved after a tuple's. Those below 16 are the variables'.
+use tables::instruction::AND;
+use tables::instruction::JOIN;
+use tables::instruction::LIST_CONS;
+use tables::instruction::NOT;
+use tables::instruction::PAIR;
 use tables::line::Lines;
 use tables::line::op_at;
 use tables::line::put_arg;
@@ -15,17 +20,17 @@ const FIRST: u16 = 16;
 fn width(o: u16, left: u16) -> u16
     ensures { λ r. ⌜ r ≡ width o left ⌝ }
 {
-    if o < 8 {
+    if o < LIST_CONS {
         return left;
     }
-    if 16 < o {
+    if NOT < o {
         return left;
     }
-    if o < 11 {
+    if o < PAIR {
         return 1;
     }
-    if o < 14 {
-        return o - 10;
+    if o < AND {
+        return o - JOIN;
     }
     1
 }

@@ -10,17 +10,17 @@ use borrow.Author.Tests.{ne-eqb, lt-ltb, le-ltb}
 use lib.Dec.{eqb, ltb}
 use lib.ListN.{length}
 use lib.IntN.{ℤ, pos}
-use mir.Syntax.{w8, w64}
+use mir.Syntax.{w16, w64}
 use mir.Val.{Fits}
 use Rattle.words.specs.Words.{entries}
 use Rattle.program_parts.proofs.Laws.{operands-le}
 use Rattle.tables.specs.Line.{Columns, written}
 use Rattle.program_rules.specs.Lines.{line, reservedLine, reservedLines, operandsOf, argOf, conOf, leafLine, stripLines, elseLine, fiLine, cutLine, closeLine, elseLines, laid}
 
--- ---- One line, its instruction and its matcher as numbers of a line.
+-- ---- One line, its matcher as a number of a line.
 
-pub put-is : (t u : Columns) (pc o f a i o' i' : ℕ) (c c' : ℤ) → u ≡ written pc (line o' f a i' c') t → o' ≡ o → i' ≡ i → c' ≡ c → u ≡ written pc (line o f a i c) t
-put-is t u pc o f a i o' i' c c' h e g k = rw (← e, ← g, ← k) h
+pub put-is : (t u : Columns) (pc o f a i i' : ℕ) (c c' : ℤ) → u ≡ written pc (line o f a i' c') t → i' ≡ i → c' ≡ c → u ≡ written pc (line o f a i c) t
+put-is t u pc o f a i i' c c' h g k = rw (← g, ← k) h
 
 pub ruleset put-rules = (put-is, needs)
 
@@ -88,10 +88,10 @@ module _ (e pc : ℕ) (t₀ t : Columns) (q left : ℕ) (r : Reserving e pc t₀
 
 pub ruleset reserve-rules = (reserving-start, reserving-next, reserving-end, reserving-laid, reserving-low, reserving-fits, needs)
 
-pub divide-laid : (t u w : Columns) (pc e f o i : ℕ) → u ≡ written pc (line (o + e) f 0 i (pos 0)) t → w ≡ laid (pc + 1) (reservedLines e) u
+pub divide-laid : (t u w : Columns) (pc e e' f o i : ℕ) → u ≡ written pc (line (o + e') f 0 i (pos 0)) t → e' ≡ e → w ≡ laid (pc + 1) (reservedLines e) u
     → w ≡ laid pc (line (o + e) f 0 i (pos 0) ∷ reservedLines e) t
 unfolding laid
-divide-laid t u w pc e f o i h k = k ∙ rw (h, add-one pc)
+divide-laid t u w pc e e' f o i h d k = k ∙ rw (h, d, add-one pc)
 
 pub divide-place : (pc e r : ℕ) → r ≡ pc + 1 + e → r ≡ suc pc + e
 divide-place pc e r h = omega arith
@@ -102,10 +102,10 @@ divide-low pc e h = omega arith
 pub divide-room : (pc e : ℕ) → suc pc + e < entries → pc + 1 + e < entries
 divide-room pc e h = omega arith
 
-pub divide-byte : (o e : ℕ) → o + e < 256 → Fits w8 (o + e)
-divide-byte o e h = record { fits = omega arith }
+pub divide-fits : (o e e' : ℕ) → o + e < 256 → e' ≡ e → Fits w16 (o + e')
+divide-fits o e e' h d = record { fits = omega arith }
 
-pub ruleset divide-rules = (divide-laid, divide-place, divide-low, divide-room, divide-byte, needs)
+pub ruleset divide-rules = (divide-laid, divide-place, divide-low, divide-room, divide-fits, needs)
 
 pub strip-bare : (k o i pc : ℕ) → k ≡ 0 → pc ≡ pc + length (stripLines k o i)
 unfolding stripLines

@@ -1,5 +1,8 @@
 // The ends that wait, of ors and of the searches inside nots, and the line before the second side of an or.
 use super::put;
+use tables::instruction::NOT_END;
+use tables::instruction::OR_END;
+use tables::instruction::OR_OTHER;
 use tables::line::Lines;
 ghost use mathlib.Core.Path.{_≡_};
 ghost use Prim.Native.Nat.{suc, _+_, _<_, _≤_};
@@ -15,9 +18,9 @@ pub fn close_line(n: u8, c: u16, pc: usize, lines: &mut Lines)
     ensures { λ r. ⌜ columnsOf (now (lines .exit)) ≡ written pc (closeLine n c) (columnsOf (now (lines .entry))) ⌝ }
 {
     if n == 4 {
-        put(pc, 19, 0, 0, 0, 0, lines);
+        put(pc, OR_END, 0, 0, 0, 0, lines);
     } else {
-        put(pc, 17, c, 0, 0, 0, lines);
+        put(pc, NOT_END, c, 0, 0, 0, lines);
     }
 }
 
@@ -48,7 +51,7 @@ pub fn other(n: u8, pc: usize, lines: &mut Lines) -> usize
     ensures { λ r. ⌜ r ≡ pc + length (elseLines n) ⌝ ∗ ⌜ columnsOf (now (lines .exit)) ≡ laid pc (elseLines n) (columnsOf (now (lines .entry))) ⌝ }
 {
     if n == 3 {
-        put(pc, 18, 0, 0, 0, 0, lines);
+        put(pc, OR_OTHER, 0, 0, 0, 0, lines);
         return pc + 1;
     }
     pc

@@ -4,6 +4,8 @@ pub mod ends;
 use program_parts::tags::arg_of;
 use program_parts::tags::con_of;
 use program_parts::tags::operands;
+use tables::instruction::CONSTANT;
+use tables::instruction::SAME;
 use tables::line::Line;
 use tables::line::Lines;
 use tables::line::put_line;
@@ -24,12 +26,12 @@ fn half(x: u8) -> u16
 }
 
 // One line.
-pub fn put(pc: usize, o: u8, f: u16, a: u16, i: u8, c: i32, lines: &mut Lines)
+pub fn put(pc: usize, o: u16, f: u16, a: u16, i: u8, c: i32, lines: &mut Lines)
     requires { ⌜ pc < entries ⌝ }
     ensures { λ r. ⌜ columnsOf (now (lines .exit)) ≡ written pc (line o f a i c) (columnsOf (now (lines .entry))) ⌝ }
 {
     let l = Line {
-        op: half(o),
+        op: o,
         from: f,
         arg: a,
         mat: half(i),
@@ -39,22 +41,22 @@ pub fn put(pc: usize, o: u8, f: u16, a: u16, i: u8, c: i32, lines: &mut Lines)
 }
 
 // The same atom under something, where a wildcard or a variable is not there: the place after it.
-pub fn strip(k: u32, o: u8, i: u8, pc: usize, lines: &mut Lines) -> usize
+pub fn strip(k: u32, o: u16, i: u8, pc: usize, lines: &mut Lines) -> usize
     requires { ⌜ pc < entries ⌝ }
     ensures { λ r. ⌜ r ≡ pc + length (stripLines k o i) ⌝ ∗ ⌜ columnsOf (now (lines .exit)) ≡ laid pc (stripLines k o i) (columnsOf (now (lines .entry))) ⌝ }
 {
     if k == 0 {
         return pc;
     }
-    if o < 4 {
-        put(pc, 1, 0, 0, i, 0, lines);
+    if o < CONSTANT {
+        put(pc, SAME, 0, 0, i, 0, lines);
         return pc + 1;
     }
     pc
 }
 
 // The line of a tag without parts, whose operands are at an index.
-pub fn leaf_line(p: &[i32], at: usize, o: u8, i: u8, f: u16, pc: usize, lines: &mut Lines)
+pub fn leaf_line(p: &[i32], at: usize, o: u16, i: u8, f: u16, pc: usize, lines: &mut Lines)
     requires { do ⌜ at ≤ (← ⟦p.len()⟧) ⌝ ∗ ⌜ pc < entries ⌝ }
     ensures { λ r. ⌜ columnsOf (now (lines .exit)) ≡ written pc (leafLine o i f (drop at (now (p .entry)))) (columnsOf (now (lines .entry))) ⌝ }
 {
@@ -69,7 +71,7 @@ pub fn leaf(
     p: &[i32],
     at: usize,
     k: u32,
-    o: u8,
+    o: u16,
     i: u8,
     f: u16,
     pc: usize,
@@ -91,7 +93,7 @@ pub fn reserve(e: u8, pc: usize, lines: &mut Lines) -> usize
     let mut q = pc;
     let mut left = e;
     while 0 < left {
-        put(q, 1, 0, 0, 0, 0, lines);
+        put(q, SAME, 0, 0, 0, 0, lines);
         q += 1;
         left -= 1;
     }
@@ -99,10 +101,10 @@ pub fn reserve(e: u8, pc: usize, lines: &mut Lines) -> usize
 }
 
 // The line of a tag with parts, and those reserved after it: the place after them.
-pub fn divide(o: u8, e: u8, f: u16, i: u8, pc: usize, lines: &mut Lines) -> usize
+pub fn divide(o: u16, e: u8, f: u16, i: u8, pc: usize, lines: &mut Lines) -> usize
     requires { ⌜ suc pc + e < entries ⌝ ∗ ⌜ o + e < 256 ⌝ }
     ensures { λ r. ⌜ r ≡ suc pc + e ⌝ ∗ ⌜ columnsOf (now (lines .exit)) ≡ laid pc (line (o + e) f 0 i (pos 0) ∷ reservedLines e) (columnsOf (now (lines .entry))) ⌝ }
 {
-    put(pc, o + e, f, 0, i, 0, lines);
+    put(pc, o + half(e), f, 0, i, 0, lines);
     reserve(e, pc + 1, lines)
 }

@@ -2,6 +2,11 @@
 pub mod tags;
 
 use matchers::matcher_end;
+use tables::instruction::JOIN;
+use tables::instruction::NOT;
+use tables::instruction::OR;
+use tables::instruction::PAIR;
+use tables::instruction::QUADRUPLE;
 ghost use mathlib.Core.Path.{_≡_};
 ghost use mathlib.Core.Bool.{cond};
 ghost use Prim.Native.Nat.{_+_, _<_, _≤_};
@@ -28,54 +33,54 @@ pub fn end_of(m: &[i32], i: u8) -> u8
 }
 
 // The matcher of a first part.
-pub fn first_under(o: u8, i: u8) -> u8
+pub fn first_under(o: u16, i: u8) -> u8
     requires { ⌜ ((o ≡ 10 → ⊥) → o ≤ 13 → i + 2 < 256) ⌝ }
     ensures { λ r. ⌜ r ≡ firstUnder o i ⌝ }
 {
-    if 13 < o {
+    if QUADRUPLE < o {
         return i;
     }
-    if o == 10 {
+    if o == JOIN {
         return i;
     }
-    if o == 11 {
+    if o == PAIR {
         return i + 2;
     }
     i + 1
 }
 
 // The matcher of a second part.
-pub fn second_under(m: &[i32], o: u8, i: u8) -> u8
+pub fn second_under(m: &[i32], o: u16, i: u8) -> u8
     requires { do ⌜ (← ⟦m.len()⟧) ≤ 64 ⌝ ∗ ⌜ ((o ≡ 10 → ⊥) → o ≤ 13 → i + 2 < 256) ⌝ }
     ensures { λ r. ⌜ r ≡ secondUnder (now (m .entry)) o i ⌝ }
 {
-    if o == 11 {
+    if o == PAIR {
         return end_of(m, i + 2);
     }
     i
 }
 
 // The slot of the value for the atom after a not, f being that of what waits.
-pub fn from_by(o: u8, f: u16) -> u16
+pub fn from_by(o: u16, f: u16) -> u16
     ensures { λ r. ⌜ r ≡ cond (eqb o 16) f 0 ⌝ }
 {
-    if o == 16 { f } else { 0 }
+    if o == NOT { f } else { 0 }
 }
 
 // The slot and the number of what waits after a tag with parts, e places being reserved.
-pub fn slot_by(o: u8, pc: usize, f: u16) -> u16
+pub fn slot_by(o: u16, pc: usize, f: u16) -> u16
     requires { ⌜ pc < 1000 ⌝ }
     ensures { λ r. ⌜ r ≡ cond (eqb o 15) f pc ⌝ }
 {
-    if o == 15 { f } else { pc as u16 }
+    if o == OR { f } else { pc as u16 }
 }
 
-pub fn behind_by(o: u8, e: u8) -> u8
+pub fn behind_by(o: u16, e: u8) -> u8
     ensures { λ r. ⌜ r ≡ behindBy o e ⌝ }
 {
     match o {
-        15 => 3,
-        16 => 5,
+        OR => 3,
+        NOT => 5,
         _ => e,
     }
 }

@@ -1,4 +1,18 @@
 // What a pattern's tag becomes: its instruction, its operands and the places reserved after its line.
+use tables::instruction::AND;
+use tables::instruction::BIND;
+use tables::instruction::CONSTANT;
+use tables::instruction::DROP;
+use tables::instruction::END;
+use tables::instruction::EQUAL;
+use tables::instruction::JOIN;
+use tables::instruction::LIST_CONS;
+use tables::instruction::MULTISET_CONS;
+use tables::instruction::NIL;
+use tables::instruction::NOT;
+use tables::instruction::OR;
+use tables::instruction::PAIR;
+use tables::instruction::SUM;
 use words::tag_at;
 ghost use mathlib.Core.Path.{_≡_};
 ghost use Prim.Native.Nat.{_+_, _%_, _<_, _≤_};
@@ -7,40 +21,40 @@ ghost use lib.IntN.{pos};
 ghost use Rattle.program_rules.specs.Lines.{opOf, operandsOf, beyondTwo, reservedBy, argOf, conOf};
 
 // The instruction of a pattern's tag under a matcher's.
-pub fn op_of(t: u32, k: u32) -> u8
+pub fn op_of(t: u32, k: u32) -> u16
     ensures { λ r. ⌜ r ≡ opOf t k ⌝ }
 {
     match t {
-        0 => 2,
-        1 => 3,
-        2 => 4,
-        3 => { if k == 1 { 5 } else { 6 } }
-        4 => 7,
+        0 => DROP,
+        1 => BIND,
+        2 => CONSTANT,
+        3 => { if k == 1 { SUM } else { EQUAL } }
+        4 => NIL,
         5 => match k {
-            2 => 8,
-            3 => 9,
-            _ => 0,
+            2 => LIST_CONS,
+            3 => MULTISET_CONS,
+            _ => END,
         },
-        6 => 10,
-        7 => { if k == 4 { 11 } else { 0 } }
-        8 => 14,
-        9 => 15,
-        10 => 16,
-        _ => 0,
+        6 => JOIN,
+        7 => { if k == 4 { PAIR } else { END } }
+        8 => AND,
+        9 => OR,
+        10 => NOT,
+        _ => END,
     }
 }
 
 // How many operands follow its tag.
-pub fn operands(o: u8) -> usize
+pub fn operands(o: u16) -> usize
     ensures { λ r. ⌜ r ≡ operandsOf o ⌝ }
 {
-    if o == 11 {
+    if o == PAIR {
         return 1;
     }
     match o {
-        0..=2 => 0,
-        3..=4 => 1,
-        5..=6 => 2,
+        END..=DROP => 0,
+        BIND..=CONSTANT => 1,
+        SUM..=EQUAL => 2,
         _ => 0,
     }
 }
@@ -57,10 +71,10 @@ pub fn beyond_two(k: u32) -> u8
 }
 
 // How many places are reserved after the line of a tag with parts, whose operand is at an index.
-pub fn reserved(p: &[i32], at: usize, o: u8) -> u8
+pub fn reserved(p: &[i32], at: usize, o: u16) -> u8
     ensures { λ r. ⌜ r ≡ reservedBy o (drop at (now (p .entry))) ⌝ }
 {
-    if o == 11 {
+    if o == PAIR {
         let k = tag_at(p, at);
         return beyond_two(k);
     }

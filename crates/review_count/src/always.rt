@@ -1,4 +1,8 @@
 // Document 02, No. 5: whether everybody passes a rule, told by the lines of its program.
+use tables::instruction::CONSTANT;
+use tables::instruction::END;
+use tables::instruction::MULTISET_CONS;
+use tables::instruction::NOT;
 use tables::line::Lines;
 use tables::line::op_at;
 use words::ENTRIES;
@@ -12,8 +16,8 @@ fn line_fails(o: u16) -> bool
     ensures { λ r. ⌜ r ≡ lineFails o ⌝ }
 {
     match o {
-        4..=9 => true,
-        16 => true,
+        CONSTANT..=MULTISET_CONS => true,
+        NOT => true,
         _ => false,
     }
 }
@@ -28,7 +32,7 @@ pub fn always_true(lines: &Lines) -> bool
             break true;
         }
         let o = op_at(lines, pc);
-        if o == 0 {
+        if o == END {
             break true;
         }
         if line_fails(o) {

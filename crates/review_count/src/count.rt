@@ -1,4 +1,16 @@
 // Review's count, from the lines of a rule's program.
+use tables::instruction::DROP;
+use tables::instruction::END;
+use tables::instruction::JOIN;
+use tables::instruction::LIST_CONS;
+use tables::instruction::MULTISET_CONS;
+use tables::instruction::NIL;
+use tables::instruction::NOT_END;
+use tables::instruction::OR_END;
+use tables::instruction::OR_OTHER;
+use tables::instruction::QUADRUPLE;
+use tables::instruction::SAME;
+use tables::instruction::TRIPLE;
 use tables::line::Lines;
 use tables::line::op_at;
 use words::ENTRIES;
@@ -30,8 +42,8 @@ fn step(o: u16, earlier: u64) -> u64
     ensures { λ r. ⌜ r ≡ stepOf o earlier ⌝ }
 {
     match o {
-        18 => 0,
-        19 => 0,
+        OR_OTHER => 0,
+        OR_END => 0,
         _ => earlier,
     }
 }
@@ -50,8 +62,8 @@ fn factor(o: u16, taken: u16, cap: u64) -> u64
     ensures { λ r. ⌜ r ≡ factorOf cap taken o ⌝ }
 {
     match o {
-        9 => left(taken, cap),
-        10 => cap + 1,
+        MULTISET_CONS => left(taken, cap),
+        JOIN => cap + 1,
         _ => 1,
     }
 }
@@ -62,9 +74,9 @@ fn product(o: u16, earlier: u64, taken: u16, last: u64, cap: u64) -> u64
     ensures { λ r. ⌜ r ≡ nextOf cap o earlier taken last ⌝ }
 {
     match o {
-        17 => last,
-        18 => last,
-        19 => last + earlier,
+        NOT_END => last,
+        OR_OTHER => last,
+        OR_END => last + earlier,
         _ => earlier * factor(o, taken, cap),
     }
 }
@@ -74,8 +86,8 @@ fn reserved_after(o: u16) -> u8
     ensures { λ r. ⌜ r ≡ reservedAfter o ⌝ }
 {
     match o {
-        12 => 1,
-        13 => 2,
+        TRIPLE => 1,
+        QUADRUPLE => 2,
         _ => 0,
     }
 }
@@ -85,12 +97,12 @@ fn turn_of(o: u16) -> Turn
     ensures { λ r. ⌜ r ≡ turnOf o ⌝ }
 {
     match o {
-        0..=1 => Turn::Stay,
-        2..=7 => Turn::Take,
-        8..=9 => Turn::Rest,
-        10..=13 => Turn::Anew,
-        17 => Turn::Take,
-        19 => Turn::Take,
+        END..=SAME => Turn::Stay,
+        DROP..=NIL => Turn::Take,
+        LIST_CONS..=MULTISET_CONS => Turn::Rest,
+        JOIN..=QUADRUPLE => Turn::Anew,
+        NOT_END => Turn::Take,
+        OR_END => Turn::Take,
         _ => Turn::Same,
     }
 }
@@ -201,7 +213,7 @@ pub fn tallied(lines: &Lines, cap: u64) -> Tally
             if 4294967295 < total {
                 return Tally::TooBig;
             }
-            if o == 0 {
+            if o == END {
                 return Tally::Count(total, earlier);
             }
             let t = turn_of(o);

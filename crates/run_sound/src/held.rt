@@ -1,5 +1,10 @@
 // Whether numbers are those of a held value, and of an open choice.
-use value_rows::Binding;
+use tables::instruction::AND;
+use tables::instruction::JOIN;
+use tables::instruction::LIST_CONS;
+use tables::instruction::NOT;
+use value_rows::Bindings;
+use value_rows::VARIABLES;
 use words::ENTRIES;
 use words::marks::one;
 use words::tag_at;
@@ -46,11 +51,11 @@ pub fn is_held(s: &[i32], at: usize, m: u64) -> bool
 }
 
 // Whether each variable is bound to a held value.
-pub fn are_bound(s: &[i32], b: [Binding; 16]) -> bool
+pub fn are_bound(s: &[i32], b: Bindings) -> bool
     ensures { λ r. ⌜ Decides r (Bound (now (s .entry)) b 16) ⌝ }
 {
     let mut v: usize = 0;
-    while v < 16 {
+    while v < VARIABLES {
         let x = b[v];
         if !is_held(s, x.at, x.marks) {
             return false;
@@ -67,19 +72,19 @@ pub fn is_frame(o: u16, s: &[i32], j: usize, at: usize, m: u64, c: u64) -> bool
     if ENTRIES <= j {
         return false;
     }
-    if o < 8 {
+    if o < LIST_CONS {
         return false;
     }
-    if 16 < o {
+    if NOT < o {
         return false;
     }
-    if 10 < o {
-        return 14 < o;
+    if JOIN < o {
+        return AND < o;
     }
     if !is_held(s, at, m) {
         return false;
     }
-    if o == 10 {
+    if o == JOIN {
         return c <= m;
     }
     if c == 0 {

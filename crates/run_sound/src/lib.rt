@@ -9,7 +9,7 @@ use lines::is_open;
 use search_step::State;
 use tables::line::Lines;
 use tables::slot::Slots;
-use value_rows::Binding;
+use value_rows::Bindings;
 use words::ENTRIES;
 ghost use mathlib.Core.Path.{_≡_};
 ghost use Rattle.tables.specs.Line.{columnsOf};
@@ -18,14 +18,7 @@ ghost use Rattle.run_sound.specs.Tested.{Decides};
 ghost use Rattle.run_sound.specs.Sound.{Numbered, Closes, Sound};
 
 // Of a run in which a state stands, over a room of some words.
-pub fn is_sound(
-    x: State,
-    b: [Binding; 16],
-    room: usize,
-    s: &[i32],
-    lines: &Lines,
-    slots: &Slots,
-) -> bool
+pub fn is_sound(x: State, b: Bindings, room: usize, s: &[i32], lines: &Lines, slots: &Slots) -> bool
     requires { ⌜ Numbered (columnsOf (now lines) .arg) (now slots) ⌝ ∗ ⌜ Closes (columnsOf (now lines) .op) (columnsOf (now lines) .arg) ⌝ }
     ensures { λ r. ⌜ Decides r (Sound (columnsOf (now (lines .entry)) .op) (now (s .entry)) (viewOf (columnsOf (now (lines .entry)) .arg) (now (slots .entry))) x b room) ⌝ }
 {

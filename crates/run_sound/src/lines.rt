@@ -1,6 +1,7 @@
 // Whether what waits in the slots of a program's lines is held, and whether the frames that they name can be chosen from.
 use crate::held::is_frame;
 use crate::held::is_held;
+use tables::instruction::END;
 use tables::line::Lines;
 use tables::line::op_at;
 use tables::slot::Slots;
@@ -52,7 +53,7 @@ fn is_end(lines: &Lines, j: usize) -> bool
     requires { ⌜ j < entries ⌝ }
     ensures { λ r. ⌜ Decides r (getD (columnsOf (now (lines .entry)) .op) j 0 ≡ 0) ⌝ }
 {
-    op_at(lines, j) == 0
+    op_at(lines, j) == END
 }
 
 // The lines up to the end, and the last one, which stands for all after the end.

@@ -7,7 +7,15 @@ use asking::is_sum_at;
 use asking::value_of;
 use search_choice::settle;
 use search_step::Asked;
+use search_step::ENDED;
+use search_step::FULL;
+use search_step::STANDS;
 use search_step::State;
+use tables::instruction::BIND;
+use tables::instruction::DROP;
+use tables::instruction::END;
+use tables::instruction::NIL;
+use tables::instruction::SUM;
 use tables::line::Lines;
 use tables::line::arg_at;
 use tables::line::op_at;
@@ -22,6 +30,8 @@ use taking::wrote;
 use value_places::places::places_of;
 use value_places::places::whole;
 use value_rows::Binding;
+use value_rows::Bindings;
+use value_rows::VARIABLES;
 use value_rows::put_entry;
 ghost use mathlib.Core.Path.{_≡_};
 ghost use Prim.Native.Nat.{_-_, _<_};
@@ -45,7 +55,7 @@ pub struct Terms {
 // How far a run is: its state and its bindings. What waits stands in its slots.
 pub struct Progress {
     pub state: State,
-    pub binds: [Binding; 16],
+    pub binds: Bindings,
 }
 
 // The run, from where it is: states are taken up while the budget lasts, and the next choice is taken wherever no state stands.
@@ -67,21 +77,21 @@ pub fn advance(
     while goes_on(x, terms.budget) {
         let o = op_at(lines, x.pc);
         let mut same = false;
-        if 2 < o {
-            if o == 5 {
+        if DROP < o {
+            if o == SUM {
                 let v = arg_at(lines, x.pc);
                 same = is_sum_at(x, b[v], s, lines);
-            } else if o < 5 {
-                if o == 3 {
+            } else if o < SUM {
+                if o == BIND {
                     let v = arg_at(lines, x.pc);
                     b[v] = value_of(x);
                 }
-            } else if o < 7 {
+            } else if o < NIL {
                 let v = arg_at(lines, x.pc);
                 same = is_equal_at(x, b[v], mt, s, places, lines);
             }
         }
-        if o == 0 {
+        if o == END {
             let mut e = x.words;
             if is_short(terms, b, room.len() - e, s, places) {
                 x = filled(x);
@@ -112,12 +122,12 @@ pub fn open(s: &[i32]) -> Progress
         at: 0,
         marks: whole(s, 0),
         top: 0,
-        live: 1,
+        live: STANDS,
         rows: 0,
         steps: 0,
         words: 0,
     };
-    let none = [Binding { at: 0, marks: 0 }; 16];
+    let none = [Binding { at: 0, marks: 0 }; VARIABLES];
     Progress {
         state: first,
         binds: none,
@@ -131,17 +141,22 @@ pub struct Report {
     pub words: usize,
 }
 
-// The answer: 8 full, 0 done, 7 budget.
+const DONE: u32 = 0;
+
+const OUT_OF_BUDGET: u32 = 7;
+
+const OUT_OF_ROOM: u32 = 8;
+
 fn answer_of(live: u64) -> u32
     ensures { λ r. ⌜ r ≡ answerOf live ⌝ }
 {
-    if live == 3 {
-        return 8;
+    if live == FULL {
+        return OUT_OF_ROOM;
     }
-    if live == 0 {
-        return 0;
+    if live == ENDED {
+        return DONE;
     }
-    7
+    OUT_OF_BUDGET
 }
 
 // What a run tells where it stands.

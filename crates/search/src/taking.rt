@@ -1,8 +1,11 @@
 // Document 01, section 4: whether a state is taken up; one with no atom left, whose row is written or does not fit.
 use crate::Terms;
+use search_step::CHOOSES;
+use search_step::FULL;
+use search_step::STANDS;
 use search_step::State;
 use tables::place::Places;
-use value_rows::Binding;
+use value_rows::Bindings;
 use value_rows::row_size;
 ghost use mathlib.Core.Path.{_≡_};
 ghost use Prim.Native.Nat.{_+_, _^_, _<_};
@@ -18,14 +21,14 @@ ghost use Rattle.search.specs.Valid.{Given};
 pub fn goes_on(x: State, budget: u64) -> bool
     ensures { λ r. ⌜ r ≡ goesOn x budget ⌝ }
 {
-    if x.live == 1 {
+    if x.live == STANDS {
         return x.steps < budget;
     }
     false
 }
 
 // Whether a row does not fit into the words that are free. Its size is asked only where it could be so: no value has more words than the target.
-pub fn is_short(terms: Terms, b: [Binding; 16], free: usize, s: &[i32], places: &Places) -> bool
+pub fn is_short(terms: Terms, b: Bindings, free: usize, s: &[i32], places: &Places) -> bool
     requires { ⌜ Given (now s) (now places) ⌝ ∗ ⌜ Bound (now s) b (terms .vars) ⌝ ∗ ⌜ 0 < length (now s) ⌝ }
     ensures { λ r. ⌜ r ≡ ltb free (length (row (formBy (terms .origins)) (bound (now (s .entry)) b (terms .vars)))) ⌝ }
 {
@@ -51,7 +54,7 @@ pub fn filled(x: State) -> State
     requires { ⌜ x .steps + 1 < 2 ^ 64 ⌝ }
     ensures { λ r. ⌜ r ≡ filled x ⌝ }
 {
-    ended(x, 3)
+    ended(x, FULL)
 }
 
 // Its row is written, up to a word of the room.
@@ -61,5 +64,5 @@ pub fn wrote(mut x: State, end: usize) -> State
 {
     x.words = end;
     x.rows = x.rows + 1;
-    ended(x, 2)
+    ended(x, CHOOSES)
 }

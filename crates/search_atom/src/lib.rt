@@ -1,6 +1,13 @@
 // Leaves of a step: what the first atom's test says, and the choices of a cons or a join.
 pub mod tuples;
 
+use tables::instruction::CONSTANT;
+use tables::instruction::EQUAL;
+use tables::instruction::JOIN;
+use tables::instruction::LIST_CONS;
+use tables::instruction::NIL;
+use tables::instruction::OR;
+use tables::instruction::SUM;
 use tables::line::Lines;
 use tables::line::con_at;
 use tables::line::from_at;
@@ -35,16 +42,16 @@ pub fn passes(o: u16, q: bool, s: &[i32], at: usize, m: u64, lines: &Lines, pc: 
     requires { ⌜ at + 1 < length (now s) ⌝ ∗ ⌜ pc < entries ⌝ ∗ ⌜ pc < length (columnsOf (now lines) .con) ⌝ }
     ensures { λ r. ⌜ r ≡ passesOf o q (now (s .entry)) at m (getD (columnsOf (now (lines .entry)) .con) pc (pos 0)) ⌝ }
 {
-    if o == 4 {
+    if o == CONSTANT {
         return is_constant(s, at, lines, pc);
     }
-    if o == 5 {
+    if o == SUM {
         return q;
     }
-    if o == 6 {
+    if o == EQUAL {
         return q;
     }
-    if o == 7 {
+    if o == NIL {
         return m == 0;
     }
     true
@@ -54,7 +61,7 @@ pub fn passes(o: u16, q: bool, s: &[i32], at: usize, m: u64, lines: &Lines, pc: 
 pub fn nothing(o: u16, m: u64) -> bool
     ensures { λ r. ⌜ r ≡ noneOf o m ⌝ }
 {
-    if o == 10 {
+    if o == JOIN {
         return false;
     }
     m == 0
@@ -65,10 +72,10 @@ pub fn opens(o: u16, m: u64) -> u64
     requires { ⌜ noneOf o m ≡ false ⌝ }
     ensures { λ r. ⌜ r ≡ opensOf o m ⌝ }
 {
-    if o == 10 {
+    if o == JOIN {
         return 0;
     }
-    if o == 8 {
+    if o == LIST_CONS {
         let k = lowest(m);
         return one(k);
     }
@@ -104,7 +111,7 @@ pub fn slot_of(o: u16, j: usize, lines: &Lines) -> usize
     requires { ⌜ j < entries ⌝ }
     ensures { λ r. ⌜ r ≡ slotBy o j (columnsOf (now (lines .entry)) .from) ⌝ }
 {
-    if o == 15 {
+    if o == OR {
         return j;
     }
     from_at(lines, j)

@@ -1,4 +1,5 @@
 // A tuple's parts: the first is next, the others wait in slots.
+use tables::instruction::JOIN;
 use tables::line::Lines;
 use tables::place::Places;
 use tables::slot::Held;
@@ -20,7 +21,7 @@ pub fn later(o: u16) -> usize
     requires { ⌜ 10 < o ⌝ }
     ensures { λ r. ⌜ r ≡ o - 10 ⌝ }
 {
-    let n = o - 10;
+    let n = o - JOIN;
     n as usize
 }
 

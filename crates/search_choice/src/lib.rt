@@ -2,7 +2,12 @@
 use search_atom::leave;
 use search_atom::longer_front;
 use search_atom::slot_of;
+use search_step::CHOOSES;
+use search_step::ENDED;
+use search_step::STANDS;
 use search_step::State;
+use tables::instruction::JOIN;
+use tables::instruction::MULTISET_CONS;
 use tables::line::Lines;
 use tables::line::op_at;
 use tables::line::to_at;
@@ -39,7 +44,7 @@ fn join(mut x: State, pc: usize, lines: &Lines, slots: &mut Slots) -> State
     x.pc = pc + 1;
     x.at = f.at;
     x.marks = c;
-    x.live = 1;
+    x.live = STANDS;
     let more = longer_front(c, b);
     let top = x.top;
     x.top = leave(top, more, pc, lines, slots);
@@ -70,7 +75,7 @@ fn cons(
     x.pc = pc + 1;
     x.at = e;
     x.marks = a;
-    x.live = 1;
+    x.live = STANDS;
     let more = rest(c);
     let top = x.top;
     x.top = leave(top, more, pc, lines, slots);
@@ -88,7 +93,7 @@ fn resume(mut x: State, o: u16, pc: usize, lines: &Lines, slots: &Slots) -> Stat
     x.at = h.at;
     x.marks = h.marks;
     x.top = low_at(slots, lines, pc);
-    x.live = 1;
+    x.live = STANDS;
     x
 }
 
@@ -99,13 +104,13 @@ pub fn pick(mut x: State, s: &[i32], places: &Places, lines: &Lines, slots: &mut
 {
     let top = x.top;
     if top == 0 {
-        x.live = 0;
+        x.live = ENDED;
         return x;
     }
     let pc = top - 1;
     let o = op_at(lines, pc);
-    if 9 < o {
-        if o == 10 {
+    if MULTISET_CONS < o {
+        if o == JOIN {
             return join(x, pc, lines, slots);
         }
         return resume(x, o, pc, lines, slots);
@@ -119,7 +124,7 @@ pub fn settle(x: State, s: &[i32], places: &Places, lines: &Lines, slots: &mut S
     ensures { λ r. ⌜ turned r (viewOf (columnsOf (now (lines .entry)) .arg) (now (slots .exit))) ≡ settleOf (columnsOf (now (lines .entry)) .op) (columnsOf (now (lines .entry)) .from) (columnsOf (now (lines .entry)) .to) (now (s .entry)) x (viewOf (columnsOf (now (lines .entry)) .arg) (now (slots .entry))) ⌝ }
 {
     let live = x.live;
-    if live == 2 {
+    if live == CHOOSES {
         return pick(x, s, places, lines, slots);
     }
     x

@@ -7,6 +7,11 @@ use search_atom::passes;
 use search_atom::tuples::is_wide;
 use search_atom::tuples::keep;
 use search_atom::tuples::later;
+use tables::instruction::AND;
+use tables::instruction::JOIN;
+use tables::instruction::LIST_CONS;
+use tables::instruction::NIL;
+use tables::instruction::SAME;
 use tables::line::Lines;
 use tables::line::from_at;
 use tables::line::op_at;
@@ -33,8 +38,16 @@ ghost use Rattle.value_places.specs.Tables.{Placed};
 ghost use Rattle.value_places.specs.Held.{Held};
 ghost use Rattle.search_step.specs.Steps.{turned, dropped, pushed, pushedIn, splitOf, headOf, apartOf, divideOf, stepOf, Steps, Divides, Aparts};
 
-// live: 0 no state is left, 1 the state at pc, 2 the next state is the next choice of the last open frame, 3 a row did not fit. `at` and `marks` are the
-// value of the first atom, `top` the last open frame (0: none, j + 1: at j), `words` how many words are written.
+// How a run goes on, `live`: no state is left; the state at pc stands; the next state is the next choice of the last open frame; a row did not fit.
+pub const ENDED: u64 = 0;
+
+pub const STANDS: u64 = 1;
+
+pub const CHOOSES: u64 = 2;
+
+pub const FULL: u64 = 3;
+
+// `at` and `marks` are the value of the first atom, `top` the last open frame (0: none, j + 1: at j), `words` how many words are written.
 pub struct State {
     pub pc: usize,
     pub at: usize,
@@ -63,7 +76,7 @@ impl State {
         self.pc = to_at(lines, pc);
         self.at = h.at;
         self.marks = h.marks;
-        self.live = 1;
+        self.live = STANDS;
         self
     }
 
@@ -81,7 +94,7 @@ impl State {
         };
         put_frame(slots, lines, pc, f, top);
         self.top = pc + 1;
-        self.live = 2;
+        self.live = CHOOSES;
         self
     }
 
@@ -93,7 +106,7 @@ impl State {
         let m = self.marks;
         let no = nothing(o, m);
         if no {
-            self.live = 2;
+            self.live = CHOOSES;
             return self;
         }
         let c = opens(o, m);
@@ -107,7 +120,7 @@ impl State {
     {
         let m = self.marks;
         if m == 0 {
-            self.live = 2;
+            self.live = CHOOSES;
             return self;
         }
         let pc = self.pc;
@@ -124,7 +137,7 @@ impl State {
         self.pc = pc + 1;
         self.at = e;
         self.marks = whole(s, e);
-        self.live = 1;
+        self.live = STANDS;
         self
     }
 
@@ -150,10 +163,10 @@ impl State {
             self.pc = from + n;
             self.at = first;
             self.marks = whole(s, first);
-            self.live = 1;
+            self.live = STANDS;
             return self;
         }
-        self.live = 2;
+        self.live = CHOOSES;
         self
     }
 
@@ -162,13 +175,13 @@ impl State {
         requires { ⌜ Target (now s) ⌝ ∗ ⌜ Placed (now s) (now places) ⌝ ∗ ⌜ Divides (now s) o (columnsOf (now lines) .from) (columnsOf (now lines) .arg) (now slots) self ⌝ }
         ensures { λ r. ⌜ turned r (viewOf (columnsOf (now (lines .entry)) .arg) (now (slots .exit))) ≡ divideOf (now (s .entry)) o (columnsOf (now (lines .entry)) .from) self (viewOf (columnsOf (now (lines .entry)) .arg) (now (slots .entry))) ⌝ }
     {
-        if 10 < o {
-            if o < 14 {
+        if JOIN < o {
+            if o < AND {
                 return self.apart(o, s, places, lines, slots);
             }
             return self.sides(o, lines, slots);
         }
-        if o == 8 {
+        if o == LIST_CONS {
             return self.head(s, places, lines, slots);
         }
         self.split(o, lines, slots)
@@ -189,12 +202,12 @@ impl State {
         let pc = self.pc;
         let o = op_at(lines, pc);
         self.steps = self.steps + 1;
-        if o == 1 {
+        if o == SAME {
             self.pc = pc + 1;
-            self.live = 1;
+            self.live = STANDS;
             return self;
         }
-        if 7 < o {
+        if NIL < o {
             return self.divide(o, s, places, lines, slots);
         }
         let at = self.at;
@@ -203,7 +216,7 @@ impl State {
         if ok {
             return self.drop(lines, slots);
         }
-        self.live = 2;
+        self.live = CHOOSES;
         self
     }
 }

@@ -1,5 +1,9 @@
 // And, or, not: a value that waits for both, a frame for the second side or for what follows the not, and the end of the search inside a not.
+use super::CHOOSES;
+use super::STANDS;
 use super::State;
+use tables::instruction::AND;
+use tables::instruction::NOT_END;
 use tables::line::Lines;
 use tables::line::from_at;
 use tables::slot::Held;
@@ -28,7 +32,7 @@ impl State {
         };
         put_held(slots, lines, pc, h);
         self.pc = pc + 1;
-        self.live = 1;
+        self.live = STANDS;
         self
     }
 
@@ -46,7 +50,7 @@ impl State {
         put_side(slots, lines, pc, h, top);
         self.pc = pc + 1;
         self.top = pc + 1;
-        self.live = 1;
+        self.live = STANDS;
         self
     }
 
@@ -58,7 +62,7 @@ impl State {
         let pc = self.pc;
         let j = from_at(lines, pc);
         self.top = low_at(slots, lines, j);
-        self.live = 2;
+        self.live = CHOOSES;
         self
     }
 
@@ -67,16 +71,16 @@ impl State {
         requires { ⌜ Sides o (columnsOf (now lines) .from) (columnsOf (now lines) .arg) (now slots) self ⌝ }
         ensures { λ r. ⌜ turned r (viewOf (columnsOf (now (lines .entry)) .arg) (now (slots .exit))) ≡ sidesOf o (columnsOf (now (lines .entry)) .from) self (viewOf (columnsOf (now (lines .entry)) .arg) (now (slots .entry))) ⌝ }
     {
-        if o == 14 {
+        if o == AND {
             return self.both(lines, slots);
         }
-        if o < 17 {
+        if o < NOT_END {
             return self.frame(lines, slots);
         }
-        if o == 17 {
+        if o == NOT_END {
             return self.cut(lines, slots);
         }
-        self.live = 2;
+        self.live = CHOOSES;
         self
     }
 }

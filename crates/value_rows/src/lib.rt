@@ -23,11 +23,16 @@ ghost use Rattle.value_places.specs.Tables.{Placed};
 ghost use Rattle.value_places.specs.Held.{Held, heldAt, sizeLeft, wordsLeft, put, part};
 ghost use Rattle.value_rows.specs.Row.{formBy, toldAt, bound, Bound};
 
+// The most variables of a rule.
+pub const VARIABLES: usize = 16;
+
 // What a variable is bound to: the index of a tag in the target, and marks.
 pub struct Binding {
     pub at: usize,
     pub marks: u64,
 }
+
+pub type Bindings = [Binding; VARIABLES];
 
 // How many words the value at an index has.
 fn size_at(s: &[i32], places: &Places, at: usize) -> usize
@@ -165,7 +170,7 @@ pub fn put_entry(
 }
 
 // How many words the row has in form 1, of which n variables are bound.
-fn words_size(s: &[i32], places: &Places, b: [Binding; 16], n: usize) -> usize
+fn words_size(s: &[i32], places: &Places, b: Bindings, n: usize) -> usize
     requires { ⌜ Target (now s) ⌝ ∗ ⌜ Placed (now s) (now places) ⌝ ∗ ⌜ Bound (now s) b n ⌝ }
     ensures { λ r. ⌜ r ≡ length (row asWords (bound (now (s .entry)) b n)) ⌝ }
 {
@@ -182,7 +187,7 @@ fn words_size(s: &[i32], places: &Places, b: [Binding; 16], n: usize) -> usize
 }
 
 // How many words the row has of which n variables are bound; in form 2 three for each.
-pub fn row_size(origins: bool, s: &[i32], places: &Places, b: [Binding; 16], n: usize) -> usize
+pub fn row_size(origins: bool, s: &[i32], places: &Places, b: Bindings, n: usize) -> usize
     requires { ⌜ Target (now s) ⌝ ∗ ⌜ Placed (now s) (now places) ⌝ ∗ ⌜ Bound (now s) b n ⌝ }
     ensures { λ r. ⌜ r ≡ length (row (formBy origins) (bound (now (s .entry)) b n)) ⌝ }
 {

@@ -7,8 +7,9 @@ pub divide-spec : {M : Type 1} → statement M
 divide-spec =
     tie.close
     (tie.spec
-    (λ c. search divide-rules)
-    (λ c κs. search divide-rules)
-    (λ c. search divide-rules)
-    (λ c κs. search divide-rules)
-    (λ c. search divide-rules))
+    (λ c κs. search divide-rules)  -- half-requires
+    (λ c. search divide-rules)  -- add-put
+    (λ c κs. search divide-rules)  -- put-requires
+    (λ c. search divide-rules)  -- add-reserve
+    (λ c κs. search divide-rules)  -- reserve-requires
+    (λ c. search divide-rules))  -- returns

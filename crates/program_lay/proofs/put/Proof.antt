@@ -9,5 +9,4 @@ put-spec =
     (tie.spec
     (λ c κs. search put-rules)
     (λ c κs. search put-rules)
-    (λ c κs. search put-rules)
     (λ c. search put-rules))
