@@ -48,6 +48,7 @@ pub const CHOOSES: u64 = 2;
 pub const FULL: u64 = 3;
 
 // `at` and `marks` are the value of the first atom, `top` the last open frame (0: none, j + 1: at j), `words` how many words are written.
+#[repr(C)]
 pub struct State {
     pub pc: usize,
     pub at: usize,

@@ -35,12 +35,12 @@ use Rattle.services.specs.declared.matching.Matched.{Matched}
 
 -- ---- What a judgement says.
 
-was-accepted : {A : Type 0} (j : Judged A) (x : Judgement) → x ≡ judgement j → x ≡ Accepted → (a : A) × (j ≡ accepted a)
+pub was-accepted : {A : Type 0} (j : Judged A) (x : Judgement) → x ≡ judgement j → x ≡ Accepted → (a : A) × (j ≡ accepted a)
 unfolding judgement
 was-accepted (accepted a) x p q = (a, refl)
 was-accepted (refused a i) x p q = let z : _≡_ {A = ℕ} 0 1 = cc in absurd (omega arith)
 
-was-refused : {A : Type 0} (j : Judged A) (x : Judgement) (a i : ℕ) → x ≡ judgement j → x ≡ Refused a i → j ≡ refused a i
+pub was-refused : {A : Type 0} (j : Judged A) (x : Judgement) (a i : ℕ) → x ≡ judgement j → x ≡ Refused a i → j ≡ refused a i
 unfolding judgement
 was-refused (accepted b) x a i p q = let z : _≡_ {A = ℕ} 0 1 = cc in absurd (omega arith)
 was-refused (refused b k) x a i p q = let e : a ≡ b = cc in let f : i ≡ k = cc in rw (e, f)
@@ -50,7 +50,7 @@ unfolding targetJudgement
 target-accepted ts (accepted v) x p q = (v, refl)
 target-accepted ts (refused a i) x p q = let z : _≡_ {A = ℕ} 0 1 = cc in absurd (omega arith)
 
-target-refused : (ts : List ℤ) (j : Judged Value) (x : TargetJudgement) (a i c : ℕ) → x ≡ targetJudgement ts j → x ≡ targets.Refused a i c
+pub target-refused : (ts : List ℤ) (j : Judged Value) (x : TargetJudgement) (a i c : ℕ) → x ≡ targetJudgement ts j → x ≡ targets.Refused a i c
     → (j ≡ refused a i) × (c ≡ causeIn a ts)
 unfolding targetJudgement
 target-refused ts (accepted v) x a i c p q = let z : _≡_ {A = ℕ} 0 1 = cc in absurd (omega arith)
@@ -61,7 +61,7 @@ target-refused ts (refused b k) x a i c p q =
     (rw (e, f), g ∙ ap (λ n. causeIn n ts) e)
 
 -- The tests 5 and 6 are those under the rule's matcher.
-under : (ms ps ts : List ℤ) (r : Rule) → ruleOf ms ps ≡ accepted r → targetUnder ms ts ≡ targetOf (r .matcher) ts
+pub under : (ms ps ts : List ℤ) (r : Rule) → ruleOf ms ps ≡ accepted r → targetUnder ms ts ≡ targetOf (r .matcher) ts
 unfolding targetUnder test
 under ms ps ts r e = let m = rule-accepted ms ps r .0 e .matcher in rw m
 

@@ -27,6 +27,7 @@ ghost use Rattle.value_rows.specs.Row.{formBy, toldAt, bound, Bound};
 pub const VARIABLES: usize = 16;
 
 // What a variable is bound to: the index of a tag in the target, and marks.
+#[repr(C)]
 pub struct Binding {
     pub at: usize,
     pub marks: u64,
@@ -68,7 +69,7 @@ fn size_of(s: &[i32], places: &Places, at: usize, m: u64) -> usize
 }
 
 // The words from an index up to another, once more at an index of the room.
-fn copy(s: &[i32], from: usize, to: usize, room: &mut [i32], at: usize) -> usize
+pub fn copy(s: &[i32], from: usize, to: usize, room: &mut [i32], at: usize) -> usize
     requires { ⌜ from ≤ to ⌝ ∗ ⌜ to ≤ length (now s) ⌝ ∗ ⌜ at + (to - from) ≤ length (now room) ⌝ }
     ensures { λ r. ⌜ (r ≡ at + (to - from)) × (now (room .exit) ≡ put (now (room .entry)) at (part from to (now (s .entry)))) ⌝ }
 {
