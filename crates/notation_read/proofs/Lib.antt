@@ -1,0 +1,2 @@
+-- What the proofs of the reader use.
+pub mod Laws

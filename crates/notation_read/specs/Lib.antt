@@ -1,0 +1,2 @@
+-- What the contracts of the reader cite.
+pub mod Read

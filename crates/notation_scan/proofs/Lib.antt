@@ -1,0 +1,2 @@
+-- What the proofs of the scanner use.
+pub mod Laws

@@ -1,0 +1,2 @@
+-- What the contracts of the scanner cite.
+pub mod Scanned

@@ -1,0 +1,2 @@
+-- What the proofs of the automaton use.
+pub mod Laws

@@ -1,0 +1,3 @@
+-- What the contracts of the automaton cite, and how far a step goes.
+pub mod Stepped
+pub mod Bounds
