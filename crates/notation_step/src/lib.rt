@@ -681,6 +681,15 @@ const ROWS: [u32; 88] = [
     21,
 ];
 
+// How far a sign reaches back: over all that is tighter.
+const CONS_REACH: usize = 3;
+
+const JOIN_REACH: usize = 3;
+
+const AND_REACH: usize = 2;
+
+const OR_REACH: usize = 1;
+
 // How far a token reaches back after a matcher or a pattern.
 const REACH: [usize; 24] = [
     0,
@@ -700,10 +709,10 @@ const REACH: [usize; 24] = [
     0,
     0,
     0,
-    3,
-    3,
-    2,
-    1,
+    CONS_REACH,
+    JOIN_REACH,
+    AND_REACH,
+    OR_REACH,
     0,
     0,
     0,
