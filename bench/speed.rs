@@ -50,7 +50,7 @@ const FRONT_AND_BACK: &[i32] = &[6, 1, 0, 1, 1];
 pub const CASES: [Case; 12] = [
     Case { name: "T1", about: "two of a rank, 64 equal", bar: 341, per: Per::Step,
         matcher: MULTISET, pattern: TWO_OF_A_RANK, target: || units(64, |_| 7), budget: u32::MAX },
-    Case { name: "T2", about: "two of a rank, 64 unequal", bar: 591, per: Per::Step,
+    Case { name: "T2", about: "two of a rank, 64 unequal", bar: 195, per: Per::Step,
         matcher: MULTISET, pattern: TWO_OF_A_RANK, target: || units(64, |k| k), budget: u32::MAX },
     Case { name: "T3", about: "four cons over variables, 16", bar: 440, per: Per::Step,
         matcher: MULTISET, pattern: FOUR_VARIABLES, target: || units(16, |k| k), budget: u32::MAX },

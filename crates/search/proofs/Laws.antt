@@ -32,8 +32,7 @@ use Rattle.search.specs.declared.Report.{Report}
 use Rattle.search.specs.Told.{reported}
 use Rattle.search.specs.Valid.{Fine, Valid, Rows}
 use Rattle.search.proofs.Keeps.{take-keeps}
-use Rattle.search.proofs.Settles.{settle-keeps}
-use Rattle.search.proofs.Counts.{settled-is, takes-is, run-over, run-more}
+use Rattle.search.proofs.Counts.{run-over}
 use Rattle.search.proofs.Heads.{head-next, head-picks, head-backs}
 
 -- ---- Whether a state is taken up, and whether a row is short of room.
@@ -90,23 +89,6 @@ module _ (e : Env) (w : Run) (budget : ℕ) (room : List ℤ) (r : Run) (h : Her
       go true j true k y = let z : _≡_ {A = ℕ} 0 1 = cc in absurd (omega arith)
       go true j false k y = here-spent (ltb-false _ _ k)
       go false j d k y = here-over (eqb-false _ _ j)
-
-  module _ (fine : Fine e) (g : Target (e .words)) (l : r .state .live ≡ 1) (s : r .state .steps < budget) where
-    pub next-steps : (z : Run) → z ≡ settled e (takeOf e r) → z .state .steps ≡ r .state .steps + 1
-    next-steps z q = ap (λ (y : Run). y .state .steps) q ∙ settled-is e (takeOf e r) .steps ∙ takes-is e r (h .valid .room) .steps
-
-    pub here-next : (z : Run) → z ≡ settled e (takeOf e r) → Here e w budget room z
-    here-next z q =
-        let c = next-steps z q in
-        let p : budget - r .state .steps ≡ suc (budget - z .state .steps) = omega arith in
-        record {
-          whole = h .whole ∙ ap (λ (k : ℕ). runOf e k r) p ∙ run-more e (budget - z .state .steps) r l ∙ ap (runOf e (budget - z .state .steps)) (sym q);
-          valid = subst (Valid e) (sym q) (settle-keeps e fine g (takeOf e r) (take-keeps e fine g r (h .valid) l));
-          long = ap (λ (y : Run). length (y .room)) q ∙ ap length (settled-is e (takeOf e r) .room) ∙ takes-is e r (h .valid .room) .long ∙ h .long;
-        }
-
-    pub next-less : (z : Run) → z ≡ settled e (takeOf e r) → budget - z .state .steps < budget - r .state .steps
-    next-less z q = let c = next-steps z q in omega arith
 
 -- ---- What tag 3 asks, by the numbers of its line.
 
@@ -274,6 +256,10 @@ module _ (e : Env) (x : State) (t : Tables) (b : List Binding) (room : List ℤ)
 
     pub turn-row : getD (e .op) (x .pc) 0 ≡ 0 → Rows (e .words) b′ (e .vars) x room
     turn-row z = rw (same-binds (λ y. omega arith)) rows-ask
+
+    -- The bindings that no line has changed.
+    pub turn-binds : (getD (e .op) (x .pc) 0 ≡ 3 → ⊥) → Bound (e .words) b′ 16
+    turn-binds n = rw (same-binds n) (v .binds)
 
     -- The state is taken up: the next choice can be taken, and then the run is at its next state.
     pub taken-is : x .live ≡ 1 → (y : State) (u : Tables) (room′ : List ℤ) → run y u b′ room′ ≡ takeOf e (run x t b room) → Taken e (run x t b room) y u b′ room′

@@ -9,6 +9,8 @@ pub mod Counts
 pub mod Runs
 pub mod Whole
 pub mod Heads
+pub mod Sweeps
 pub mod Laws
+pub mod Swept
 pub mod Begun
 pub mod Accepted

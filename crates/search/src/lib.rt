@@ -6,6 +6,8 @@ use asking::is_equal_at;
 use asking::is_sum_at;
 use asking::value_of;
 use search_choice::settle;
+use search_seek::asks;
+use search_seek::pass_over;
 use search_step::Asked;
 use search_step::ENDED;
 use search_step::FULL;
@@ -14,6 +16,7 @@ use search_step::State;
 use tables::instruction::BIND;
 use tables::instruction::DROP;
 use tables::instruction::END;
+use tables::instruction::MULTISET_CONS;
 use tables::instruction::NIL;
 use tables::instruction::SUM;
 use tables::line::Lines;
@@ -106,6 +109,14 @@ pub fn advance(
             }
         } else {
             x = x.step(Asked { same: same }, s, places, lines, slots);
+            if o == MULTISET_CONS {
+                let sought = asks(x, lines);
+                if sought {
+                    let v = arg_at(lines, x.top);
+                    let y = b[v];
+                    x = pass_over(x, y.at, terms.budget, s, places, lines, slots);
+                }
+            }
         }
         x = settle(x, s, places, lines, slots);
     }

@@ -13,13 +13,16 @@ use Rattle.rules.specs.Rows.{row}
 use Rattle.value_places.specs.Held.{put}
 use Rattle.value_rows.specs.Row.{formBy, bound, boundFrom}
 use Rattle.tables.specs.Line.{columnsOf}
-use Rattle.tables.specs.Slot.{viewOf}
+use Rattle.tables.specs.Slot.{Tables, viewOf}
+use Rattle.search_step.specs.declared.State.{State}
+use Rattle.search_step.specs.Steps.{turned, stepOf}
 use Rattle.search.specs.Run.{Env, Run, run, runOf}
 use Rattle.search.specs.Told.{envBy}
 use Rattle.search.specs.Valid.{Rows}
 use Rattle.value_rows.proofs.Row.{row-held, row-16, row-mul, row-room, row-turn, row-turn-size, row-out, row-out-size, row-start-size, row-start-room}
 use Rattle.value_rows.proofs.Room.{length-put}
-use Rattle.search.proofs.Laws.{turned-path, goes-live, goes-less, Here, here-start, here-end, here-next, next-less, Asked, asked-3, asked-4, asked-5, asked-6, asked-below, asked-above, took-full, took-wrote, Taken, taken-is, taken-step, turn-row, turn-steps, settled-by, Ready, ready, ready-place, ready-constant, ready-number, ready-number-mul, ready-bound, ready-sum, fine-named}
+use Rattle.search.proofs.Laws.{turned-path, goes-live, goes-less, Here, here-start, here-end, Asked, asked-3, asked-4, asked-5, asked-6, asked-below, asked-above, took-full, took-wrote, Taken, taken-is, taken-step, turn-row, turn-steps, turn-binds, settled-by, Ready, ready, ready-place, ready-constant, ready-number, ready-number-mul, ready-bound, ready-sum, fine-named}
+use Rattle.search.proofs.Swept.{Swept, here-swept, swept-less, swept-at, swept-none, taken-opens, asks-place, asks-number, asks-seeks, asks-slotted, asks-alone, swept-over}
 use Rattle.search.proofs.advance.Statement.{statement}
 use Rattle.search.proofs.advance.Tie as tie
 
@@ -71,20 +74,38 @@ joined c =
 rows : (c : tie.Then7 Inv-loop2 μ-loop2 Inv-loop μ-loop) → Rows (c .before .before .before .before .before .before .before .before .args .s .now) (c .before .if2 .b) (c .before .before .before .before .before .before .before .before .args .terms .vars) (c .before .before .before .before .before .loop .x) (c .before .before .before .before .before .loop .room)
 rows c = let h = stands (c .before .before .before) in turn-row _ _ _ _ _ _ _ (joined (c .before)) (h .fine) (h .target) (h .valid) (h .count) (sym (c .before .before .op-at .ensures) ∙ c .if7 .taken)
 
--- Where a row and a step meet: the state is taken up.
+-- A step is taken.
+took : (c : tie.After-step-arg Inv-loop2 μ-loop2 Inv-loop μ-loop) (y : State) (u : Tables)
+    → turned y u ≡ stepOf (program (c .before .before .before .before .before .before) .op) (program (c .before .before .before .before .before .before) .from) (program (c .before .before .before .before .before .before) .to) (program (c .before .before .before .before .before .before) .con) (program (c .before .before .before .before .before .before) .words) (c .before .before .if2 .same) (current (c .before .before .before .before .before .before) .state) (current (c .before .before .before .before .before .before) .tables)
+    → Taken (program (c .before .before .before .before .before .before)) (current (c .before .before .before .before .before .before)) y u (c .before .before .if2 .b) (c .before .before .before .before .before .before .loop .room)
+took c y u e =
+    let h = stands (c .before .before .before .before) in
+    taken-step _ _ _ _ _ _ _ (joined (c .before .before)) (h .fine) (h .target) (h .valid) (h .count) (h .live) _ _ _ (λ z. c .before .if7 .left (c .before .before .before .op-at .ensures ∙ z)) e refl
+
+-- The budget is not used up.
+less : (c : tie.Then1 Inv-loop2 μ-loop2 Inv-loop μ-loop) → c .before .before .loop .x .steps < c .before .before .before .before .before .args .terms .budget
+less c = goes-less _ _ _ (c .before .goes-on .ensures) (c .if1 .taken)
+
+-- Where a row and a step meet: the state is taken up, and choices may be passed over.
 met : (c : tie.Joined7 Inv-loop2 μ-loop2 Inv-loop μ-loop)
-    → Taken (program (c .before .before .before .before .before)) (current (c .before .before .before .before .before)) (c .if7 .x) (viewOf (columnsOf (c .before .before .before .before .before .before .before .before .args .lines .now) .arg) (c .if7 .slots)) (c .before .if2 .b) (c .if7 .room)
-met c = let h = stands (c .before .before .before) in let p = c .before .before .op-at .ensures in ⊎-elim
-    (λ w. taken-is _ _ _ _ _ _ _ (joined (c .before)) (h .fine) (h .target) (h .valid) (h .count) (h .live) _ _ _
-    (took-full _ _ _ _ _ _ _ (joined (c .before)) _ _ _ (sym p ∙ w .0 .taken) (ltb-true _ _ (sym (w .1 .ensures) ∙ w .2 .taken)) (w .6 ∙ w .3 .ensures) (ap (viewOf _) (w .4)) (w .5)))
+    → Swept (program (c .before .before .before .before .before)) (current (c .before .before .before .before .before)) (c .before .before .before .before .before .before .before .before .args .terms .budget) (c .if7 .x) (viewOf (columnsOf (c .before .before .before .before .before .before .before .before .args .lines .now) .arg) (c .if7 .slots)) (c .before .if2 .b) (c .if7 .room)
+met c = let h = stands (c .before .before .before) in let p = c .before .before .op-at .ensures in let l = less (c .before .before .before) in ⊎-elim
+    (λ w. swept-none _ _ _ _ _ _ (taken-is _ _ _ _ _ _ _ (joined (c .before)) (h .fine) (h .target) (h .valid) (h .count) (h .live) _ _ _
+    (took-full _ _ _ _ _ _ _ (joined (c .before)) _ _ _ (sym p ∙ w .0 .taken) (ltb-true _ _ (sym (w .1 .ensures) ∙ w .2 .taken)) (w .6 ∙ w .3 .ensures) (ap (viewOf _) (w .4)) (w .5))) (h .valid .room) _ l)
     (⊎-elim
     (λ w. let k = rows (record { before = c .before; if7 = w .0 }) .bound in
     let i = w .3 .inv in
-    taken-is _ _ _ _ _ _ _ (joined (c .before)) (h .fine) (h .target) (h .valid) (h .count) (h .live) _ _ _
+    swept-none _ _ _ _ _ _ (taken-is _ _ _ _ _ _ _ (joined (c .before)) (h .fine) (h .target) (h .valid) (h .count) (h .live) _ _ _
     (took-wrote _ _ _ _ _ _ _ (joined (c .before)) _ _ _ _ (sym p ∙ w .0 .taken) (ltb-false _ _ (sym (w .1 .ensures) ∙ w .2 .left)) (w .9 ∙ w .6 .ensures)
-    (row-out-size _ _ _ _ _ _ _ k (i .3) (w .5 .left)) (ap (viewOf _) (w .7)) (w .8 ∙ row-out _ _ _ _ _ _ _ _ k (i .4) (w .5 .left))))
-    (λ w. taken-step _ _ _ _ _ _ _ (joined (c .before)) (h .fine) (h .target) (h .valid) (h .count) (h .live) _ _ _ (λ z. w .0 .left (p ∙ z))
-    (turned-path (w .5) (ap (viewOf _) (w .3)) ∙ w .2 .ensures) (w .4)))
+    (row-out-size _ _ _ _ _ _ _ k (i .3) (w .5 .left)) (ap (viewOf _) (w .7)) (w .8 ∙ row-out _ _ _ _ _ _ _ _ k (i .4) (w .5 .left)))) (h .valid .room) _ l)
+    (⊎-elim
+    (λ w. let k = took (record { before = record { before = c .before; if7 = w .0 }; step-arg = w .1 }) _ _ (w .2 .ensures) in
+    swept-at _ _ _ _ _ _ _ _ _ _ (w .12) (ap (viewOf _) (w .10)) (w .11) (swept-over _ _ _ _ _ _ k (h .valid .room) _ l (h .fine) (h .target) _ (w .4 .ensures) (w .5 .taken) _ (w .6 .ensures) _ _ (w .9 .ensures)))
+    (⊎-elim
+    (λ w. let k = took (record { before = record { before = c .before; if7 = w .0 }; step-arg = w .1 }) _ _ (w .2 .ensures) in
+    swept-at _ _ _ _ _ _ _ _ _ _ (w .8) (ap (viewOf _) (w .6)) (w .7) (swept-none _ _ _ _ _ _ k (h .valid .room) _ l))
+    (λ w. let k = took (record { before = record { before = c .before; if7 = w .0 }; step-arg = w .1 }) _ _ (w .2 .ensures) in
+    swept-at _ _ _ _ _ _ _ _ _ _ (w .6) (ap (viewOf _) (w .4)) (w .5) (swept-none _ _ _ _ _ _ k (h .valid .room) _ l)))))
     (c .if7 .came)
 
 loop-holds : tie.Need-loop-holds Inv-loop2 μ-loop2 Inv-loop μ-loop
@@ -195,6 +216,43 @@ step-requires c κs =
     let h = stands (c .before .before .before .before) in
     (h .target, (c .before .before .before .before .before .before .before .before .before .pre .0 .placed, turn-steps _ _ _ _ _ _ _ (joined (c .before .before)) (h .fine) (h .target) (h .valid) (h .count) _ refl))
 
+asks-requires : tie.Need-asks-requires Inv-loop2 μ-loop2 Inv-loop μ-loop
+asks-requires c κs =
+    let h = stands (c .before .before .before .before .before .before) in
+    taken-opens _ _ _ _ _ _ (took (c .before .before) _ _ (c .before .step .ensures)) (h .valid .room) _ (less (c .before .before .before .before .before .before)) (h .fine)
+
+arg-at-requires-4 : tie.Need-arg-at-requires-4 Inv-loop2 μ-loop2 Inv-loop μ-loop
+arg-at-requires-4 c κs =
+    let h = stands (c .before .before .before .before .before .before .before .before) in
+    asks-place _ _ _ _ _ _ (took (c .before .before .before .before) _ _ (c .before .before .before .step .ensures)) (h .valid .room) _ (less (c .before .before .before .before .before .before .before .before)) (h .fine) (h .target) _ (c .before .asks .ensures) (c .if11 .taken)
+
+array-copy-out-y-2 : tie.Need-array-copy-out-y-2 Inv-loop2 μ-loop2 Inv-loop μ-loop
+array-copy-out-y-2 c =
+    let h = stands (c .before .before .before .before .before .before .before .before .before) in
+    asks-number _ _ _ _ _ _ (took (c .before .before .before .before .before) _ _ (c .before .before .before .before .step .ensures)) (h .valid .room) _ (less (c .before .before .before .before .before .before .before .before .before)) (h .fine) (h .target) _ (c .before .before .asks .ensures) (c .before .if11 .taken) _ (c .arg-at4 .ensures)
+
+mul-y-2 : tie.Need-mul-y-2 Inv-loop2 μ-loop2 Inv-loop μ-loop
+mul-y-2 c = let l = array-copy-out-y-2 c in record { fits = omega (arith, l) }
+
+pass-over-requires : tie.Need-pass-over-requires Inv-loop2 μ-loop2 Inv-loop μ-loop
+pass-over-requires c κs =
+    let h = stands (c .before .before .before .before .before .before .before .before .before .before .before) in
+    let j = joined (c .before .before .before .before .before .before .before .before .before) in
+    let k = took (c .before .before .before .before .before .before .before) _ _ (c .before .before .before .before .before .before .step .ensures) in
+    let l = less (c .before .before .before .before .before .before .before .before .before .before .before) in
+    let a = c .before .before .before .before .asks .ensures in
+    let t = c .before .before .before .if11 .taken in
+    let q = turn-binds _ _ _ _ _ _ _ j (h .fine) (h .target) (h .valid) (h .count) (λ z. absurd (omega (arith, sym (c .before .before .before .before .before .before .before .before .before .before .op-at .ensures) ∙ c .before .before .before .before .before .if10 .taken, z))) in (
+      h .target,
+      (
+        c .before .before .before .before .before .before .before .before .before .before .before .before .before .before .before .before .pre .0 .placed,
+        (
+          asks-seeks _ _ _ _ _ _ k (h .valid .room) _ l (h .fine) (h .target) _ a t _ (c .before .before .arg-at4 .ensures) q,
+          (asks-slotted _ _ _ _ _ _ k (h .valid .room) _ l (h .fine) (h .target) _ a t _ refl, asks-alone _ _ _ _ _ _ k (h .valid .room) _ l (h .fine) (h .target) _ a t),
+        ),
+      ),
+    )
+
 settle-requires : tie.Need-settle-requires Inv-loop2 μ-loop2 Inv-loop μ-loop
 settle-requires c κs =
     let h = stands (c .before .before .before .before) in
@@ -204,12 +262,12 @@ settle-requires c κs =
 loop-less : tie.Need-loop-less Inv-loop2 μ-loop2 Inv-loop μ-loop
 loop-less c =
     let h = stands (c .before .before .before .before .before) in
-    next-less _ _ _ _ _ (c .before .before .before .before .before .before .before .loop .inv) (h .fine) (h .target) (h .live) (goes-less _ _ _ (c .before .before .before .before .before .before .goes-on .ensures) (c .before .before .before .before .before .if1 .taken)) _ (settled-by _ (run (c .before .before .if7 .x) _ _ _) _ _ (c .settle .ensures) ∙ met (c .before .before) .next)
+    swept-less _ _ _ _ _ (c .before .before .before .before .before .before .before .loop .inv) (h .fine) (h .target) (h .live) _ _ _ _ (met (c .before .before)) _ (settled-by _ (run (c .before .before .if7 .x) _ _ _) _ _ (c .settle .ensures))
 
 loop-again : tie.Need-loop-again Inv-loop2 μ-loop2 Inv-loop μ-loop
 loop-again c =
     let h = stands (c .before .before .before .before .before) in
-    here-next _ _ _ _ _ (c .before .before .before .before .before .before .before .loop .inv) (h .fine) (h .target) (h .live) (goes-less _ _ _ (c .before .before .before .before .before .before .goes-on .ensures) (c .before .before .before .before .before .if1 .taken)) _ (settled-by _ (run (c .before .before .if7 .x) _ _ _) _ _ (c .settle .ensures) ∙ met (c .before .before) .next)
+    here-swept _ _ _ _ _ (c .before .before .before .before .before .before .before .loop .inv) (h .fine) (h .target) (h .live) _ _ _ _ (met (c .before .before)) _ (settled-by _ (run (c .before .before .if7 .x) _ _ _) _ _ (c .settle .ensures))
 
 same-length : tie.Need-same-length Inv-loop2 μ-loop2 Inv-loop μ-loop
 same-length c = c .before .before .loop .inv .long
@@ -252,6 +310,11 @@ advance-spec =
     loop2-again
     wrote-requires
     step-requires
+    asks-requires
+    arg-at-requires-4
+    mul-y-2
+    array-copy-out-y-2
+    pass-over-requires
     settle-requires
     loop-less
     loop-again
