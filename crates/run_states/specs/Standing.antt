@@ -10,9 +10,8 @@ use lib.ListN.{length, getD, take, drop, take-append-drop, length-append}
 use lib.Seq.{length-take-le}
 use lib.IntN.{ℤ}
 use Rattle.rules.specs.Forms.{Matcher, Pattern, Value}
-use Rattle.rules.specs.Origins.{target}
-use Rattle.rules.specs.Reading.{ok}
-use Rattle.rules.specs.Fit.{fits}
+use Rattle.rules.specs.Reading.{ok, readTarget}
+use Rattle.rules.specs.Fit.{fits, fitsValue}
 use Rattle.rules.specs.Search as paper
 use Rattle.rules.specs.Search.{start}
 use Rattle.forms.specs.Written.{Widthsᵖ}
@@ -32,8 +31,9 @@ use Rattle.program_rules.specs.Points.{Instr, Point, Follows}
 use Rattle.search_machine.specs.Rep.{Rep, over-all, live}
 use Rattle.search_machine.specs.Whole.{fresh, fresh-same}
 use Rattle.search_machine.specs.Operations.{binding}
-use Rattle.search_machine.proofs.Instance.{places}
+use Rattle.search_machine.proofs.Instance.{places, target-is}
 use Rattle.value_places.specs.Places.{Target}
+use Rattle.value_places.specs.Held.{wholeAt}
 use Rattle.value_rows.specs.declared.Binding.{Binding}
 use Rattle.search_atom.specs.Leaves.{when}
 use Rattle.search_step.specs.declared.State.{State}
@@ -250,3 +250,16 @@ module _ (e : Env) (g : Target (e .words)) (fine : Fine e) (m : Matcher) (p : Pa
         (ap₂ (λ k i. holding (e .form) k (remaining (e .form) (allowed n (x .steps)) (s ∷ ss) (i - x .words)))
         (advance-told h (goes-on s ss q w) ∙ ap (told n size) q) l ∙ ap (heldAfter n size) (sym q))
         (held₁ size x t b s ss w room l (allowed n (x .steps)))
+
+  -- A run before its first state, whatever its tables and bindings hold.
+  module _ (v : Value) (read : readTarget (e .words) ≡ ok v) (fit-value : fitsValue m v 0 ≡ ok tt) (size : ℕ) (t : Tables) (b : List Binding)
+      (valid : (room : List ℤ) → length room ≡ size → Valid e (run (opening 0 (wholeAt (e .words) 0)) t b room)) where
+    pub begins : Stood size (opening 0 (wholeAt (e .words) 0)) t b (going (e .form) (start m p v) [] 0 0 0)
+    unfolding opening fresh confOf machines.opened
+    begins = goes-on (start m p v) [] refl (record {
+      live-is = refl;
+      valid = valid;
+      rep = same-waiting (places (e .form) (e .words) g) (program m p) (pointAt m p) (program-follows m p at₀ ks fit wide closed)
+          (fresh-same (places (e .form) (e .words) g) m p v (binding 0 (wholeAt (e .words) 0)) (target-is (e .words) v read m fit-value) at₀ ks fit wide closed
+          (slotsOf (e .form) (e .words) g t) (bindsOf (e .form) (e .words) g b) size) refl;
+    })

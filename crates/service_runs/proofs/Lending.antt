@@ -19,7 +19,7 @@ use Rattle.tests.specs.declared.Judgement.{Judgement}
 use Rattle.tests.specs.declared.Judgement.the-variants.{Accepted, Refused}
 use Rattle.tests.specs.declared.TargetJudgement.{TargetJudgement}
 use Rattle.tests.specs.declared.TargetJudgement.the-variants as targets
-use Rattle.run_rules.specs.Lent.{Numbers, Held, ended, Lent, told as tells, heldAfter, roomAfter, Advanced, goOn, unlike, advanced}
+use Rattle.run_rules.specs.Lent.{Numbers, Held, ended, Lent, told as tells, heldAfter, roomAfter, Advanced, goOn, unlike as unlikes, advanced}
 use Rattle.run_rules.specs.Calls.{like, other}
 use Rattle.value_rows.specs.Row.{formBy}
 use Rattle.value_rows.specs.declared.Binding.{Binding}
@@ -32,7 +32,9 @@ use Rattle.run_sound.specs.Tested.{Decides}
 use Rattle.run_sound.proofs.Tests.{refuted, upheld, never, always}
 use Rattle.run_states.specs.Standing.{numbersOf}
 use Rattle.service_runs.specs.Going.{Carries}
-use Rattle.service_runs.specs.Kept.{told, unlikeNumbers, Goes, Standing, went-told, went-room, went-held, standing-valid, standing-over, matcherIn, patternIn, targetIn, refusalIn, Lengths, Kept, refused, stands, Advances}
+use Rattle.service_runs.proofs.Steady.{still-stays}
+use Rattle.service_runs.specs.Kept.{told, unlikeNumbers, Goes, Over, Lengths, Standing, went-told, went-room, went-held, standing-valid, standing-over, refusalIn}
+use Rattle.service_runs.specs.Kept.{Refusal, unknown, tested, Kept, refused, stands, Tabled, is-done, is-refusal, is-budget, is-full, is-unlike, Refuses, changed, Advances}
 use Rattle.service_runs.specs.declared.run.Run as struct
 use Rattle.service_runs.specs.declared.run.Told as report
 use Rattle.service_runs.specs.declared.run.Out as out
@@ -88,36 +90,90 @@ pub ruleset ready-rules = (rule-whole, ready-rule, ready-target-not, ready-both,
 
 pub goes-not : (form : Form) (ms ps ts : List ℤ) (n : ℕ) (x : State) (slots : List ℕ) (b : List Binding) (room : List ℤ) (r : Bool) → Decides r (Ready ms ps ts) → not r ≡ true
     → Goes form ms ps ts n x slots b room false x slots b room
-goes-not form ms ps ts n x slots b room r d h = record { goes = λ g. absurd (refuted r h (d .whole g)) }
+goes-not form ms ps ts n x slots b room r d h = record { goes = λ g. absurd (refuted r h (d .whole g)); still = still-stays slots room }
 
 pub goes-ready : (ms ps ts : List ℤ) (r : Bool) → Decides r (Ready ms ps ts) → not r ≡ false → Ready ms ps ts
 goes-ready ms ps ts r d h = d .sound (upheld r h)
 
 pub goes-carried : (form : Form) (ms ps ts : List ℤ) (n : ℕ) (x x′ : State) (slots slots′ : List ℕ) (b b′ : List Binding) (room room′ : List ℤ) (sound : Bool)
     → Carries form ms ps ts n x slots b room sound x′ slots′ b′ room′ → Goes form ms ps ts n x slots b room sound x′ slots′ b′ room′
-goes-carried form ms ps ts n x x′ slots slots′ b b′ room room′ sound c = record { goes = λ g. c }
+goes-carried form ms ps ts n x x′ slots slots′ b b′ room room′ sound c = record { goes = λ g. c; still = c .still }
 
 pub ruleset goes-rules = (goes-not, goes-ready, goes-carried, needs)
 
--- ---- A run that is lent.
+-- ---- Over the words that a run keeps.
 
-abbrev pub nextOf : struct.Run → State → List Binding → List ℕ → struct.Run
-nextOf r x b s = record {
-  state = x;
-  binds = b;
-  slots = s;
-  size = r .size;
-  place = r .place;
-  answer = r .answer;
-  cause = r .cause;
-  form = r .form;
-  matcher = r .matcher;
-  pattern = r .pattern;
-  target = r .target;
-  matchers = r .matchers;
-  patterns = r .patterns;
-  targets = r .targets;
-}
+module _ (m p t : ℕ) where
+  pub length-matcher : 64 < m → Decides false (Lengths m p t)
+  length-matcher h = never (λ k. let i = k .matcher in omega arith)
+
+  pub length-pattern : 256 < p → Decides false (Lengths m p t)
+  length-pattern h = never (λ k. let i = k .pattern in omega arith)
+
+  pub length-target : m ≤ 64 → p ≤ 256 → Decides (leb t 1024) (Lengths m p t)
+  length-target h k = record { sound = λ e. record { matcher = h; pattern = k; target = leb-true t 1024 e }; whole = λ i. le-leb t 1024 (i .target) }
+
+  module _ (y : Bool) (d : Decides y (Lengths m p t)) (u : not y ≡ false) where
+    pub matcher-kept : (ms : List ℤ) → length ms ≡ 64 → m ≤ length ms
+    matcher-kept ms l = let k = d .sound (upheld y u) .matcher in omega arith
+
+    pub pattern-kept : (ps : List ℤ) → length ps ≡ 256 → p ≤ length ps
+    pattern-kept ps l = let k = d .sound (upheld y u) .pattern in omega arith
+
+    pub target-kept : (ts : List ℤ) → length ts ≡ 1024 → t ≤ length ts
+    target-kept ts l = let k = d .sound (upheld y u) .target in omega arith
+
+pub ruleset length-rules = (length-matcher, length-pattern, length-target, needs)
+
+module _ (form : Form) (matchers : List ℤ) (m : ℕ) (patterns : List ℤ) (p : ℕ) (targets : List ℤ) (t n : ℕ) (x : State) (slots : List ℕ) (b : List Binding) (room : List ℤ) where
+  pub over-not : (y : Bool) → Decides y (Lengths m p t) → not y ≡ true → Over form matchers m patterns p targets t n x slots b room false x slots b room
+  over-not y d u = record { goes = λ k. absurd (refuted y u (d .whole k)); still = still-stays slots room }
+
+  pub over-goes : (sound : Bool) (x′ : State) (slots′ : List ℕ) (b′ : List Binding) (room′ : List ℤ)
+      → Goes form (take m matchers) (take p patterns) (take t targets) n x slots b room sound x′ slots′ b′ room′
+      → Over form matchers m patterns p targets t n x slots b room sound x′ slots′ b′ room′
+  over-goes sound x′ slots′ b′ room′ g = record { goes = λ k. g; still = g .still }
+
+pub ruleset over-rules = (matcher-kept, pattern-kept, target-kept, over-not, over-goes, needs)
+
+-- ---- A refusal.
+
+refusal-zero : (a : ℕ) → Refusal a → a ≡ 0 → ⊥
+refusal-zero a (unknown h) e = omega arith
+refusal-zero a (tested h k) e = omega arith
+
+refusal-not : (a : ℕ) → Refusal a → a ≡ 19 → ⊥
+refusal-not a (unknown h) e = omega arith
+refusal-not a (tested h k) e = omega arith
+
+module _ (a : ℕ) where
+  pub refusal-unknown : a ≡ 20 → Decides true (Refusal a)
+  refusal-unknown h = always (unknown h)
+
+  pub refusal-none : a ≡ 0 → Decides false (Refusal a)
+  refusal-none h = never (λ r. refusal-zero a r h)
+
+  pub refusal-tested : (a ≡ 20 → ⊥) → (a ≡ 0 → ⊥) → Decides (leb a 6) (Refusal a)
+  refusal-tested f g = record { sound = λ e. let h = leb-true a 6 e in tested (omega arith) h; whole = go }
+    where
+      go : Refusal a → leb a 6 ≡ true
+      go (unknown h) = absurd (f h)
+      go (tested h k) = le-leb a 6 k
+
+pub ruleset refusal-rules = (refusal-unknown, refusal-none, refusal-tested, needs)
+
+module _ (a i c : ℕ) (y : Bool) (d : Decides y (Refusal a)) where
+  pub refused-not : not y ≡ true → (t : report.Told) → told t ≡ unlikeNumbers → Refuses a i c t
+  unfolding told
+  refused-not u t e = record { again = λ r. absurd (refuted y u (d .whole r)); tabled = is-unlike (ap (λ (k : Numbers). k .answer) e) }
+
+  pub refused-again : not y ≡ false → Refuses a i c (record { answer = a; place = i; rows = 0; steps = 0; words = 0; cause = c })
+  unfolding told
+  refused-again u = record { again = λ r. refl; tabled = is-refusal (d .sound (upheld y u)) }
+
+pub ruleset refused-rules = (refused-not, refused-again, needs)
+
+-- ---- A run that is lent.
 
 kept-size : (r : struct.Run) (l : Lent) → Kept r l → l .size ≡ r .size
 kept-size r l (refused f e) = ap (λ (y : Lent). y .size) e
@@ -134,9 +190,34 @@ goes-as : (n size : ℕ) (room : List ℤ) (h : Held) → length room ≡ size
 unfolding goOn
 goes-as n size room h e = like n room (record { size = size; held = h }) e
 
+tabled-live : (x : State) → Tabled (numbersOf x .answer)
+unfolding numbersOf answerOf when
+tabled-live x = go (eqb (x .live) 3) (eqb (x .live) 0)
+  where
+    go : (a b : Bool) → Tabled (when a 8 (when b 0 7))
+    go true b = is-full refl
+    go false true = is-done refl
+    go false false = is-budget refl
+
+not-unlike : (x : State) → numbersOf x .answer ≡ 19 → ⊥
+unfolding numbersOf answerOf when
+not-unlike x = go (eqb (x .live) 3) (eqb (x .live) 0)
+  where
+    go : (a b : Bool) → _≡_ {A = ℕ} (when a 8 (when b 0 7)) 19 → ⊥
+    go true b e = omega arith
+    go false true e = omega arith
+    go false false e = omega arith
+
 module _ (r : struct.Run) (n : ℕ) (room : List ℤ) (t : report.Told) where
   abbrev same : out.Out
   same = record { run = r; told = t }
+
+  abbrev Holds : out.Out → (room′ : List ℤ) → Type 0
+  Holds o room′ = (l : Lent) → Kept r l → (told (o .told) ≡ advanced n room l .numbers) × (room′ ≡ advanced n room l .room) × Kept (o .run) (advanced n room l .run)
+
+  unchanged : Holds same room → Tabled (t .answer) → Advances r n room same room
+  unfolding changed
+  unchanged h a = record { as-held = h; within = refl; tabled = a; unlike-still = λ e. (refl, refl) }
 
   again : (k : Numbers) (l : Lent) → length room ≡ r .size → l ≡ record { size = r .size; held = ended k } → told t ≡ k → Kept r l
       → (told (same .told) ≡ advanced n room l .numbers) × (room ≡ advanced n room l .room) × Kept (same .run) (advanced n room l .run)
@@ -148,84 +229,72 @@ module _ (r : struct.Run) (n : ℕ) (room : List ℤ) (t : report.Told) where
       )
 
   pub adv-unlike : (length room ≡ r .size → ⊥) → told t ≡ unlikeNumbers → Advances r n room same room
-  unfolding unlike
-  adv-unlike f s = record {
-    as-held = λ l w.
-        let z = other n room l (λ e. f (e ∙ kept-size r l w)) in (
-          s ∙ sym (ap (λ (a : Advanced). a .numbers) z),
-          sym (ap (λ (a : Advanced). a .room) z),
-          subst (Kept r) (sym (ap (λ (a : Advanced). a .run) z)) w,
-        );
-  }
+  unfolding unlikes told
+  adv-unlike f s = unchanged
+      (λ l w.
+      let z = other n room l (λ e. f (e ∙ kept-size r l w)) in (
+        s ∙ sym (ap (λ (a : Advanced). a .numbers) z),
+        sym (ap (λ (a : Advanced). a .room) z),
+        subst (Kept r) (sym (ap (λ (a : Advanced). a .run) z)) w,
+      ))
+      (is-unlike (ap (λ (k : Numbers). k .answer) s))
 
-  pub adv-refused : length room ≡ r .size → (r .answer ≡ 0 → ⊥) → told t ≡ refusalIn r → Advances r n room same room
-  adv-refused e f s = record { as-held = λ l w. go l w w }
+  pub adv-refused : length room ≡ r .size → (r .answer ≡ 0 → ⊥) → Refuses (r .answer) (r .place) (r .cause) t → Advances r n room same room
+  adv-refused e f s = unchanged (λ l w. go l w w) (s .tabled)
     where
       go : (l : Lent) → Kept r l → Kept r l
           → (told (same .told) ≡ advanced n room l .numbers) × (room ≡ advanced n room l .room) × Kept (same .run) (advanced n room l .run)
-      go l w (refused a q) = again (refusalIn r) l e q s w
+      go l w (refused a q) = again (refusalIn r) l e q (s .again a) w
       go l w (stands a k g h q c) = absurd (f a)
 
   pub adv-over : length room ≡ r .size → r .answer ≡ 0 → (r .state .live ≡ 1 → ⊥) → told t ≡ numbersOf (r .state) → Advances r n room same room
-  adv-over e a f s = record { as-held = λ l w. go l w w }
+  unfolding told
+  adv-over e a f s = unchanged (λ l w. go l w w) (subst Tabled (sym (ap (λ (k : Numbers). k .answer) s)) (tabled-live (r .state)))
     where
       go : (l : Lent) → Kept r l → Kept r l
           → (told (same .told) ≡ advanced n room l .numbers) × (room ≡ advanced n room l .room) × Kept (same .run) (advanced n room l .run)
-      go l w (refused y q) = absurd (y a)
+      go l w (refused y q) = absurd (refusal-zero (r .answer) y a)
       go l w (stands y k g h q c) = again (numbersOf (r .state)) l e
           (q ∙ ap {B = Lent} (λ i. record { size = r .size; held = i }) (standing-over _ _ _ _ g (r .size) (r .state) (r .slots) (r .binds) h f c)) s w
 
-  -- Not sound: then it is no run that the last call left.
-  pub adv-unsound : length room ≡ r .size → r .answer ≡ 0 → r .state .live ≡ 1 → (room′ : List ℤ) (sound : Bool) (x : State) (slots : List ℕ) (b : List Binding)
-      → Goes (formBy (eqb (r .form) 2)) (matcherIn r) (patternIn r) (targetIn r) n (r .state) (r .slots) (r .binds) room sound x slots b room′ → not sound ≡ true
-      → Advances r n room same room′
-  adv-unsound e a v room′ sound x slots b c u = record { as-held = λ l w. absurd (go l w) }
-    where
-      no : (y : Bool) → not y ≡ true → y ≡ false
-      no true h = let z : _≡_ {A = ℕ} 0 1 = cc in absurd (omega arith)
-      no false h = refl
+  module _ (e : length room ≡ r .size) (a : r .answer ≡ 0) (v : r .state .live ≡ 1) (room′ : List ℤ) (sound : Bool) (x : State) (slots : List ℕ) (b : List Binding)
+      (c : Over (formBy (eqb (r .form) 2)) (r .matchers) (r .matcher) (r .patterns) (r .pattern) (r .targets) (r .target) n (r .state) (r .slots) (r .binds) room sound x slots b room′) where
+    -- Not sound: then it is no run that the last call left.
+    pub adv-unsound : not sound ≡ true → told t ≡ unlikeNumbers → Advances r n room (record { run = changed r (r .state) (r .binds) slots; told = t }) room′
+    unfolding changed told
+    adv-unsound u s = record {
+      as-held = λ l w. absurd (go l w);
+      within = refl;
+      tabled = is-unlike (ap (λ (k : Numbers). k .answer) s);
+      unlike-still = λ h. (ap (changed r (r .state) (r .binds)) (c .still .slots-stay (no sound u)), c .still .room-stays (no sound u));
+    }
+      where
+        no : (y : Bool) → not y ≡ true → y ≡ false
+        no true h = let z : _≡_ {A = ℕ} 0 1 = cc in absurd (omega arith)
+        no false h = refl
 
-      go : (l : Lent) → Kept r l → ⊥
-      go l (refused y q) = y a
-      go l (stands y k g h q d) = c .goes g .tries .kept (no sound u) .0 (standing-valid _ _ _ _ g (r .size) (r .state) (r .slots) (r .binds) h room e v d)
+        go : (l : Lent) → Kept r l → ⊥
+        go l (refused y q) = refusal-zero (r .answer) y a
+        go l (stands y k g h q d) = c .goes k .goes g .tries .kept (no sound u) (standing-valid _ _ _ _ g (r .size) (r .state) (r .slots) (r .binds) h room e v d)
 
-  pub adv-went : length room ≡ r .size → r .answer ≡ 0 → r .state .live ≡ 1 → (room′ : List ℤ) (sound : Bool) (x : State) (slots : List ℕ) (b : List Binding)
-      → Goes (formBy (eqb (r .form) 2)) (matcherIn r) (patternIn r) (targetIn r) n (r .state) (r .slots) (r .binds) room sound x slots b room′ → not sound ≡ false
-      → told t ≡ numbersOf x → Advances r n room (record { run = nextOf r x b slots; told = t }) room′
-  adv-went e a v room′ sound x slots b c u s = record { as-held = go }
-    where
-      go : (l : Lent) → Kept r l
-          → (told t ≡ advanced n room l .numbers) × (room′ ≡ advanced n room l .room) × Kept (nextOf r x b slots) (advanced n room l .run)
-      go l (refused y q) = absurd (y a)
-      go l (stands y k g h q d) =
-          let w = c .goes g .tries .went (upheld sound u) in
-          let z = ap (advanced n room) q ∙ goes-as n (r .size) room h e in (
-            s ∙ went-told _ _ _ _ g n (r .size) (r .state) x (r .slots) slots (r .binds) b room room′ e w h d ∙ sym (ap (λ (i : Advanced). i .numbers) z),
-            went-room _ _ _ _ g n (r .size) (r .state) x (r .slots) slots (r .binds) b room room′ e w h d ∙ sym (ap (λ (i : Advanced). i .room) z),
-            stands y k g (heldAfter n (r .size) h) (ap (λ (i : Advanced). i .run) z)
-                (went-held _ _ _ _ g n (r .size) (r .state) x (r .slots) slots (r .binds) b room room′ e w h d),
-          )
+    pub adv-went : not sound ≡ false → told t ≡ numbersOf x → Advances r n room (record { run = changed r x b slots; told = t }) room′
+    unfolding changed told
+    adv-went u s = record {
+      as-held = go;
+      within = refl;
+      tabled = subst Tabled (sym (ap (λ (k : Numbers). k .answer) s)) (tabled-live x);
+      unlike-still = λ h. absurd (not-unlike x (sym (ap (λ (k : Numbers). k .answer) s) ∙ h));
+    }
+      where
+        go : (l : Lent) → Kept r l → (told t ≡ advanced n room l .numbers) × (room′ ≡ advanced n room l .room) × Kept (changed r x b slots) (advanced n room l .run)
+        go l (refused y q) = absurd (refusal-zero (r .answer) y a)
+        go l (stands y k g h q d) =
+            let w = c .goes k .goes g .tries .went (upheld sound u) in
+            let z = ap (advanced n room) q ∙ goes-as n (r .size) room h e in (
+              s ∙ went-told _ _ _ _ g n (r .size) (r .state) x (r .slots) slots (r .binds) b room room′ e w h d ∙ sym (ap (λ (i : Advanced). i .numbers) z),
+              went-room _ _ _ _ g n (r .size) (r .state) x (r .slots) slots (r .binds) b room room′ e w h d ∙ sym (ap (λ (i : Advanced). i .room) z),
+              stands y k g (heldAfter n (r .size) h) (ap (λ (i : Advanced). i .run) z)
+                  (went-held _ _ _ _ g n (r .size) (r .state) x (r .slots) slots (r .binds) b room room′ e w h d),
+            )
 
-  pub adv-long : r .answer ≡ 0 → (y : Bool) → Decides y (Lengths (r .matcher) (r .pattern) (r .target)) → not y ≡ true → Advances r n room same room
-  adv-long a y d u = record { as-held = λ l w. absurd (go l w) }
-    where
-      go : (l : Lent) → Kept r l → ⊥
-      go l (refused f q) = f a
-      go l (stands f k g h q c) = refuted y u (d .whole k)
-
-pub lengths-are : (r : struct.Run) (y : Bool) → Decides y (Lengths (r .matcher) (r .pattern) (r .target)) → not y ≡ false → Lengths (r .matcher) (r .pattern) (r .target)
-lengths-are r y d u = d .sound (upheld y u)
-
-module _ (m p t : ℕ) where
-  pub length-matcher : 64 < m → Decides false (Lengths m p t)
-  length-matcher h = never (λ k. let i = k .matcher in omega arith)
-
-  pub length-pattern : 256 < p → Decides false (Lengths m p t)
-  length-pattern h = never (λ k. let i = k .pattern in omega arith)
-
-  pub length-target : m ≤ 64 → p ≤ 256 → Decides (leb t 1024) (Lengths m p t)
-  length-target h k = record { sound = λ e. record { matcher = h; pattern = k; target = leb-true t 1024 e }; whole = λ i. le-leb t 1024 (i .target) }
-
-pub ruleset length-rules = (length-matcher, length-pattern, length-target, needs)
-
-pub ruleset advance-rules = (adv-long, lengths-are, adv-unlike, adv-refused, adv-over, adv-unsound, adv-went, needs)
+pub ruleset advance-rules = (adv-unlike, adv-refused, adv-over, adv-unsound, adv-went, needs)

@@ -42,7 +42,7 @@ use Rattle.search.specs.Valid.{Fine}
 use Rattle.run_sound.specs.Tested.{Decides}
 use Rattle.run_sound.specs.Sound.{Numbered, Closes, Sound}
 use Rattle.run_sound.proofs.Tests.{refuted, upheld}
-use Rattle.service_runs.specs.Going.{Tries, linesIn, envIn, runIn, Carries}
+use Rattle.service_runs.specs.Going.{Tries, Still, linesIn, envIn, runIn, Carries}
 
 -- ---- The budget.
 
@@ -111,13 +111,22 @@ module _ (e : Env) (slots : List ℕ) (x : State) (b : List Binding) (room : Lis
     pub try-unsound : (n : ℕ) → not r ≡ true → Tries e n (run x (viewOf (e .arg) slots) b room) false (run x (viewOf (e .arg) slots) b room)
     try-unsound n q = record {
       went = λ z. let y : _≡_ {A = ℕ} 0 1 = cc in absurd (omega arith);
-      kept = λ z. (λ v. refuted r q (d .whole (valid-sound v)), refl);
+      kept = λ z v. refuted r q (d .whole (valid-sound v));
     }
 
 pub try-went : (e : Env) (n : ℕ) (r next : Run) → next ≡ runOf e n r → Tries e n r true next
 try-went e n r next h = record { went = λ z. h; kept = λ z. let y : _≡_ {A = ℕ} 0 1 = cc in absurd (omega arith) }
 
-pub ruleset try-rules = (try-valid, try-unsound, try-went, needs)
+pub still-stays : (slots : List ℕ) (room : List ℤ) → Still false slots slots room room
+still-stays slots room = record { slots-stay = λ z. refl; room-stays = λ z. refl }
+
+pub still-went : (slots slots′ : List ℕ) (room room′ : List ℤ) → Still true slots slots′ room room′
+still-went slots slots′ room room′ = record {
+  slots-stay = λ z. let y : _≡_ {A = ℕ} 0 1 = cc in absurd (omega arith);
+  room-stays = λ z. let y : _≡_ {A = ℕ} 0 1 = cc in absurd (omega arith);
+}
+
+pub ruleset try-rules = (try-valid, try-unsound, try-went, still-stays, still-went, needs)
 
 -- ---- The lines of a rule that is accepted.
 
@@ -212,9 +221,10 @@ module _ (form : Form) (ms ps ts : List ℤ) (n : ℕ) (none lines : List ℕ) (
 
   pub carry-tried : (budget portion : ℕ) (x x′ : State) (slots slots′ : List ℕ) (b b′ : List Binding) (room room′ : List ℤ) (sound : Bool) → budget - x .steps ≡ allowed portion (x .steps)
       → Tries (envOf (columnsOf lines) ms ts n form) (budget - x .steps) (run x (viewOf (columnsOf lines .arg) slots) b room) sound (run x′ (viewOf (columnsOf lines .arg) slots′) b′ room′)
-      → Carries form ms ps ts portion x slots b room sound x′ slots′ b′ room′
+      → Still sound slots slots′ room room′ → Carries form ms ps ts portion x slots b room sound x′ slots′ b′ room′
   unfolding runIn envIn
-  carry-tried budget portion x x′ slots slots′ b b′ room room′ sound k t = record {
+  carry-tried budget portion x x′ slots slots′ b b′ room room′ sound k t still = record {
     tries = subst (λ (e : Env). Tries e (allowed portion (x .steps)) (run x (viewOf (e .arg) slots) b room) sound (run x′ (viewOf (e .arg) slots′) b′ room′)) env-is
         (subst (λ i. Tries (envOf (columnsOf lines) ms ts n form) i (run x (viewOf (columnsOf lines .arg) slots) b room) sound (run x′ (viewOf (columnsOf lines .arg) slots′) b′ room′)) k t);
+    still = still;
   }

@@ -17,10 +17,15 @@ use Rattle.search.specs.Run.{Env, envOf, Run, run, runOf}
 use Rattle.search.specs.Valid.{Valid}
 use Rattle.run_rules.specs.Lent.{allowed}
 
--- From the run r, by n steps: the run that is left. A run that is not valid is not sound, and its room is left as it was.
+-- From the run r, by n steps: the run that is left. A run that is not valid is not sound.
 pub record Tries (e : Env) (n : ℕ) (r : Run) (sound : Bool) (next : Run) : Type 0 where
   pub went : sound ≡ true → next ≡ runOf e n r
-  pub kept : sound ≡ false → (Valid e r → ⊥) × (next .room ≡ r .room)
+  pub kept : sound ≡ false → Valid e r → ⊥
+
+-- The slots of a run that is not sound, and the room, stay as they were.
+pub record Still (sound : Bool) (slots slots′ : List ℕ) (room room′ : List ℤ) : Type 0 where
+  pub slots-stay : sound ≡ false → slots′ ≡ slots
+  pub room-stays : sound ≡ false → room′ ≡ room
 
 -- The lines of a rule, laid where there was none, and what does not change in a run over them.
 unfoldable pub linesIn : (ms ps : List ℤ) → Columns
@@ -39,3 +44,4 @@ runIn ms ps x slots b room = run x (viewOf (linesIn ms ps .arg) slots) b room
 -- By a portion of n steps.
 pub record Carries (form : Form) (ms ps ts : List ℤ) (n : ℕ) (x : State) (slots : List ℕ) (b : List Binding) (room : List ℤ) (sound : Bool) (x′ : State) (slots′ : List ℕ) (b′ : List Binding) (room′ : List ℤ) : Type 0 where
   pub tries : Tries (envIn form ms ps ts) (allowed n (x .steps)) (runIn ms ps x slots b room) sound (runIn ms ps x′ slots′ b′ room′)
+  pub still : Still sound slots slots′ room room′

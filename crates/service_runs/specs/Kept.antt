@@ -31,7 +31,7 @@ use Rattle.services.specs.Matches.{Ready}
 use Rattle.services.proofs.Matches.{ready-sane, ready-target}
 use Rattle.search.proofs.Accepted.{accepted-fine}
 use Rattle.run_states.specs.Standing.{numbersOf, Going, Stood, over, goes-on, advance-told, advance-room, advance-held}
-use Rattle.service_runs.specs.Going.{Tries, linesIn, envIn, runIn, Carries}
+use Rattle.service_runs.specs.Going.{Tries, Still, linesIn, envIn, runIn, Carries}
 use Rattle.service_runs.specs.declared.run.Run as struct
 use Rattle.service_runs.specs.declared.run.Told as report
 use Rattle.service_runs.specs.declared.run.Out as out
@@ -47,6 +47,18 @@ unlikeNumbers = record { answer = 19; place = 0; rows = 0; steps = 0; words = 0;
 -- An advance over words: as it is carried out where they are accepted.
 pub record Goes (form : Form) (ms ps ts : List ℤ) (n : ℕ) (x : State) (slots : List ℕ) (b : List Binding) (room : List ℤ) (sound : Bool) (x′ : State) (slots′ : List ℕ) (b′ : List Binding) (room′ : List ℤ) : Type 0 where
   pub goes : Ready ms ps ts → Carries form ms ps ts n x slots b room sound x′ slots′ b′ room′
+  pub still : Still sound slots slots′ room room′
+
+-- The lengths of an accepted rule and target.
+pub record Lengths (m p t : ℕ) : Type 0 where
+  pub matcher : m ≤ 64
+  pub pattern : p ≤ 256
+  pub target : t ≤ 1024
+
+-- The same over the first words of what a run keeps.
+pub record Over (form : Form) (matchers : List ℤ) (m : ℕ) (patterns : List ℤ) (p : ℕ) (targets : List ℤ) (t n : ℕ) (x : State) (slots : List ℕ) (b : List Binding) (room : List ℤ) (sound : Bool) (x′ : State) (slots′ : List ℕ) (b′ : List Binding) (room′ : List ℤ) : Type 0 where
+  pub goes : Lengths m p t → Goes form (take m matchers) (take p patterns) (take t targets) n x slots b room sound x′ slots′ b′ room′
+  pub still : Still sound slots slots′ room room′
 
 -- ---- What the numbers of a run stand for, over a rule and a target that are accepted.
 
@@ -135,17 +147,53 @@ targetIn r = take (r .target) (r .targets)
 abbrev pub refusalIn : struct.Run → Numbers
 refusalIn r = record { answer = r .answer; place = r .place; rows = 0; steps = 0; words = 0; cause = r .cause }
 
-pub record Lengths (m p t : ℕ) : Type 0 where
-  pub matcher : m ≤ 64
-  pub pattern : p ≤ 256
-  pub target : t ≤ 1024
+-- The answers of an opening that refuses.
+pub data Refusal (a : ℕ) : Type 0 where
+  unknown : a ≡ 20 → Refusal a
+  tested : 1 ≤ a → a ≤ 6 → Refusal a
 
 pub data Kept (r : struct.Run) (l : Lent) : Type 0 where
-  refused : (r .answer ≡ 0 → ⊥) → l ≡ record { size = r .size; held = ended (refusalIn r) } → Kept r l
+  refused : Refusal (r .answer) → l ≡ record { size = r .size; held = ended (refusalIn r) } → Kept r l
   stands : r .answer ≡ 0 → Lengths (r .matcher) (r .pattern) (r .target) → (g : Ready (matcherIn r) (patternIn r) (targetIn r)) (h : Held) → l ≡ record { size = r .size; held = h }
       → Standing (formBy (eqb (r .form) 2)) (matcherIn r) (patternIn r) (targetIn r) g (r .size) (r .state) (r .slots) (r .binds) h → Kept r l
 
--- An advance of a run that holds what the last call left: the numbers, every word of the room, and what it then holds are those of `run_rules`.
+-- The answers of an advance.
+pub data Tabled (a : ℕ) : Type 0 where
+  is-done : a ≡ 0 → Tabled a
+  is-refusal : Refusal a → Tabled a
+  is-budget : a ≡ 7 → Tabled a
+  is-full : a ≡ 8 → Tabled a
+  is-unlike : a ≡ 19 → Tabled a
+
+-- What a run tells that has a refusal, or another number in its place.
+pub record Refuses (a i c : ℕ) (t : report.Told) : Type 0 where
+  pub again : Refusal a → told t ≡ record { answer = a; place = i; rows = 0; steps = 0; words = 0; cause = c }
+  pub tabled : Tabled (t .answer)
+
+-- A run with another state, other bindings and slots; its words, form and size are the same.
+unfoldable pub changed : struct.Run → State → List Binding → (slots : List ℕ) → struct.Run
+changed r x b slots = record {
+  state = x;
+  binds = b;
+  slots = slots;
+  size = r .size;
+  place = r .place;
+  answer = r .answer;
+  cause = r .cause;
+  form = r .form;
+  matcher = r .matcher;
+  pattern = r .pattern;
+  target = r .target;
+  matchers = r .matchers;
+  patterns = r .patterns;
+  targets = r .targets;
+}
+
+-- An advance of a run that holds what the last call left: the numbers, every word of the room, and what it then holds are those of `run_rules`. Of any run, also
+-- one lent otherwise: it changes only where it may, and tells an answer of an advance; with 19 run and room are as they were.
 pub record Advances (r : struct.Run) (n : ℕ) (room : List ℤ) (o : out.Out) (room′ : List ℤ) : Type 0 where
   pub as-held : (l : Lent) → Kept r l
       → (told (o .told) ≡ advanced n room l .numbers) × (room′ ≡ advanced n room l .room) × Kept (o .run) (advanced n room l .run)
+  pub within : o .run ≡ changed r (o .run .state) (o .run .binds) (o .run .slots)
+  pub tabled : Tabled (o .told .answer)
+  pub unlike-still : o .told .answer ≡ 19 → (o .run ≡ r) × (room′ ≡ room)

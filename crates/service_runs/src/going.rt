@@ -13,17 +13,18 @@ use value_places::places::places_of;
 use value_rows::Binding;
 use words::casts::wide;
 ghost use mathlib.Core.Path.{_≡_};
-ghost use Prim.Native.Nat.{_-_};
+ghost use Prim.Native.Nat.{_-_, _*_};
+ghost use lib.ListN.{length};
 ghost use Rattle.run_rules.specs.Lent.{allowed};
 ghost use Rattle.value_rows.specs.Row.{formBy};
 ghost use Rattle.services.specs.Matches.{Ready};
 ghost use Rattle.tables.specs.Line.{columnsOf};
-ghost use Rattle.tables.specs.Slot.{viewOf};
+ghost use Rattle.tables.specs.Slot.{slotCount, viewOf};
 ghost use Rattle.value_places.specs.Places.{Target};
 ghost use Rattle.search.specs.Run.{envOf, run, runOf};
 ghost use Rattle.search.specs.Valid.{Fine, Valid};
 ghost use Rattle.run_sound.specs.Sound.{Numbered, Closes};
-ghost use Rattle.service_runs.specs.Going.{Tries, Carries};
+ghost use Rattle.service_runs.specs.Going.{Tries, Still, Carries};
 
 // The most steps of a run.
 const MOST: u64 = 4294967295;
@@ -90,7 +91,7 @@ fn try_on(
     room: &mut [i32],
 ) -> Tried
     requires { ⌜ Target (now t) ⌝ ∗ ⌜ Fine (envOf (columnsOf (now lines)) (now m) (now t) n (formBy origins)) ⌝ ∗ ⌜ Numbered (columnsOf (now lines) .arg) (now slots) ⌝ ∗ ⌜ Closes (columnsOf (now lines) .op) (columnsOf (now lines) .arg) ⌝ ∗ ⌜ x .live ≡ 1 ⌝ }
-    ensures { λ r. ⌜ Tries (envOf (columnsOf (now (lines .entry))) (now (m .entry)) (now (t .entry)) n (formBy origins)) (budget - x .steps) (run x (viewOf (columnsOf (now (lines .entry)) .arg) (now (slots .entry))) b (now (room .entry))) (r .sound) (run (r .state) (viewOf (columnsOf (now (lines .entry)) .arg) (now (slots .exit))) (r .binds) (now (room .exit))) ⌝ }
+    ensures { λ r. ⌜ Tries (envOf (columnsOf (now (lines .entry))) (now (m .entry)) (now (t .entry)) n (formBy origins)) (budget - x .steps) (run x (viewOf (columnsOf (now (lines .entry)) .arg) (now (slots .entry))) b (now (room .entry))) (r .sound) (run (r .state) (viewOf (columnsOf (now (lines .entry)) .arg) (now (slots .exit))) (r .binds) (now (room .exit))) ⌝ ∗ ⌜ Still (r .sound) (now (slots .entry)) (now (slots .exit)) (now (room .entry)) (now (room .exit)) ⌝ }
 {
     if !is_sound(x, b, room.len(), t, lines, slots) {
         return Tried {
@@ -109,40 +110,23 @@ fn try_on(
     }
 }
 
-// What is left of a run after an advance, and whether it was sound.
-pub struct Carried {
-    pub sound: bool,
-    pub state: State,
-    pub binds: [Binding; 16],
-    pub slots: Slots,
-}
-
 // An advance over words that are accepted.
 pub fn carry_on(
     x: State,
     b: [Binding; 16],
-    slots: Slots,
     portion: u32,
     origins: bool,
     m: &[i32],
     p: &[i32],
     t: &[i32],
+    slots: &mut Slots,
     room: &mut [i32],
-) -> Carried
-    requires { ⌜ Ready (now m) (now p) (now t) ⌝ ∗ ⌜ x .live ≡ 1 ⌝ }
-    ensures { λ r. ⌜ Carries (formBy origins) (now (m .entry)) (now (p .entry)) (now (t .entry)) portion x slots b (now (room .entry)) (r .sound) (r .state) (r .slots) (r .binds) (now (room .exit)) ⌝ }
+) -> Tried
+    requires { ⌜ Ready (now m) (now p) (now t) ⌝ ∗ ⌜ x .live ≡ 1 ⌝ ∗ ⌜ length (now slots) ≡ 5 * slotCount ⌝ }
+    ensures { λ r. ⌜ Carries (formBy origins) (now (m .entry)) (now (p .entry)) (now (t .entry)) portion x (now (slots .entry)) b (now (room .entry)) (r .sound) (r .state) (now (slots .exit)) (r .binds) (now (room .exit)) ⌝ }
 {
-    let mut left = slots;
     let mut lines = no_lines();
     let n = compile(m, p, &mut lines);
     let budget = budget_of(x.steps, portion);
-    let tried = try_on(x, b, budget, n, origins, m, t, &lines, &mut left, room);
-    let state = tried.state;
-    let binds = tried.binds;
-    Carried {
-        sound: tried.sound,
-        state: state,
-        binds: binds,
-        slots: left,
-    }
+    try_on(x, b, budget, n, origins, m, t, &lines, slots, room)
 }

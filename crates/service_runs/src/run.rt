@@ -1,5 +1,5 @@
 // A run that is lent by the game, as a struct by value: what it holds, and an advance of it.
-use crate::going::Carried;
+use crate::going::Tried;
 use crate::going::carry_on;
 use search_step::State;
 use tables::slot::Slots;
@@ -9,13 +9,13 @@ use tests::rule_refused;
 use tests::target_refused;
 use value_rows::Binding;
 ghost use mathlib.Core.Path.{_≡_};
-ghost use Prim.Native.Nat.{_≤_};
-ghost use lib.ListN.{length, take};
+ghost use Prim.Native.Nat.{_*_};
+ghost use lib.ListN.{length};
+ghost use Rattle.tables.specs.Slot.{slotCount};
 ghost use Rattle.value_rows.specs.Row.{formBy};
 ghost use Rattle.services.specs.Matches.{Ready};
 ghost use Rattle.run_sound.specs.Tested.{Decides};
-ghost use Rattle.service_runs.specs.Going.{Carries};
-ghost use Rattle.service_runs.specs.Kept.{Goes, Lengths, Advances, told, unlikeNumbers};
+ghost use Rattle.service_runs.specs.Kept.{Goes, Over, Lengths, Refusal, Refuses, Advances, told, unlikeNumbers};
 ghost use Rattle.run_states.specs.Standing.{numbersOf};
 
 // Matcher, pattern and target are kept in full arrays, with their lengths; `answer` is a refusal at the opening, or 0.
@@ -57,6 +57,14 @@ pub struct Out {
 // 19: a room unlike the size given at the opening.
 const UNLIKE: u32 = 19;
 
+// The refusals of an opening: 1 to 6, and a row form that there is not.
+const UNFIT: u32 = 6;
+
+pub const UNKNOWN_FORM: u32 = 20;
+
+// The row form that tells origins.
+const ORIGINS: u32 = 2;
+
 // The longest matcher, pattern and target.
 const MATCHERS: usize = 64;
 
@@ -94,33 +102,44 @@ fn is_ready(m: &[i32], p: &[i32], t: &[i32]) -> bool
 fn go_on(
     x: State,
     b: [Binding; 16],
-    slots: Slots,
     portion: u32,
     origins: bool,
     m: &[i32],
     p: &[i32],
     t: &[i32],
+    slots: &mut Slots,
     room: &mut [i32],
-) -> Carried
-    requires { ⌜ x .live ≡ 1 ⌝ }
-    ensures { λ r. ⌜ Goes (formBy origins) (now (m .entry)) (now (p .entry)) (now (t .entry)) portion x slots b (now (room .entry)) (r .sound) (r .state) (r .slots) (r .binds) (now (room .exit)) ⌝ }
+) -> Tried
+    requires { ⌜ x .live ≡ 1 ⌝ ∗ ⌜ length (now slots) ≡ 5 * slotCount ⌝ }
+    ensures { λ r. ⌜ Goes (formBy origins) (now (m .entry)) (now (p .entry)) (now (t .entry)) portion x (now (slots .entry)) b (now (room .entry)) (r .sound) (r .state) (now (slots .exit)) (r .binds) (now (room .exit)) ⌝ }
 {
     if !is_ready(m, p, t) {
-        return Carried {
+        return Tried {
             sound: false,
             state: x,
             binds: b,
-            slots: slots,
         };
     }
-    carry_on(x, b, slots, portion, origins, m, p, t, room)
+    carry_on(x, b, portion, origins, m, p, t, slots, room)
 }
 
-// The same over the words that the run keeps.
+// Whether the lengths of the words are those of an accepted rule and target.
+fn are_lengths(matcher: usize, pattern: usize, target: usize) -> bool
+    ensures { λ r. ⌜ Decides r (Lengths matcher pattern target) ⌝ }
+{
+    if MATCHERS < matcher {
+        return false;
+    }
+    if PATTERNS < pattern {
+        return false;
+    }
+    target <= TARGETS
+}
+
+// The same over the words that a run keeps.
 fn on_words(
     x: State,
     b: [Binding; 16],
-    slots: Slots,
     portion: u32,
     origins: bool,
     matchers: &[i32; 64],
@@ -129,23 +148,31 @@ fn on_words(
     pattern: usize,
     targets: &[i32; 1024],
     target: usize,
+    slots: &mut Slots,
     room: &mut [i32],
-) -> Carried
-    requires { ⌜ x .live ≡ 1 ⌝ ∗ ⌜ matcher ≤ 64 ⌝ ∗ ⌜ pattern ≤ 256 ⌝ ∗ ⌜ target ≤ 1024 ⌝ }
-    ensures { λ r. ⌜ Goes (formBy origins) (take matcher (now (matchers .entry))) (take pattern (now (patterns .entry))) (take target (now (targets .entry))) portion x slots b (now (room .entry)) (r .sound) (r .state) (r .slots) (r .binds) (now (room .exit)) ⌝ }
+) -> Tried
+    requires { ⌜ x .live ≡ 1 ⌝ ∗ ⌜ length (now slots) ≡ 5 * slotCount ⌝ }
+    ensures { λ r. ⌜ Over (formBy origins) (now (matchers .entry)) matcher (now (patterns .entry)) pattern (now (targets .entry)) target portion x (now (slots .entry)) b (now (room .entry)) (r .sound) (r .state) (now (slots .exit)) (r .binds) (now (room .exit)) ⌝ }
 {
+    if !are_lengths(matcher, pattern, target) {
+        return Tried {
+            sound: false,
+            state: x,
+            binds: b,
+        };
+    }
     let m = &matchers[..];
     let p = &patterns[..];
     let t = &targets[..];
     go_on(
         x,
         b,
-        slots,
         portion,
         origins,
         &m[..matcher],
         &p[..pattern],
         &t[..target],
+        slots,
         room,
     )
 }
@@ -172,69 +199,38 @@ fn tell(x: State) -> Told
     }
 }
 
-// An advance of a run in which a state stands. One that is not sound is told as one that the room is unlike.
-fn advance_on(run: Run, portion: u32, room: &mut [i32]) -> Out
-    requires { ⌜ length (now room) ≡ run .size ⌝ ∗ ⌜ run .answer ≡ 0 ⌝ ∗ ⌜ run .state .live ≡ 1 ⌝ ∗ ⌜ Lengths (run .matcher) (run .pattern) (run .target) ⌝ }
-    ensures { λ r. ⌜ Advances run portion (now (room .entry)) r (now (room .exit)) ⌝ }
+// Whether a run can have been refused with this answer at its opening.
+fn is_refusal(answer: u32) -> bool
+    ensures { λ r. ⌜ Decides r (Refusal answer) ⌝ }
 {
-    let matchers = run.matchers;
-    let patterns = run.patterns;
-    let targets = run.targets;
-    let matcher = run.matcher;
-    let pattern = run.pattern;
-    let target = run.target;
-    let form = run.form;
-    let state = run.state;
-    let binds = run.binds;
-    let slots = run.slots;
-    let found = on_words(
-        state,
-        binds,
-        slots,
-        portion,
-        form == 2,
-        &matchers,
-        matcher,
-        &patterns,
-        pattern,
-        &targets,
-        target,
-        room,
-    );
-    if !found.sound {
-        return Out {
-            run: run,
-            told: unlike(),
-        };
+    if answer == UNKNOWN_FORM {
+        return true;
     }
-    let mut next = run;
-    let x = found.state;
-    let b = found.binds;
-    let s = found.slots;
-    next.state = x;
-    next.binds = b;
-    next.slots = s;
-    Out {
-        run: next,
-        told: tell(x),
+    if answer == 0 {
+        return false;
+    }
+    answer <= UNFIT
+}
+
+// What a run tells that was refused at its opening.
+fn refused(answer: u32, place: usize, cause: u32) -> Told
+    ensures { λ r. ⌜ Refuses answer place cause r ⌝ }
+{
+    if !is_refusal(answer) {
+        return unlike();
+    }
+    Told {
+        answer: answer,
+        place: place,
+        rows: 0,
+        steps: 0,
+        words: 0,
+        cause: cause,
     }
 }
 
-// Whether the lengths of the words are those of an accepted rule and target.
-fn are_lengths(matcher: usize, pattern: usize, target: usize) -> bool
-    ensures { λ r. ⌜ Decides r (Lengths matcher pattern target) ⌝ }
-{
-    if MATCHERS < matcher {
-        return false;
-    }
-    if PATTERNS < pattern {
-        return false;
-    }
-    target <= TARGETS
-}
-
-// An advance of a run, by value, for any run and any room.
-pub fn advanced(run: Run, portion: u32, room: &mut [i32]) -> Out
+// An advance of a run, by value, for any run and any room. One that is not sound is told as one that the room is unlike.
+pub fn advanced(mut run: Run, portion: u32, room: &mut [i32]) -> Out
     ensures { λ r. ⌜ Advances run portion (now (room .entry)) r (now (room .exit)) ⌝ }
 {
     let size = run.size;
@@ -248,14 +244,7 @@ pub fn advanced(run: Run, portion: u32, room: &mut [i32]) -> Out
     if answer != 0 {
         return Out {
             run: run,
-            told: Told {
-                answer: answer,
-                place: run.place,
-                rows: 0,
-                steps: 0,
-                words: 0,
-                cause: run.cause,
-            },
+            told: refused(answer, run.place, run.cause),
         };
     }
     let x = run.state;
@@ -265,11 +254,40 @@ pub fn advanced(run: Run, portion: u32, room: &mut [i32]) -> Out
             told: tell(x),
         };
     }
-    if !are_lengths(run.matcher, run.pattern, run.target) {
+    let form = run.form;
+    let matcher = run.matcher;
+    let pattern = run.pattern;
+    let target = run.target;
+    let matchers = run.matchers;
+    let patterns = run.patterns;
+    let targets = run.targets;
+    let binds = run.binds;
+    let found = on_words(
+        x,
+        binds,
+        portion,
+        form == ORIGINS,
+        &matchers,
+        matcher,
+        &patterns,
+        pattern,
+        &targets,
+        target,
+        &mut run.slots,
+        room,
+    );
+    if !found.sound {
         return Out {
             run: run,
             told: unlike(),
         };
     }
-    advance_on(run, portion, room)
+    let y = found.state;
+    let b = found.binds;
+    run.state = y;
+    run.binds = b;
+    Out {
+        run: run,
+        told: tell(y),
+    }
 }

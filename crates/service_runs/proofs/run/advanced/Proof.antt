@@ -1,20 +1,22 @@
--- `service_runs::run::advanced` meets its contract: 19, a refusal, an end, or an advance. Assumes nothing.
-use Rattle.service_runs.specs.Kept.{told}
-use Rattle.service_runs.proofs.Lending.{advance-rules}
+-- `service_runs::run::advanced` meets its contract: 19, a refusal, an end, or an advance from the states that it holds. Assumes nothing.
+use Rattle.service_runs.specs.Kept.{told, changed}
+use Rattle.service_runs.proofs.Lending.{adv-unsound, adv-went, advance-rules}
 use Rattle.service_runs.proofs.run.advanced.Statement.{statement}
 use Rattle.service_runs.proofs.run.advanced.Tie as tie
 
 pub advanced-spec : {M : Type 1} → statement M
-unfolding told
+unfolding told changed
 advanced-spec = tie.close (tie.spec
     (λ c κs. search advance-rules)
     (λ c. search advance-rules)
-    (λ c. search advance-rules)
-    (λ c κs. search advance-rules)
-    (λ c. search advance-rules)
-    (λ c κs. search advance-rules)
     (λ c κs. search advance-rules)
     (λ c. search advance-rules)
     (λ c κs. search advance-rules)
     (λ c. search advance-rules)
-    (λ c. search advance-rules))
+    (λ c κs. search advance-rules)
+    (λ c κs. search advance-rules)
+    (λ c. search advance-rules)
+    (λ c. adv-unsound _ _ _ _ (c .before .before .before .before .before .before .before .before .before .before .before .before .before .before .before .before .before .before .if1 .left) (c .before .before .before .before .before .before .before .before .before .before .before .before .before .before .before .before .before .if2 .left) (c .before .before .before .before .before .before .before .before .before .before .before .before .before .before .if3 .left) _ (c .before .before .before .before .on-words .result .sound) _ _ _ (c .before .before .before .before .on-words .ensures) (c .before .if4 .taken) (c .unlike2 .ensures))
+    (λ c κs. search advance-rules)
+    (λ c. search advance-rules)
+    (λ c. adv-went _ _ _ _ (c .before .before .before .before .before .before .before .before .before .before .before .before .before .before .before .before .before .before .before .before .if1 .left) (c .before .before .before .before .before .before .before .before .before .before .before .before .before .before .before .before .before .before .before .if2 .left) (c .before .before .before .before .before .before .before .before .before .before .before .before .before .before .before .before .if3 .left) _ (c .before .before .before .before .before .before .on-words .result .sound) _ _ _ (c .before .before .before .before .before .before .on-words .ensures) (c .before .before .before .if4 .left) (c .tell2 .ensures)))

@@ -1,0 +1,13 @@
+-- `service_runs::opening::opened` meets its contract: the form, then the tests. Assumes nothing.
+use Rattle.service_runs.proofs.First.{opening-rules}
+use Rattle.service_runs.proofs.opening.opened.Statement.{statement}
+use Rattle.service_runs.proofs.opening.opened.Tie as tie
+
+pub opened-spec : {M : Type 1} → statement M
+opened-spec = tie.close (tie.spec
+    (λ c κs. search opening-rules)
+    (λ c. search opening-rules)
+    (λ c κs. search opening-rules)
+    (λ c. search opening-rules)
+    (λ c κs. search opening-rules)
+    (λ c. search opening-rules))
