@@ -108,10 +108,10 @@ extern "C" {
 }
 
 /// A byte that no number of a small run has, behind the numbers: it must stay.
-const MARK: u8 = 0xa5;
+pub const MARK: u8 = 0xa5;
 
 /// The numbers in the bytes, after a look at what the call gave back and at the bytes behind them.
-fn numbers<const N: usize>(bytes: &[u8], answer: u32) -> [u64; N] {
+pub fn numbers<const N: usize>(bytes: &[u8], answer: u32) -> [u64; N] {
     let mut all = [0; N];
     for (number, bytes) in all.iter_mut().zip(bytes.chunks(8)) {
         *number = u64::from_le_bytes(bytes.try_into().unwrap());

@@ -6,7 +6,9 @@
 //!                                  `rounds` (the other search order); prints the steps of one run
 //!   bench beside                   what is measured beside the library as it is: who, in tenths the most of its instructions, cases; only what there is
 //!   bench listing ROUNDS           a book of 1,000 rules tested and listed again and again; prints the words of its blocks, and the bar
-//!   bench stack                    the deepest stack of a call in bytes, and its bar
+//!   bench portions CASE CALLS WHO  a rule for CALLS times 1,000 steps: in advances of a run (`run`), or in one match (`match`)
+//!   bench advance                  what an advance may cost: in hundredths the most of the same steps in one match, the instructions added, rules
+//!   bench stack                    the deepest stacks of a match and of an advance in bytes, and their bars
 //! The services are the library's, through the C border (built with `--cfg library`), or else those of a slow second program.
 
 mod books;
@@ -22,6 +24,8 @@ mod listing;
 mod model;
 mod portions;
 mod reference;
+#[cfg(library)]
+mod runs;
 mod scripts;
 mod speed;
 #[cfg(library)]
@@ -107,7 +111,7 @@ const TESTED: Services = Services {
         total: library::book_total,
         read: library::book_read,
     }),
-    open: no_run,
+    open: runs::open,
 };
 
 #[cfg(not(library))]
@@ -135,7 +139,7 @@ fn run_cases(services: &Services, paths: &[String]) -> bool {
 
 fn run_comparison(inputs: u64, seed: u64) -> bool {
     #[cfg(library)]
-    println!("{}: {} slices too short for the numbers, answer 24, nothing written", TESTED.name, library::short());
+    println!("{}: {} slices too short for the numbers, answer 24, nothing written", TESTED.name, library::short() + runs::short());
     let lawful = [REFERENCE, TESTED].iter().all(|services| {
         let laws = laws::random(services, inputs / 5, seed);
         let [two, rounds] = [laws.dialects, laws.rounds];
@@ -195,10 +199,13 @@ fn run_speed(name: &str, rounds: u64, who: &str, budget: Option<u32>) -> bool {
         "rounds" => &ROUNDS,
         _ => &TESTED,
     };
-    let case = speed::CASES.iter().chain(&speed::EITHER_ORDER).find(|case| case.name == name);
-    let case = case.unwrap_or_else(|| panic!("no case {name}: bench rules lists them"));
-    println!("{}", case.run(services, rounds, budget));
+    println!("{}", case_of(name).run(services, rounds, budget));
     true
+}
+
+fn case_of(name: &str) -> &'static speed::Case {
+    let case = speed::CASES.iter().chain(&speed::EITHER_ORDER).find(|case| case.name == name);
+    case.unwrap_or_else(|| panic!("no case {name}: bench rules lists them"))
 }
 
 fn list_beside() -> bool {
@@ -213,7 +220,10 @@ fn list_beside() -> bool {
 
 fn run_stack() -> bool {
     #[cfg(library)]
-    println!("{} {}", stack::deepest(), speed::STACK_BAR);
+    {
+        println!("{} {} a match", stack::deepest(), speed::STACK_BAR);
+        println!("{} {} an advance", stack::of_an_advance(), speed::ADVANCE_STACK_BAR);
+    }
     true
 }
 
@@ -221,6 +231,21 @@ fn run_listing(rounds: u64) -> bool {
     #[cfg(library)]
     println!("{} {}", listing::words(rounds), speed::LISTING_BAR);
     let _ = rounds;
+    true
+}
+
+fn list_advance() -> bool {
+    let (most, added) = speed::ADVANCE_BAR;
+    if cfg!(library) {
+        println!("{most} {added} {}", speed::ADVANCED);
+    }
+    true
+}
+
+fn run_portions(name: &str, calls: u64, who: &str) -> bool {
+    #[cfg(library)]
+    runs::portions(case_of(name), calls as u32, who == "match");
+    let _ = (name, calls, who);
     true
 }
 
@@ -247,9 +272,11 @@ fn main() {
         }
         Some("beside") => list_beside(),
         Some("listing") => run_listing(number(&words, 1)),
+        Some("portions") if words.len() == 4 => run_portions(&words[1], number(&words, 2), &words[3]),
+        Some("advance") => list_advance(),
         Some("stack") => run_stack(),
         Some("recount") => recount(&words[1..]),
-        _ => panic!("bench cases FILE.. | compare N SEED | rules | speed CASE ROUNDS WHO [BUDGET] | beside | listing ROUNDS | stack | recount FILE.."),
+        _ => panic!("bench cases FILE.. | compare N SEED | rules | speed CASE ROUNDS WHO [BUDGET] | beside | listing ROUNDS | portions CASE CALLS WHO | advance | stack | recount FILE.."),
     };
     std::process::exit(if good { 0 } else { 1 });
 }

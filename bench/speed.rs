@@ -24,9 +24,16 @@ pub enum Per {
 /// The deepest stack of a match call that is allowed, in bytes.
 pub const STACK_BAR: usize = 28_928;
 
+/// The same of an advance.
+pub const ADVANCE_STACK_BAR: usize = 65_024;
+
 /// The most that dialect 2 may take of dialect 1's instructions, and a state by rounds of a state depth-first, in tenths.
 pub const DIALECT_BAR: u64 = 20;
 pub const ROUNDS_BAR: u64 = 60;
+
+/// An advance by 1,000 steps: in hundredths the most of the same steps inside one match, and the instructions that may be added; the rules that are measured.
+pub const ADVANCE_BAR: (u64, u64) = (115, 6_000);
+pub const ADVANCED: &str = "T1 T2 T3 T4";
 
 /// The most instructions for a word of a book of 1,000 rules that is tested and listed, block by block.
 pub const LISTING_BAR: u64 = 40;
@@ -99,6 +106,11 @@ fn hands(count: i32) -> Vec<i32> {
 }
 
 impl Case {
+    /// Matcher and pattern, and the units.
+    pub fn words(&self) -> ([&'static [i32]; 2], Vec<i32>) {
+        ([self.matcher, self.pattern], (self.target)())
+    }
+
     /// Runs the rule `rounds` times, perhaps by another budget; gives the steps of one run. With no rounds all else is done, so that it can be taken off.
     pub fn run(&self, services: &Services, rounds: u64, budget: Option<u32>) -> u64 {
         let target = (self.target)();

@@ -1,6 +1,7 @@
-//! The deepest stack of a match call: the stack below the caller is painted, and after the call the lowest byte that lost its paint is looked for.
+//! The deepest stack of a call, a match or an advance: the stack below the caller is painted, and after the call the lowest byte that lost its paint is looked for.
 
 use crate::library::call_match;
+use crate::runs;
 use std::arch::asm;
 use std::ptr::{read_volatile, write_volatile};
 
@@ -12,16 +13,31 @@ const RED_ZONE: usize = 128;
 
 /// How many bytes below this frame a call writes.
 #[inline(never)]
-fn depth(rule: [&[i32]; 2], target: &[i32]) -> usize {
-    let (mut room, mut numbers) = ([0; 64], [0; 48]);
+fn below(call: impl FnOnce()) -> usize {
     let top: usize;
     unsafe { asm!("mov {}, rsp", out(reg) top) };
     for at in top - PAINTED..top - RED_ZONE {
         unsafe { write_volatile(at as *mut u8, PAINT) };
     }
-    call_match(rule, target, u32::MAX, &mut room, &mut numbers);
+    call();
     let lowest = (top - PAINTED..top).find(|&at| unsafe { read_volatile(at as *const u8) } != PAINT);
     top - lowest.unwrap_or(top)
+}
+
+fn depth(rule: [&[i32]; 2], target: &[i32]) -> usize {
+    let (mut room, mut numbers) = ([0; 64], [0; 48]);
+    below(|| {
+        call_match(rule, target, u32::MAX, &mut room, &mut numbers);
+    })
+}
+
+/// Of an advance: it keeps copies of the run, and calls what a match calls.
+pub fn of_an_advance() -> usize {
+    let words: [&[i32]; 3] = [&[3, 3, 3, 3, 1], &[5, 1, 0, 5, 3, 0, 0, 0], &[1, 2, 1, 1, 1, 1, 1, 1, 0, 5, 1, 1, 1, 1, 1, 1, 0, 5]];
+    let (mut run, mut room) = (runs::opened(1, words, 64).0, [0; 64]);
+    below(|| {
+        runs::advanced(&mut run, 1_000, &mut room);
+    })
 }
 
 /// A value of so many collections or tuples, one inside the other.

@@ -21,10 +21,11 @@
  * The answer's numbers are written to `numbers`, eight bytes each, low byte
  * first; its further bytes are left alone. The call gives back the answer. No
  * input is wrong: every words, budget and room give one of the answers below.
- * Nothing is allocated, nothing is kept between calls, and two threads may call
- * at the same time on slices of their own. The deepest stack of a match, measured
- * over the rules of bench/, is under 29 KB. A call is not interrupted from
- * outside: it ends by itself, a match after at most `budget` steps.
+ * Nothing is allocated, nothing is kept between calls but in a run that the game
+ * lends, and two threads may call at the same time on slices of their own. The
+ * deepest stack of a match, measured over the rules of bench/, is under 29 KB,
+ * that of an advance under 65 KB. A call is not interrupted from outside: it ends
+ * by itself, a match after at most `budget` steps, an advance after `steps`.
  *
  * How to choose a room. Either by what the game shows: with room for some rows
  * a match ends with 8 when the next one does not fit, and the rows before it
@@ -44,7 +45,7 @@ extern "C" {
 /* The version of this header. lozhbinor_version() gives that of the library:
  * the same number, or the two do not belong together. */
 #define LOZHBINOR_VERSION_MAJOR 2
-#define LOZHBINOR_VERSION_MINOR 3
+#define LOZHBINOR_VERSION_MINOR 4
 #define LOZHBINOR_VERSION (1000 * LOZHBINOR_VERSION_MAJOR + LOZHBINOR_VERSION_MINOR)
 
 uint32_t lozhbinor_version(void);
@@ -107,6 +108,7 @@ enum {
     LOZHBINOR_BOOK_LIVE = 16,     /* add: the badge is live already */
     LOZHBINOR_BOOK_FULL = 17,     /* add: no withdrawn block and no lent one */
     LOZHBINOR_BOOK_LONG = 18,     /* add: a rule of over 124 words */
+    LOZHBINOR_UNLIKE = 19,      /* an advance: a room unlike the size given at the opening */
     LOZHBINOR_FORM = 20,        /* there is no such row form; before 1 */
     LOZHBINOR_DIALECT = 22,     /* there is no such dialect; after 20 and before 1 */
     LOZHBINOR_BOOK_NOT_LIVE = 23, /* withdraw: the badge is not live */
@@ -291,6 +293,47 @@ uint32_t lozhbinor_book_block(const uint8_t *book, size_t book_bytes, uint32_t b
                               int32_t *words, size_t words_words,
                               uint8_t *numbers, size_t numbers_bytes);
 
+/* A run (docs/FRAMES.md): a match that goes on a little in each frame. The game
+ * owns the struct and lends it to the calls; between them it may be moved or
+ * copied like any other bytes, and nothing of it points anywhere. What stands in
+ * it is the library's. Run, room and numbers must not overlap. */
+enum {
+    LOZHBINOR_RUN_BYTES = 16632
+};
+struct lozhbinor_run {
+    uint64_t held[LOZHBINOR_RUN_BYTES / 8];
+};
+
+/* The numbers of an opening: answer and place as match gives them, and the cause. */
+enum {
+    LOZHBINOR_OPEN_CAUSE = 2,
+    LOZHBINOR_OPEN_NUMBERS = 3,
+    LOZHBINOR_OPEN_BYTES = 24
+};
+
+/* Opens a run, whatever the struct held before: 0 0 0, or the refusal, 20 or 1
+ * to 6. The words are copied: matcher, pattern and target need not stay. A run
+ * that is refused has ended. `room_words` is the length of the room that every
+ * advance will lend. */
+uint32_t lozhbinor_open(struct lozhbinor_run *run, uint32_t form,
+                        const int32_t *matcher, size_t matcher_words,
+                        const int32_t *pattern, size_t pattern_words,
+                        const int32_t *target, size_t target_words,
+                        uint32_t room_words,
+                        uint8_t *numbers, size_t numbers_bytes);
+
+/* Takes up to `steps` more steps. The numbers are match's, since the opening:
+ * after any portions they are those of one match with the sum of the portions
+ * as budget, cut at 4,294,967,295, and new rows stand in the room behind those
+ * before. 7: there is more to do. 0 and 8: the run has ended, and gives the same
+ * numbers again. 19 where the room has not the length given at the opening; then
+ * neither run nor room is touched. A struct that no call has left so is told as
+ * 19, or goes on as what it says: whatever its bytes, a call ends, reads and
+ * writes nothing but what is lent, and gives an answer of the table. */
+uint32_t lozhbinor_advance(struct lozhbinor_run *run, uint32_t steps,
+                           int32_t *room, size_t room_words,
+                           uint8_t *numbers, size_t numbers_bytes);
+
 /* The number with this index, of those that a call has written. */
 static inline uint64_t lozhbinor_number(const uint8_t *numbers, size_t index)
 {
@@ -318,6 +361,11 @@ struct lozhbinor_roomed {
     uint32_t answer;
     size_t place;
     uint64_t words;
+};
+struct lozhbinor_opened {
+    uint32_t answer;
+    size_t place;
+    uint32_t cause;
 };
 
 static inline struct lozhbinor_matched lozhbinor_matched_of(const uint8_t *numbers)
@@ -350,6 +398,15 @@ static inline struct lozhbinor_roomed lozhbinor_roomed_of(const uint8_t *numbers
     return r;
 }
 
+static inline struct lozhbinor_opened lozhbinor_opened_of(const uint8_t *numbers)
+{
+    struct lozhbinor_opened o;
+    o.answer = (uint32_t)lozhbinor_number(numbers, LOZHBINOR_ANSWER);
+    o.place = (size_t)lozhbinor_number(numbers, LOZHBINOR_PLACE);
+    o.cause = (uint32_t)lozhbinor_number(numbers, LOZHBINOR_OPEN_CAUSE);
+    return o;
+}
+
 /* An answer and a cause in a word or two, for a log. */
 static inline const char *lozhbinor_answer_name(uint32_t answer)
 {
@@ -373,6 +430,7 @@ static inline const char *lozhbinor_answer_name(uint32_t answer)
     case LOZHBINOR_BOOK_LIVE: return "live already";
     case LOZHBINOR_BOOK_FULL: return "no block";
     case LOZHBINOR_BOOK_LONG: return "too long";
+    case LOZHBINOR_UNLIKE: return "unlike room";
     case LOZHBINOR_FORM: return "form";
     case LOZHBINOR_DIALECT: return "dialect";
     case LOZHBINOR_BOOK_NOT_LIVE: return "not live";

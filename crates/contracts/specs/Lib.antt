@@ -5,3 +5,4 @@ pub mod Lines
 pub mod Rooms
 pub mod WorkedRooms
 pub mod Books
+pub mod Runs

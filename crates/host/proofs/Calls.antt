@@ -14,7 +14,8 @@ use Rattle.services.specs.Matches.{told}
 use Rattle.services.specs.Reviews.{reviewed}
 use Rattle.services.specs.declared.matching.Matched.{Matched}
 use Rattle.services.specs.declared.review.Reviewed.{Reviewed}
-use Rattle.host.specs.Border.{bytesOf, over, Called, called, matchNumbers, matchTold, matchCalled, matchWithCalled, reviewNumbers, reviewTold, reviewCalled, reviewWithCalled}
+use Rattle.host_numbers.specs.Numbers.{bytesOf, over}
+use Rattle.host.specs.Border.{Called, called, matchNumbers, matchTold, matchCalled, matchWithCalled, reviewNumbers, reviewTold, reviewCalled, reviewWithCalled}
 
 module _ (ms ps ts : List ℤ) (budget : ℕ) (room : List ℤ) (numbers : List ℕ) where
   pub match-short : length numbers < 48 → called 24 room numbers ≡ matchCalled ms ps ts budget room numbers

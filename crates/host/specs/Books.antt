@@ -11,7 +11,8 @@ use Rattle.book_rules.specs.Blocks.{Entry, badgeOf, entryOf}
 use Rattle.book_rules.specs.Books.{Book, Told, inUse, fault, passed, read}
 use Rattle.book_rules.specs.Bytes.{blockAt, holding}
 use Rattle.book.specs.Lookup.{blockFault, badgeUnless, ruleUnless}
-use Rattle.host.specs.Border.{bytesOf, over, Called, called}
+use Rattle.host_numbers.specs.Numbers.{bytesOf, over}
+use Rattle.host.specs.Border.{Called, called}
 
 -- What a call gives back, and what the book and the slice for the numbers hold then.
 pub record BookCalled : Type 0 where

@@ -6,7 +6,8 @@ use lib.ListN.{length}
 use lib.Dec.{ltb}
 use lib.IntN.{ℤ}
 use Rattle.room_rules.specs.Rooms.{Roomed, room}
-use Rattle.host.specs.Border.{Called, called, bytesOf, over}
+use Rattle.host_numbers.specs.Numbers.{bytesOf, over}
+use Rattle.host.specs.Border.{Called, called}
 
 unfoldable pub roomNumbers : Roomed → List ℕ
 roomNumbers r = r .answer ∷ r .place ∷ r .words ∷ []

@@ -1,7 +1,5 @@
 // Document 02, No. 7: the rule book at the border to C. A book is a slice of bytes and the number of blocks in use.
 use crate::SHORT;
-use crate::put_six;
-use crate::put_three;
 use book::adding::add;
 use book::lookup::read;
 use book::lookup::show;
@@ -10,6 +8,8 @@ use book::totals::total;
 use book::withdrawal::withdraw;
 use book_blocks::form::LONGEST;
 use book_blocks::writing::Named;
+use host_numbers::put_six;
+use host_numbers::put_three;
 use words::casts::wide;
 use words::casts::wide_index;
 ghost use mathlib.Core.Path.{_≡_};

@@ -2,6 +2,8 @@
 mod books;
 mod rooms;
 
+use host_numbers::put_six;
+use host_numbers::put_three;
 use services::matching::Matched;
 use services::matching::match_units;
 use services::matching::match_units_with;
@@ -11,47 +13,11 @@ use services::review::review_with;
 use words::casts::wide;
 use words::casts::wide_index;
 ghost use mathlib.Core.Path.{_≡_};
-ghost use Prim.Native.Nat.{_+_, _≤_};
+ghost use Prim.Native.Nat.{_≤_};
 ghost use lib.ListN.{length};
 ghost use mathlib.Core.List.{_∷_, []};
-ghost use Rattle.host.specs.Border.{digits, put, bytesOf, over, called, matchCalled, matchWithCalled, reviewCalled, reviewWithCalled};
-
-// A number's eight bytes, low byte first, from an index on.
-fn put_number(out: &mut [u8], at: usize, x: u64)
-    requires { ⌜ at + 8 ≤ length (now out) ⌝ }
-    ensures { λ _. ⌜ now (out .exit) ≡ put (now (out .entry)) at (digits 8 x) ⌝ }
-{
-    let mut left = x;
-    let mut k: usize = 0;
-    while k < 8 {
-        out[at + k] = (left % 256) as u8;
-        left = left / 256;
-        k += 1;
-    }
-}
-
-// The numbers of review's answer.
-fn put_three(out: &mut [u8], a: u64, b: u64, c: u64)
-    requires { ⌜ 24 ≤ length (now out) ⌝ }
-    ensures { λ _. ⌜ now (out .exit) ≡ over (bytesOf (a ∷ b ∷ c ∷ [])) (now (out .entry)) ⌝ }
-{
-    put_number(out, 0, a);
-    put_number(out, 8, b);
-    put_number(out, 16, c);
-}
-
-// The numbers of match's answer.
-fn put_six(out: &mut [u8], a: u64, b: u64, c: u64, d: u64, e: u64, f: u64)
-    requires { ⌜ 48 ≤ length (now out) ⌝ }
-    ensures { λ _. ⌜ now (out .exit) ≡ over (bytesOf (a ∷ b ∷ c ∷ d ∷ e ∷ f ∷ [])) (now (out .entry)) ⌝ }
-{
-    put_number(out, 0, a);
-    put_number(out, 8, b);
-    put_number(out, 16, c);
-    put_number(out, 24, d);
-    put_number(out, 32, e);
-    put_number(out, 40, f);
-}
+ghost use Rattle.host_numbers.specs.Numbers.{bytesOf, over};
+ghost use Rattle.host.specs.Border.{called, matchCalled, matchWithCalled, reviewCalled, reviewWithCalled};
 
 // The bytes of match's numbers, and of review's.
 const MATCH_BYTES: usize = 48;
@@ -88,11 +54,11 @@ fn tell_review(m: Reviewed, numbers: &mut [u8]) -> u32
 const SHORT: u32 = 24;
 
 // The library's version, as the header has it: a thousand times the first number, plus the second.
-const VERSION: u32 = 2003;
+const VERSION: u32 = 2004;
 
 #[no_mangle]
 pub extern "C" fn lozhbinor_version() -> u32
-    ensures { λ r. ⌜ r ≡ 2003 ⌝ }
+    ensures { λ r. ⌜ r ≡ 2004 ⌝ }
 {
     VERSION
 }

@@ -1,6 +1,6 @@
 // The words of room that suffice for a rule, at the border to C.
 use crate::SHORT;
-use crate::put_three;
+use host_numbers::put_three;
 use service_room::room;
 use words::casts::wide;
 use words::casts::wide_index;

@@ -23,7 +23,8 @@ use Rattle.book.specs.Lookup.{Read, nothing, rule, RuleTold, blockFault, badgeU
 use Rattle.book.specs.declared.withdrawal.Changed.{Changed}
 use Rattle.book.specs.declared.lookup.Rule.{Rule}
 use Rattle.book.specs.declared.lookup.Shown.{Shown}
-use Rattle.host.specs.Border.{bytesOf, over, Called, called}
+use Rattle.host_numbers.specs.Numbers.{bytesOf, over}
+use Rattle.host.specs.Border.{Called, called}
 use Rattle.host.specs.Books.{BookCalled, bookCalled, bookNumbers, changed, changing, told, telling, checked, checkCalled, ruleNumbers, ruleWords, shown, showing, readCalled, blockCalled}
 
 -- ---- Add and withdraw tell no number.

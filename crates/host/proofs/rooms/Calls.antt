@@ -10,7 +10,8 @@ use Rattle.room_rules.specs.Rooms as paper
 use Rattle.room_rules.specs.Rooms.{room}
 use Rattle.service_room.specs.Told.{roomed}
 use Rattle.service_room.specs.declared.Roomed.{Roomed}
-use Rattle.host.specs.Border.{bytesOf, over, called}
+use Rattle.host_numbers.specs.Numbers.{bytesOf, over}
+use Rattle.host.specs.Border.{called}
 use Rattle.host.specs.Rooms.{roomNumbers, roomTold, roomCalled}
 
 module _ (form : ℕ) (ms ps : List ℤ) (cap : ℤ) (longest : ℕ) (numbers : List ℕ) where

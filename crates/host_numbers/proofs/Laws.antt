@@ -6,7 +6,7 @@ use mathlib.Core.List.{List, [], _∷_, _++_}
 use lib.ListN.{length, set, length-set, length-append}
 use lib.Seq.{sets, sets-eq, length-sets}
 use borrow.Author.Needs.{needs}
-use Rattle.host.specs.Border.{digits, put, bytesOf, over}
+use Rattle.host_numbers.specs.Numbers.{digits, put, bytesOf, over}
 
 -- What is left to write after one byte more.
 one-more : (out : List ℕ) (at k n y : ℕ) → n ≡ 8 - k → k < 8 → put out (at + k) (digits n y) ≡ put (set out (at + k) (y % 256)) (at + (k + 1)) (digits (8 - (k + 1)) (y / 256))

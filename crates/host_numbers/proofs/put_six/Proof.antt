@@ -1,7 +1,7 @@
--- `host::put_six` meets its contract: number after number. Assumes nothing.
-use Rattle.host.proofs.Laws.{rules, six}
-use Rattle.host.proofs.put_six.Statement.{statement}
-use Rattle.host.proofs.put_six.Tie as tie
+-- `host_numbers::put_six` meets its contract: number after number. Assumes nothing.
+use Rattle.host_numbers.proofs.Laws.{rules, six}
+use Rattle.host_numbers.proofs.put_six.Statement.{statement}
+use Rattle.host_numbers.proofs.put_six.Tie as tie
 
 returns : tie.Need-returns
 returns c =

@@ -1,0 +1,2 @@
+-- What the bytes of numbers are.
+pub mod Numbers

@@ -1,0 +1,2 @@
+-- What the calls on a lent run give.
+pub mod Runs
