@@ -32,6 +32,7 @@ use Rattle.value_rows.specs.declared.Binding.{Binding}
 use Rattle.search_step.specs.declared.State.{State}
 use Rattle.search.specs.Run.{Run, run, opening}
 use Rattle.search.specs.Valid.{Valid}
+use Rattle.search.specs.Searched.{unbound}
 use Rattle.search.proofs.Begun.{first-valid}
 use Rattle.services.specs.Matches.{Ready}
 use Rattle.services.proofs.Matches.{was-accepted, was-refused, target-refused as refused-target, under, rule-whole, both-ready, ready-sane, matcher-few, pattern-few, ready-target, ready-some}
@@ -126,12 +127,12 @@ module _ (form : Form) (ms ps ts : List ℤ) (g : Ready ms ps ts) (size : ℕ) w
   first = going form (start (g .rule .matcher) (g .rule .pattern) (g .value)) [] 0 0 0
 
   before-first : Standing form ms ps ts g size (opening 0 (wholeAt ts 0)) noSlots (replicate 16 nothing) first
-  unfolding Standing envIn opening
+  unfolding Standing envIn opening unbound
   before-first = standing.begins (envIn form ms ps ts) (target-is form ms ps ts g) (fine form ms ps ts g) (g .rule .matcher) (g .rule .pattern) 0
       (sane form ms ps ts g .rule .fitting .0) (sane form ms ps ts g .rule .fitting .1) (wide form ms ps ts g) (closed form ms ps ts g) (means form ms ps ts g) (after form ms ps ts g)
       (g .value) (sane form ms ps ts g .target .target) (sane form ms ps ts g .target .fit) size
       (viewOf (linesIn ms ps .arg) noSlots) (replicate 16 nothing)
-      (λ room l. first-valid (envIn form ms ps ts) (ready-some ms ps ts g) (wholeAt ts 0) refl noSlots refl room)
+      (λ room l. first-valid (envIn form ms ps ts) (ready-some ms ps ts g) (opening 0 (wholeAt ts 0)) refl (replicate 16 nothing) refl noSlots refl room)
 
 -- ---- What an opening gives.
 
