@@ -216,7 +216,7 @@ fn asked(mt: &[i32], s: &[i32], places: &Places, l: Level) -> Level
 }
 
 // Two whole values, where integers are compared.
-fn same_integers(s: &[i32], a: usize, b: usize) -> bool
+pub fn same_integers(s: &[i32], a: usize, b: usize) -> bool
     requires { ⌜ Target (now s) ⌝ ∗ ⌜ Tag (now s) a ⌝ ∗ ⌜ Tag (now s) b ⌝ }
     ensures { λ r. ⌜ r ≡ integersEqual (now (s .entry)) a b ⌝ }
 {

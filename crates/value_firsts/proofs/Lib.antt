@@ -1,0 +1,4 @@
+-- What the proofs of the first places use.
+pub mod Differing
+pub mod Last
+pub mod Laws
