@@ -14,6 +14,7 @@
 mod books;
 mod cases;
 mod compare;
+mod every;
 mod inputs;
 mod laws;
 #[cfg(library)]
@@ -161,6 +162,9 @@ fn run_comparison(inputs: u64, seed: u64) -> bool {
     by_answer("of these in dialect 2", &tally.dialects);
     by_answer("of these by rounds", &tally.rounds);
     println!("  answer 5 by cause, 1 to 7: {:?}", &tally.causes[1..]);
+    let cut = every::random(&TESTED, inputs / 50, seed);
+    println!("{} against the reference: {} random rules at every budget and around every room, {} runs, {} differ", TESTED.name, cut.rules, cut.runs, cut.differ);
+    let alike = alike && cut.differ == 0;
     let books = match &TESTED.book {
         Some(book) => books::random(book, inputs, seed),
         None => return tally.differ == 0 && alike,
