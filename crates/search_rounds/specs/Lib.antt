@@ -1,0 +1,3 @@
+-- What a search by rounds does to the lent table, list by list.
+pub mod Remaining
+pub mod Firsts
