@@ -12,3 +12,4 @@ pub mod Table
 pub mod Outcomes
 pub mod Counts
 pub mod Sweeps
+pub mod Rounding
