@@ -19,6 +19,7 @@ extern "C" {
     ) -> u32;
     fn lozhbinor_match_with(
         form: u32,
+        dialect: u32,
         matcher: *const i32,
         matcher_len: usize,
         pattern: *const i32,
@@ -142,11 +143,12 @@ pub fn call_match(rule: [&[i32]; 2], target: &[i32], budget: u32, room: &mut [i3
     }
 }
 
-fn call_match_with(form: u32, words: [&[i32]; 3], budget: u32, room: &mut [i32], numbers: &mut [u8]) -> u32 {
+fn call_match_with(form: u32, dialect: u32, words: [&[i32]; 3], budget: u32, room: &mut [i32], numbers: &mut [u8]) -> u32 {
     let [matcher, pattern, target] = words;
     unsafe {
         lozhbinor_match_with(
             form,
+            dialect,
             matcher.as_ptr(),
             matcher.len(),
             pattern.as_ptr(),
@@ -173,23 +175,23 @@ pub fn match_words(matcher: &[i32], pattern: &[i32], target: &[i32], budget: u32
     numbers(&bytes, answer)
 }
 
-pub fn match_in(form: u32, words: [&[i32]; 3], budget: u32, room: &mut [i32]) -> Matched {
+pub fn match_in(form: u32, dialect: u32, words: [&[i32]; 3], budget: u32, room: &mut [i32]) -> Matched {
     let mut bytes = [MARK; 56];
-    let answer = call_match_with(form, words, budget, room, &mut bytes);
+    let answer = call_match_with(form, dialect, words, budget, room, &mut bytes);
     numbers(&bytes, answer)
 }
 
-/// The picks that there are: the forms of No. 9. What a later request lets the caller pick is a line here, when it lands.
+/// The picks that there are: the forms of No. 9 and the dialects of No. 13. What a later request lets the caller pick is a line here, when it lands.
 pub fn picked(picks: Picks, words: [&[i32]; 3], budget: u32, room: &mut [i32]) -> Option<Matched> {
     match picks {
-        [form, 1, 1, ..] => Some(match_in(form, words, budget, room)),
+        [form, 1, dialect, ..] => Some(match_in(form, dialect, words, budget, room)),
         _ => None,
     }
 }
 
 /// Rows in form 2.
 pub fn match_origins(matcher: &[i32], pattern: &[i32], target: &[i32], budget: u32, room: &mut [i32]) -> Matched {
-    match_in(2, [matcher, pattern, target], budget, room)
+    match_in(2, 1, [matcher, pattern, target], budget, room)
 }
 
 pub fn review(matcher: &[i32], pattern: &[i32], cap: i32) -> Reviewed {
@@ -277,7 +279,7 @@ pub fn short() -> usize {
         let answer = call_match(rule, &[1, 1, 0, 7], 99, &mut room, &mut bytes[..len]);
         assert!(answer == 24 && bytes == [MARK; 48] && room == [-7; 4], "match, {len} bytes for the numbers");
         let words = [rule[0], rule[1], &[1, 1, 0, 7]];
-        let answer = call_match_with(3, words, 99, &mut room, &mut bytes[..len]);
+        let answer = call_match_with(3, 1, words, 99, &mut room, &mut bytes[..len]);
         assert!(answer == 24 && bytes == [MARK; 48] && room == [-7; 4], "match with a form, {len} bytes for the numbers");
     }
     for len in 0..24 {

@@ -114,7 +114,7 @@ static int room(uint64_t no, const struct lent *l, const struct call *c)
         wrong(no, "an answer that room does not give");
     if (answer != LOZHBINOR_DONE || r.words > WORDS || budget > 100000)
         return 0;
-    answer = lozhbinor_match_with(form, m, c->m.count, p, c->p.count, t, c->t.count, budget, place_of(l->room, 4 * (size_t)r.words, c->at_end),
+    answer = lozhbinor_match_with(form, 1 + below(2), m, c->m.count, p, c->p.count, t, c->t.count, budget, place_of(l->room, 4 * (size_t)r.words, c->at_end),
                                   (size_t)r.words, numbers, LOZHBINOR_MATCH_BYTES);
     if (answer == LOZHBINOR_BUDGET || answer == LOZHBINOR_FULL)
         wrong(no, "the words that suffice do not");

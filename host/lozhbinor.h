@@ -44,8 +44,8 @@ extern "C" {
 
 /* The version of this header. lozhbinor_version() gives that of the library:
  * the same number, or the two do not belong together. */
-#define LOZHBINOR_VERSION_MAJOR 2
-#define LOZHBINOR_VERSION_MINOR 4
+#define LOZHBINOR_VERSION_MAJOR 3
+#define LOZHBINOR_VERSION_MINOR 0
 #define LOZHBINOR_VERSION (1000 * LOZHBINOR_VERSION_MAJOR + LOZHBINOR_VERSION_MINOR)
 
 uint32_t lozhbinor_version(void);
@@ -168,9 +168,20 @@ uint32_t lozhbinor_match(const int32_t *matcher, size_t matcher_words,
                          int32_t *room, size_t room_words,
                          uint8_t *numbers, size_t numbers_bytes);
 
-/* The same with rows in the form that is picked. In form 2 the room is never
- * full with rows times variables times three words. */
-uint32_t lozhbinor_match_with(uint32_t form,
+/* The dialects. In dialect 2 equal units count once: a cons under a multiset
+ * takes one place for each value that differs, the first one, among those that
+ * are left there. A cons under a multiset whose elements cannot be told apart,
+ * since something stands in their matcher, is 4 in dialect 2. */
+enum {
+    LOZHBINOR_DIALECT_EVERY_PLACE = 1,
+    LOZHBINOR_DIALECT_FIRST_PLACES = 2
+};
+
+/* The same with rows in the form, and in the dialect, that are picked: 20 where
+ * there is no such form, and then 22 where there is no such dialect. In form 2
+ * the room is never full with rows times variables times three words. Dialect 2
+ * has some of dialect 1's rows, in their order, in no more steps. */
+uint32_t lozhbinor_match_with(uint32_t form, uint32_t dialect,
                               const int32_t *matcher, size_t matcher_words,
                               const int32_t *pattern, size_t pattern_words,
                               const int32_t *target, size_t target_words,
@@ -191,15 +202,6 @@ uint32_t lozhbinor_review(const int32_t *matcher, size_t matcher_words,
                           const int32_t *pattern, size_t pattern_words,
                           int32_t cap,
                           uint8_t *numbers, size_t numbers_bytes);
-
-/* The dialects. In dialect 2 equal units count once: a cons under a multiset
- * takes one place for each value that differs, the first one, among those that
- * are left there. A cons under a multiset whose elements cannot be told apart,
- * since something stands in their matcher, is 4 in dialect 2. */
-enum {
-    LOZHBINOR_DIALECT_EVERY_PLACE = 1,
-    LOZHBINOR_DIALECT_FIRST_PLACES = 2
-};
 
 /* Review in a dialect; 22 where there is none such. The figure bounds a match in
  * either. lozhbinor_review is review in dialect 1. */

@@ -8,6 +8,7 @@ use mathlib.Core.List.{List, [], _∷_, _++_, append-nil, append-assoc}
 use lib.ListN.{length}
 use lib.Dec.{leb}
 use lib.IntN.{ℤ}
+use Rattle.rules.specs.Dialects.{everyPlace}
 use Rattle.rules.specs.Rows.{Form, row}
 use Rattle.rules.specs.Search.{atom, endOfNot, State, state, after, leaveNot, Run, stopped, step, rowStep, run, runIn}
 use Rattle.run_rules.specs.Lent.{remaining}
@@ -29,10 +30,10 @@ clash : {A : Type 0} → _≡_ {A = Bool} true false → A
 clash h = let z : _≡_ {A = ℕ} 0 1 = cc in absurd (omega arith)
 
 module _ (form : Form) where
-  still : (n : ℕ) (k : Machine) → once form k ≡ k → times form n k ≡ k
+  still : (n : ℕ) (k : Machine) → once everyPlace form k ≡ k → times everyPlace form n k ≡ k
   unfolding times
   still zero k h = refl
-  still (suc n) k h = ap (times form n) h ∙ still n k h
+  still (suc n) k h = ap (times everyPlace form n) h ∙ still n k h
 
   -- No step is taken.
   rests : (a rows steps : ℕ) (written : List ℤ) (rest : List State) (k : Machine) → answerBy (k .full) (k .waiting) ≡ a → k .rows ≡ rows → k .steps ≡ steps
@@ -72,7 +73,7 @@ module _ (form : Form) where
   }
 
   pub goes : (n : ℕ) (ss : List State) (left rows steps : ℕ) (written : List ℤ)
-      → After rows steps written (run form n ss left) (remaining form n ss left) (times form n (machine ss left rows steps written false))
+      → After rows steps written (run form n ss left) (remaining form n ss left) (times everyPlace form n (machine ss left rows steps written false))
   unfolding times runIn remaining answerBy stopped filling
   goes zero [] left rows steps written = rests 0 rows steps written [] _ refl refl refl refl refl refl
   goes zero (s ∷ ss) left rows steps written = rests 7 rows steps written (s ∷ ss) _ refl refl refl refl refl refl
@@ -85,10 +86,10 @@ module _ (form : Form) where
       k = machine (state g [] e ∷ ss) left rows steps written false
 
       go : (b : Bool) → After (suc rows) (suc steps) (written ++ row form e) (run form n ss (left - length (row form e))) (remaining form n ss (left - length (row form e)))
-          (times form n (writing k (row form e) ss))
+          (times everyPlace form n (writing k (row form e) ss))
           → After rows steps written (elim b as (λ _. Run) [ true ↦ rowStep (row form e) (run form n ss (left - length (row form e))) | false ↦ stopped 8 1 ])
           (elim b as (λ _. List State) [ true ↦ remaining form n ss (left - length (row form e)) | false ↦ [] ])
-          (times form n (elim b as (λ _. Machine) [ true ↦ writing k (row form e) ss | false ↦ filling k ss ]))
+          (times everyPlace form n (elim b as (λ _. Machine) [ true ↦ writing k (row form e) ss | false ↦ filling k ss ]))
       go true h = a-row rows steps written (row form e) _ _ _ h
       go false h = rw (still n (filling k ss) refl) (record {
         answer = refl;

@@ -1,21 +1,25 @@
 -- The laws that the code of the run asks for. Assumes nothing.
 use mathlib.Core.Path.{_≡_, refl, sym, _∙_, ap, subst}
-use mathlib.Core.Bool.{Bool, true, false}
+use mathlib.Core.Bool.{Bool, true, false, not}
 use mathlib.Core.List.{List}
 use Prim.Native.Nat.{ℕ, suc, _+_, _-_, _*_, _^_, _<_, _≤_}
 use native.Mathlib.Omega.{arith}
-use borrow.Author.Tests.{eq-eqb, ne-eqb, lt-ltb, le-ltb, eqb-true, eqb-false, ltb-true, ltb-false}
+use borrow.Author.Tests.{eq-eqb, ne-eqb, lt-ltb, le-ltb, eqb-true, eqb-false, ltb-true, ltb-false, not-true, not-false}
+use borrow.Author.Needs.{needs}
 use lib.ListN.{length, getD, set}
 use lib.Dec.{eqb, ltb}
 use lib.IntN.{ℤ, pos}
 use mir.Syntax.{w64}
 use mir.Val.{Fits}
+use Rattle.rules.specs.Dialects.{Dialect, everyPlace, firstPlaces}
 use Rattle.rules.specs.Rows.{Form, row}
 use Rattle.words.specs.Words.{entries}
+use Rattle.words.specs.Dialects.{dialectBy}
 use Rattle.value_places.specs.Places.{Target}
 use Rattle.value_places.specs.Held.{Held, put}
 use Rattle.value_rows.specs.Row.{bound, Bound, nothing}
 use Rattle.value_equality.specs.Equality.{equalAt, isSum}
+use Rattle.value_firsts.specs.Firsts.{firstsAt}
 use Rattle.value_rows.specs.declared.Binding.{Binding}
 use Rattle.value_places.proofs.Elements.{second}
 use Rattle.value_places.proofs.Held.{held-64}
@@ -27,7 +31,7 @@ use Rattle.search_step.specs.Steps as steps
 use Rattle.search_step.specs.Steps.{Turned, turned, counted, dropped, splitOf, headOf, Steps}
 use Rattle.search.specs.Plain.{divideOf, stepBy, stepOf}
 use Rattle.search_choice.specs.Choices.{pickOf, settleOf, Named, PicksIf}
-use Rattle.search.specs.Run.{Env, Run, run, goesOn, valueOf, filled, wroteTo, wrote, endBy, endOf, askOf, boundAt, asked, afterTurn, afterEnd, takeEnd, takeBind, takeStep, takeOf, settled, runOf, answerOf}
+use Rattle.search.specs.Run.{Env, Run, run, goesOn, valueOf, filled, wroteTo, wrote, endBy, endOf, askOf, boundAt, asked, choicesIn, choicesOf, afterTurn, afterEnd, takeEnd, takeBind, takeStep, takeOf, settled, runOf, answerOf}
 use Rattle.search.specs.declared.Report.{Report}
 use Rattle.search.specs.Told.{reported}
 use Rattle.search.specs.Valid.{Fine, Valid, Rows}
@@ -98,78 +102,118 @@ sum-is s a at c z r e d = e ∙ ap (λ y. isSum s a y at) d
 pub equal-is : (mt s : List ℤ) (i j a x b y : ℕ) (r : Bool) → r ≡ equalAt mt i s a x b y → i ≡ j → r ≡ equalAt mt j s a x b y
 equal-is mt s i j a x b y r e d = e ∙ ap (λ k. equalAt mt k s a x b y) d
 
--- ---- What the branches before a step leave: the answer to tag 3, and the bindings.
+-- ---- The choices of a cons under a multiset, as the code asks for them.
 
-pub record Asked (e : Env) (r : Run) (q : Bool) (b : List Binding) : Type 0 where
+module _ (firsts : Bool) (o : ℕ) (mt : List ℤ) (i : ℕ) (s : List ℤ) (at m : ℕ) where
+  pub choices-every : not firsts ≡ true → m ≡ choicesIn (dialectBy firsts) o mt i s at m
+  unfolding choicesIn dialectBy
+  choices-every h = rw (not-true firsts h)
+
+  module _ (h : not firsts ≡ false) where
+    pub choices-other : (o ≡ 9 → ⊥) → m ≡ choicesIn (dialectBy firsts) o mt i s at m
+    unfolding choicesIn dialectBy when
+    choices-other n = rw (not-false firsts h, ne-eqb o 9 n)
+
+    module _ (z : o ≡ 9) (j : ℕ) (e : j ≡ i) where
+      pub choices-none : length mt ≤ j → m ≡ choicesIn (dialectBy firsts) o mt i s at m
+      unfolding choicesIn dialectBy when
+      choices-none l = rw (not-false firsts h, eq-eqb o 9 z, le-ltb i (length mt) (omega arith))
+
+      pub choices-firsts : j < length mt → (r : ℕ) → r ≡ firstsAt mt (j + 1) s at m → r ≡ choicesIn (dialectBy firsts) o mt i s at m
+      unfolding choicesIn dialectBy when
+      choices-firsts l r q = q ∙ rw (not-false firsts h, eq-eqb o 9 z, ← e, lt-ltb j (length mt) l)
+
+pub choices-fit : (mt : List ℤ) (j : ℕ) → j < length mt → length mt < 2 ^ 64 → Fits w64 (j + 1)
+choices-fit mt j l h = record { fits = omega arith }
+
+pub ruleset choices-rules = (choices-every, choices-other, choices-none, choices-firsts, choices-fit, needs)
+
+-- ---- What the branches before a step leave: the answer to tag 3, the choices of a cons under a multiset, and the bindings.
+
+pub record Asked (e : Env) (r : Run) (q : Bool) (c : ℕ) (b : List Binding) : Type 0 where
   pub ask : q ≡ asked e r
+  pub choose : c ≡ choicesOf e r
   pub binds : b ≡ when (eqb (getD (e .op) (r .state .pc) 0) 3) (set (r .binds) (getD (e .arg) (r .state .pc) 0) (record { at = r .state .at; marks = r .state .marks })) (r .binds)
 
 -- The line's instruction is o.
-module _ (e : Env) (x : State) (t : Tables) (b : List Binding) (room : List ℤ) (q : Bool) (b′ : List Binding) (o : ℕ) (i : o ≡ getD (e .op) (x .pc) 0) where
+module _ (e : Env) (x : State) (t : Tables) (b : List Binding) (room : List ℤ) (q : Bool) (c : ℕ) (b′ : List Binding) (o : ℕ) (i : o ≡ getD (e .op) (x .pc) 0) where
   not-asked : (o ≡ 5 → ⊥) → (o ≡ 6 → ⊥) → asked e (run x t b room) ≡ false
   unfolding asked askOf when
   not-asked n m = rw (ne-eqb (getD (e .op) (x .pc) 0) 5 (λ z. n (i ∙ z)), ne-eqb (getD (e .op) (x .pc) 0) 6 (λ z. m (i ∙ z)))
 
-  pub asked-3 : (v : ℕ) (y : Binding) → o ≡ 3 → v ≡ getD (e .arg) (x .pc) 0 → y ≡ valueOf x → b′ ≡ set b v y → q ≡ false
-      → Asked e (run x t b room) q b′
+  -- No cons under a multiset stands here.
+  not-chosen : (o ≡ 9 → ⊥) → c ≡ x .marks → c ≡ choicesOf e (run x t b room)
+  unfolding choicesOf choicesIn when
+  not-chosen n p = p ∙ go (e .dialect)
+    where
+      go : (d : Dialect) → x .marks ≡ choicesIn d (getD (e .op) (x .pc) 0) (e .matcher) (getD (e .mat) (x .pc) 0) (e .words) (x .at) (x .marks)
+      go everyPlace = refl
+      go firstPlaces = rw (ne-eqb (getD (e .op) (x .pc) 0) 9 (λ z. n (i ∙ z)))
+
+  pub asked-3 : (v : ℕ) (y : Binding) → o ≡ 3 → v ≡ getD (e .arg) (x .pc) 0 → y ≡ valueOf x → b′ ≡ set b v y → q ≡ false → c ≡ x .marks
+      → Asked e (run x t b room) q c b′
   unfolding when valueOf
-  asked-3 v y z a d p f = record {
+  asked-3 v y z a d p f k = record {
+    choose = not-chosen (λ y. omega arith) k;
     ask = f ∙ sym (not-asked (λ y. omega arith) (λ y. omega arith));
     binds = p ∙ rw (d, a, eq-eqb (getD (e .op) (x .pc) 0) 3 (sym i ∙ z));
   }
 
-  asked-n : (o ≡ 3 → ⊥) → (o ≡ 5 → ⊥) → (o ≡ 6 → ⊥) → b′ ≡ b → q ≡ false → Asked e (run x t b room) q b′
+  asked-n : (o ≡ 3 → ⊥) → (o ≡ 5 → ⊥) → (o ≡ 6 → ⊥) → c ≡ choicesOf e (run x t b room) → b′ ≡ b → q ≡ false → Asked e (run x t b room) q c b′
   unfolding when
-  asked-n n m k p f = record { ask = f ∙ sym (not-asked m k); binds = p ∙ rw (ne-eqb (getD (e .op) (x .pc) 0) 3 (λ z. n (i ∙ z))) }
+  asked-n n m k u p f = record { choose = u; ask = f ∙ sym (not-asked m k); binds = p ∙ rw (ne-eqb (getD (e .op) (x .pc) 0) 3 (λ z. n (i ∙ z))) }
 
   -- Instructions below 3; 4; from 7 on.
-  pub asked-below : o ≤ 2 → b′ ≡ b → q ≡ false → Asked e (run x t b room) q b′
-  asked-below l = asked-n (λ y. omega arith) (λ y. omega arith) (λ y. omega arith)
+  pub asked-below : o ≤ 2 → b′ ≡ b → q ≡ false → c ≡ x .marks → Asked e (run x t b room) q c b′
+  asked-below l p f k = asked-n (λ y. omega arith) (λ y. omega arith) (λ y. omega arith) (not-chosen (λ y. omega arith) k) p f
 
-  pub asked-4 : o < 5 → (o ≡ 3 → ⊥) → b′ ≡ b → q ≡ false → Asked e (run x t b room) q b′
-  asked-4 l n = asked-n n (λ y. omega arith) (λ y. omega arith)
+  pub asked-4 : o < 5 → (o ≡ 3 → ⊥) → b′ ≡ b → q ≡ false → c ≡ x .marks → Asked e (run x t b room) q c b′
+  asked-4 l n p f k = asked-n n (λ y. omega arith) (λ y. omega arith) (not-chosen (λ y. omega arith) k) p f
 
-  pub asked-above : 7 ≤ o → b′ ≡ b → q ≡ false → Asked e (run x t b room) q b′
-  asked-above l = asked-n (λ y. omega arith) (λ y. omega arith) (λ y. omega arith)
+  pub asked-above : (r : ℕ) → 7 ≤ o → r ≡ choicesIn (e .dialect) o (e .matcher) (getD (e .mat) (x .pc) 0) (e .words) (x .at) (x .marks) → b′ ≡ b → q ≡ false → c ≡ r
+      → Asked e (run x t b room) q c b′
+  unfolding choicesOf
+  asked-above r l h p f k = asked-n (λ y. omega arith) (λ y. omega arith) (λ y. omega arith)
+      (k ∙ h ∙ ap (λ (n : ℕ). choicesIn (e .dialect) n (e .matcher) (getD (e .mat) (x .pc) 0) (e .words) (x .at) (x .marks)) i) p f
 
-  pub asked-5 : (v : ℕ) (r : Bool) → o ≡ 5 → v ≡ getD (e .arg) (x .pc) 0 → b′ ≡ b → q ≡ r
-      → r ≡ isSum (e .words) (getD b v nothing .at) (getD (e .con) (x .pc) (pos 0)) (x .at) → Asked e (run x t b room) q b′
+  pub asked-5 : (v : ℕ) (r : Bool) → o ≡ 5 → v ≡ getD (e .arg) (x .pc) 0 → b′ ≡ b → q ≡ r → c ≡ x .marks
+      → r ≡ isSum (e .words) (getD b v nothing .at) (getD (e .con) (x .pc) (pos 0)) (x .at) → Asked e (run x t b room) q c b′
   unfolding asked askOf boundAt when
-  asked-5 v r z a p f h =
-      record { ask = f ∙ h ∙ rw (a, eq-eqb (getD (e .op) (x .pc) 0) 5 (sym i ∙ z)); binds = p ∙ rw (ne-eqb (getD (e .op) (x .pc) 0) 3 (λ y. omega arith)) }
+  asked-5 v r z a p f k h =
+      record { choose = not-chosen (λ y. omega arith) k; ask = f ∙ h ∙ rw (a, eq-eqb (getD (e .op) (x .pc) 0) 5 (sym i ∙ z)); binds = p ∙ rw (ne-eqb (getD (e .op) (x .pc) 0) 3 (λ y. omega arith)) }
 
   pub asked-6 : (v : ℕ) (r : Bool) → (o ≡ 5 → ⊥) → 5 ≤ o → o < 7 → v ≡ getD (e .arg) (x .pc) 0
-      → b′ ≡ b → q ≡ r → r ≡ equalAt (e .matcher) (getD (e .mat) (x .pc) 0) (e .words) (getD b v nothing .at) (getD b v nothing .marks) (x .at) (x .marks)
-      → Asked e (run x t b room) q b′
+      → b′ ≡ b → q ≡ r → c ≡ x .marks → r ≡ equalAt (e .matcher) (getD (e .mat) (x .pc) 0) (e .words) (getD b v nothing .at) (getD b v nothing .marks) (x .at) (x .marks)
+      → Asked e (run x t b room) q c b′
   unfolding asked askOf boundAt when
-  asked-6 v r m j l a p f h =
+  asked-6 v r m j l a p f k h =
       let z : getD (e .op) (x .pc) 0 ≡ 6 = omega arith in
-      record { ask = f ∙ h ∙ rw (a, ne-eqb (getD (e .op) (x .pc) 0) 5 (λ y. m (i ∙ y)), eq-eqb (getD (e .op) (x .pc) 0) 6 z); binds = p ∙ rw (ne-eqb (getD (e .op) (x .pc) 0) 3 (λ y. omega arith)) }
+      record { choose = not-chosen (λ y. omega arith) k; ask = f ∙ h ∙ rw (a, ne-eqb (getD (e .op) (x .pc) 0) 5 (λ y. m (i ∙ y)), eq-eqb (getD (e .op) (x .pc) 0) 6 z); binds = p ∙ rw (ne-eqb (getD (e .op) (x .pc) 0) 3 (λ y. omega arith)) }
 
 -- ---- A turn.
 
-step-3 : (from to : List ℕ) (con s : List ℤ) (q : Bool) (x : State) (t : Tables) → stepBy 3 from to con s q x t ≡ turned (dropped from to (t .ats) (t .backs) x) t
+step-3 : (from to : List ℕ) (con s : List ℤ) (q : Bool) (c : ℕ) (x : State) (t : Tables) → stepBy 3 from to con s q c x t ≡ turned (dropped from to (t .ats) (t .backs) x) t
 unfolding stepBy when passesOf
-step-3 from to con s q x t = refl
+step-3 from to con s q c x t = refl
 
-step-bind : (op from to : List ℕ) (con s : List ℤ) (q : Bool) (x : State) (t : Tables) → getD op (x .pc) 0 ≡ 3
-    → stepOf op from to con s q x t ≡ turned (dropped from to (t .ats) (t .backs) (counted x)) t
+step-bind : (op from to : List ℕ) (con s : List ℤ) (q : Bool) (c : ℕ) (x : State) (t : Tables) → getD op (x .pc) 0 ≡ 3
+    → stepOf op from to con s q c x t ≡ turned (dropped from to (t .ats) (t .backs) (counted x)) t
 unfolding stepOf
-step-bind op from to con s q x t z = ap (λ (o : ℕ). stepBy o from to con s q (counted x) t) z ∙ step-3 from to con s q (counted x) t
+step-bind op from to con s q c x t z = ap (λ (o : ℕ). stepBy o from to con s q c (counted x) t) z ∙ step-3 from to con s q c (counted x) t
 
 -- The code's step: of a list's cons, and of any other line.
-head-code : (op from to : List ℕ) (con s : List ℤ) (q : Bool) (x : State) (t : Tables) → getD op (x .pc) 0 ≡ 8 → steps.stepOf op from to con s q x t ≡ headOf s (counted x) t
+head-code : (op from to : List ℕ) (con s : List ℤ) (q : Bool) (c : ℕ) (x : State) (t : Tables) → getD op (x .pc) 0 ≡ 8 → steps.stepOf op from to con s q c x t ≡ headOf s (counted x) t
 unfolding steps.stepOf steps.stepBy steps.divideOf when
-head-code op from to con s q x t z = ap (λ (o : ℕ). steps.stepBy o from to con s q (counted x) t) z
+head-code op from to con s q c x t z = ap (λ (o : ℕ). steps.stepBy o from to con s q c (counted x) t) z
 
-head-plain : (op from to : List ℕ) (con s : List ℤ) (q : Bool) (x : State) (t : Tables) → getD op (x .pc) 0 ≡ 8 → stepOf op from to con s q x t ≡ splitOf 8 (counted x) t
+head-plain : (op from to : List ℕ) (con s : List ℤ) (q : Bool) (c : ℕ) (x : State) (t : Tables) → getD op (x .pc) 0 ≡ 8 → stepOf op from to con s q c x t ≡ splitOf 8 c (counted x) t
 unfolding stepOf stepBy divideOf when
-head-plain op from to con s q x t z = ap (λ (o : ℕ). stepBy o from to con s q (counted x) t) z
+head-plain op from to con s q c x t z = ap (λ (o : ℕ). stepBy o from to con s q c (counted x) t) z
 
-other-code : (op from to : List ℕ) (con s : List ℤ) (q : Bool) (x : State) (t : Tables) → (getD op (x .pc) 0 ≡ 8 → ⊥)
-    → steps.stepOf op from to con s q x t ≡ stepOf op from to con s q x t
+other-code : (op from to : List ℕ) (con s : List ℤ) (q : Bool) (c : ℕ) (x : State) (t : Tables) → (getD op (x .pc) 0 ≡ 8 → ⊥)
+    → steps.stepOf op from to con s q c x t ≡ stepOf op from to con s q c x t
 unfolding steps.stepOf steps.stepBy steps.divideOf stepOf stepBy divideOf when
-other-code op from to con s q x t n = rw (ne-eqb (getD op (x .pc) 0) 8 n)
+other-code op from to con s q c x t n = rw (ne-eqb (getD op (x .pc) 0) 8 n)
 
 -- A state taken up, by a row or a step.
 pub record Taken (e : Env) (r : Run) (y : State) (u : Tables) (b : List Binding) (room : List ℤ) : Type 0 where
@@ -177,7 +221,7 @@ pub record Taken (e : Env) (r : Run) (y : State) (u : Tables) (b : List Binding)
   pub picks : PicksIf (y .live) (e .op) (e .words) (y .top) (u .ats) (u .wholes) (u .lefts)
   pub long : length (u .backs) ≡ entries
 
-module _ (e : Env) (x : State) (t : Tables) (b : List Binding) (room : List ℤ) (q : Bool) (b′ : List Binding) (a : Asked e (run x t b room) q b′) where
+module _ (e : Env) (x : State) (t : Tables) (b : List Binding) (room : List ℤ) (q : Bool) (c : ℕ) (b′ : List Binding) (a : Asked e (run x t b room) q c b′) where
   same-binds : (getD (e .op) (x .pc) 0 ≡ 3 → ⊥) → b′ ≡ b
   unfolding when
   same-binds n = a .binds ∙ rw (ne-eqb _ _ n)
@@ -205,18 +249,19 @@ module _ (e : Env) (x : State) (t : Tables) (b : List Binding) (room : List ℤ)
       rw (p, i, d, k, s, eq-eqb _ _ z, le-ltb _ _ m)
 
   stepped : Turned
-  stepped = stepOf (e .op) (e .from) (e .to) (e .con) (e .words) q x t
+  stepped = stepOf (e .op) (e .from) (e .to) (e .con) (e .words) q c x t
 
   took-3 : getD (e .op) (x .pc) 0 ≡ 3 → run (stepped .state) (stepped .tables) b′ room ≡ takeOf e (run x t b room)
   unfolding stepped takeOf takeBind when
   took-3 z =
       rw (ne-eqb _ 0 (λ (y : getD (e .op) (x .pc) 0 ≡ 0). omega arith), eq-eqb _ 3 z, new-binds z)
       (ap (λ (u : Turned). run (u .state) (u .tables) (set b (getD (e .arg) (x .pc) 0) (record { at = x .at; marks = x .marks })) room)
-      (step-bind (e .op) (e .from) (e .to) (e .con) (e .words) q x t z))
+      (step-bind (e .op) (e .from) (e .to) (e .con) (e .words) q c x t z))
 
-  took-n : (getD (e .op) (x .pc) 0 ≡ 0 → ⊥) → (getD (e .op) (x .pc) 0 ≡ 3 → ⊥) → run (stepped .state) (stepped .tables) b′ room ≡ takeOf e (run x t b room)
+  took-n : (getD (e .op) (x .pc) 0 ≡ 0 → ⊥) → (getD (e .op) (x .pc) 0 ≡ 3 → ⊥)
+      → run (stepped .state) (stepped .tables) b′ room ≡ takeOf e (run x t b room)
   unfolding stepped takeOf takeStep afterTurn when
-  took-n n m = rw (ne-eqb _ _ n, ne-eqb _ _ m, same-binds m, a .ask)
+  took-n n m = rw (ne-eqb _ _ n, ne-eqb _ _ m, same-binds m, a .ask, a .choose)
 
   took-plain : (getD (e .op) (x .pc) 0 ≡ 0 → ⊥) → run (stepped .state) (stepped .tables) b′ room ≡ takeOf e (run x t b room)
   took-plain n = go (eqb (getD (e .op) (x .pc) 0) 3) refl
@@ -267,26 +312,26 @@ module _ (e : Env) (x : State) (t : Tables) (b : List Binding) (room : List ℤ)
         let k = subst (Valid e) (sym p) (take-keeps e fine g (run x t b room) v o) in
         record { next = ap (settled e) p; picks = record { picks = λ z. k .frames .last }; long = k .long .backs }
 
-    taken-head : (y : State) (u : Tables) → getD (e .op) (x .pc) 0 ≡ 8 → turned y u ≡ steps.stepOf (e .op) (e .from) (e .to) (e .con) (e .words) q x t → Taken e (run x t b room) y u b′ room
+    taken-head : (y : State) (u : Tables) → getD (e .op) (x .pc) 0 ≡ 8 → turned y u ≡ steps.stepOf (e .op) (e .from) (e .to) (e .con) (e .words) q c x t → Taken e (run x t b room) y u b′ room
     unfolding stepped afterTurn counted
     taken-head y u z p =
-        let h = p ∙ head-code (e .op) (e .from) (e .to) (e .con) (e .words) q x t z in
-        let c = ap (λ (w : Turned). run (w .state) (w .tables) b′ room) (head-plain (e .op) (e .from) (e .to) (e .con) (e .words) q x t z) in
+        let h = p ∙ head-code (e .op) (e .from) (e .to) (e .con) (e .words) q c x t z in
+        let k = ap (λ (w : Turned). run (w .state) (w .tables) b′ room) (head-plain (e .op) (e .from) (e .to) (e .con) (e .words) q c x t z) in
         record {
-          next = head-next e (counted x) t b′ room (v .long) (v .place) y u h z (held-64 (e .words) (x .at) (x .marks) g (v .held)) ∙ ap (settled e) (sym c ∙ took-plain (λ w. omega arith));
+          next = head-next e (counted x) t b′ room (v .long) (v .place) c y u h z (held-64 (e .words) (x .at) (x .marks) g (v .held)) ∙ ap (settled e) (sym k ∙ took-plain (λ w. omega arith));
           picks = head-picks e (counted x) t b′ room (v .long) (v .place) y u h (v .frames .last);
           long = head-backs e (counted x) t b′ room (v .long) (v .place) y u h;
         }
 
     pub taken-step : x .live ≡ 1 → (y : State) (u : Tables) (room′ : List ℤ) → (getD (e .op) (x .pc) 0 ≡ 0 → ⊥)
-        → turned y u ≡ steps.stepOf (e .op) (e .from) (e .to) (e .con) (e .words) q x t → room′ ≡ room → Taken e (run x t b room) y u b′ room′
+        → turned y u ≡ steps.stepOf (e .op) (e .from) (e .to) (e .con) (e .words) q c x t → room′ ≡ room → Taken e (run x t b room) y u b′ room′
     unfolding stepped
     taken-step o y u room′ n p k = go (eqb (getD (e .op) (x .pc) 0) 8) refl
       where
         go : (d : Bool) → eqb (getD (e .op) (x .pc) 0) 8 ≡ d → Taken e (run x t b room) y u b′ room′
         go true j = rw k (taken-head y u (eqb-true _ _ j) p)
         go false j = taken-is o y u room′
-            (rw k (ap (λ (w : Turned). run (w .state) (w .tables) b′ room) (p ∙ other-code (e .op) (e .from) (e .to) (e .con) (e .words) q x t (eqb-false _ _ j)) ∙ took-plain n))
+            (rw k (ap (λ (w : Turned). run (w .state) (w .tables) b′ room) (p ∙ other-code (e .op) (e .from) (e .to) (e .con) (e .words) q c x t (eqb-false _ _ j)) ∙ took-plain n))
 
 settle-by : (e : Env) (r : Run) (c : Bool)
     → afterTurn (when c (pickOf (e .op) (e .from) (e .to) (e .words) (r .state) (r .tables)) (turned (r .state) (r .tables))) (r .binds) (r .room)

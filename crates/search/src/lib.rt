@@ -2,6 +2,7 @@
 pub mod asking;
 pub mod taking;
 
+use asking::choices_at;
 use asking::is_equal_at;
 use asking::is_sum_at;
 use asking::value_of;
@@ -48,11 +49,13 @@ ghost use Rattle.search.specs.Told.{envBy, reported};
 ghost use Rattle.search.specs.Valid.{Given, Fine, Valid};
 ghost use Rattle.search.specs.Searched.{unbound, Searched};
 
-// What a run keeps to, beside its rule and its target: the most steps, how many variables there are, whether a row tells origins.
+// What a run keeps to, beside its rule and its target: the most steps, how many variables there are, whether a row tells origins, whether a
+// cons under a multiset takes first places only.
 pub struct Terms {
     pub budget: u64,
     pub vars: usize,
     pub origins: bool,
+    pub firsts: bool,
 }
 
 // How far a run is: its state and its bindings. What waits stands in its slots.
@@ -80,6 +83,7 @@ pub fn advance(
     while goes_on(x, terms.budget) {
         let o = op_at(lines, x.pc);
         let mut same = false;
+        let mut choices = x.marks;
         if DROP < o {
             if o == SUM {
                 let v = arg_at(lines, x.pc);
@@ -92,6 +96,8 @@ pub fn advance(
             } else if o < NIL {
                 let v = arg_at(lines, x.pc);
                 same = is_equal_at(x, b[v], mt, s, places, lines);
+            } else {
+                choices = choices_at(terms.firsts, o, x, mt, s, places, lines);
             }
         }
         if o == END {
@@ -108,7 +114,16 @@ pub fn advance(
                 x = wrote(x, e);
             }
         } else {
-            x = x.step(Asked { same: same }, s, places, lines, slots);
+            x = x.step(
+                Asked {
+                    same: same,
+                    choices: choices,
+                },
+                s,
+                places,
+                lines,
+                slots,
+            );
             if o == MULTISET_CONS {
                 let sought = asks(x, lines);
                 if sought {

@@ -24,10 +24,10 @@ unfoldable pub passesOf : ℕ → Bool → List ℤ → ℕ → ℕ → ℤ → 
 unfolding when
 passesOf o q s at m z = when (eqb o 4) (same (getD s (at + 1) (pos 0)) z) (when (eqb o 5) q (when (eqb o 6) q (when (eqb o 7) (eqb m 0) true)))
 
--- The choices that a frame is opened with: 8 list cons, 9 multiset cons, 10 join. A choice of a cons is a place, one of a join a front.
-unfoldable pub opensOf : ℕ → ℕ → ℕ
+-- The choices that a frame is opened with: 8 list cons, 9 multiset cons, whose choices are c, 10 join. A choice of a cons is a place, one of a join a front.
+unfoldable pub opensOf : (o m c : ℕ) → ℕ
 unfolding when
-opensOf o m = when (eqb o 10) 0 (when (eqb o 8) (2 ^ trailingZeros 64 m) m)
+opensOf o m c = when (eqb o 10) 0 (when (eqb o 8) (2 ^ trailingZeros 64 m) c)
 
 unfoldable pub noneOf : ℕ → ℕ → Bool
 unfolding when

@@ -67,10 +67,10 @@ pub fn nothing(o: u16, m: u64) -> bool
     m == 0
 }
 
-// The choices that a frame is opened with.
-pub fn opens(o: u16, m: u64) -> u64
+// The choices that a frame is opened with; c: those of a cons under a multiset.
+pub fn opens(o: u16, m: u64, c: u64) -> u64
     requires { ⌜ noneOf o m ≡ false ⌝ }
-    ensures { λ r. ⌜ r ≡ opensOf o m ⌝ }
+    ensures { λ r. ⌜ r ≡ opensOf o m c ⌝ }
 {
     if o == JOIN {
         return 0;
@@ -79,7 +79,7 @@ pub fn opens(o: u16, m: u64) -> u64
         let k = lowest(m);
         return one(k);
     }
-    m
+    c
 }
 
 // The next longer front of a join; 0 where the back is empty.

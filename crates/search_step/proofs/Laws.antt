@@ -58,10 +58,10 @@ push-is c x t u e = e
 
 pub ruleset push-rules = (push-is, needs)
 
-pub split-is : (b : Bool) (r : State) (o c : ℕ) (x : State) (t u : Tables) → b ≡ noneOf o (x .marks) → b ≡ false → c ≡ opensOf o (x .marks)
-    → r ≡ pushed x → u ≡ pushedIn c x t → turned r u ≡ splitOf o x t
+pub split-is : (b : Bool) (r : State) (o c k : ℕ) (x : State) (t u : Tables) → b ≡ noneOf o (x .marks) → b ≡ false → c ≡ opensOf o (x .marks) k
+    → r ≡ pushed x → u ≡ pushedIn c x t → turned r u ≡ splitOf o k x t
 unfolding splitOf
-split-is b r o c x t u h f q a e = when-false _ _ _ b (noneOf o (x .marks)) h f (rw (← q) (rw (a, e)))
+split-is b r o c k x t u h f q a e = when-false _ _ _ b (noneOf o (x .marks)) h f (rw (← q) (rw (a, e)))
 
 pub ruleset split-rules = (split-is, cases)
 
@@ -205,20 +205,20 @@ pub ruleset sides-rules = (sides-both, sides-frame, sides-cut, sides-none, sides
 
 -- ---- A cons, a join, a tuple; and, or, not.
 
-module _ (s : List ℤ) (o : ℕ) (from : List ℕ) (x r : State) (t u : Tables) where
-  pub divide-apart : 10 < o → o < 14 → turned r u ≡ apartOf s (o - 10) x t → turned r u ≡ divideOf s o from x t
+module _ (s : List ℤ) (o c : ℕ) (from : List ℕ) (x r : State) (t u : Tables) where
+  pub divide-apart : 10 < o → o < 14 → turned r u ≡ apartOf s (o - 10) x t → turned r u ≡ divideOf s o c from x t
   unfolding divideOf
   divide-apart h g e = when-lt _ _ _ 10 o h (when-lt _ _ _ o 14 g e)
 
-  pub divide-sides : 10 < o → 14 ≤ o → turned r u ≡ sidesOf o from x t → turned r u ≡ divideOf s o from x t
+  pub divide-sides : 10 < o → 14 ≤ o → turned r u ≡ sidesOf o from x t → turned r u ≡ divideOf s o c from x t
   unfolding divideOf
   divide-sides h g e = when-lt _ _ _ 10 o h (when-le _ _ _ o 14 g e)
 
-  pub divide-head : o ≤ 10 → o ≡ 8 → turned r u ≡ headOf s x t → turned r u ≡ divideOf s o from x t
+  pub divide-head : o ≤ 10 → o ≡ 8 → turned r u ≡ headOf s x t → turned r u ≡ divideOf s o c from x t
   unfolding divideOf
   divide-head h z e = when-le _ _ _ 10 o h (when-eq _ _ _ o 8 z e)
 
-  pub divide-split : o ≤ 10 → (o ≡ 8 → ⊥) → turned r u ≡ splitOf o x t → turned r u ≡ divideOf s o from x t
+  pub divide-split : o ≤ 10 → (o ≡ 8 → ⊥) → turned r u ≡ splitOf o c x t → turned r u ≡ divideOf s o c from x t
   unfolding divideOf
   divide-split h n e = when-le _ _ _ 10 o h (when-ne _ _ _ o 8 n e)
 
@@ -246,25 +246,25 @@ module _ (s : List ℤ) (op from arg : List ℕ) (con : List ℤ) (slots : List 
   step-next = own-slot (getD op (x .pc) 0) arg slots (x .pc) (h .owns) (getD from (x .pc) 0) (h .next)
 
 -- By the instruction o of the line.
-module _ (op from to : List ℕ) (con s : List ℤ) (q : Bool) (x : State) (o : ℕ) (e : o ≡ getD op (x .pc) 0) where
-  by-op : (z : Turned) (t : Tables) → z ≡ stepBy o from to con s q (counted x) t → z ≡ stepOf op from to con s q x t
+module _ (op from to : List ℕ) (con s : List ℤ) (q : Bool) (c : ℕ) (x : State) (o : ℕ) (e : o ≡ getD op (x .pc) 0) where
+  by-op : (z : Turned) (t : Tables) → z ≡ stepBy o from to con s q c (counted x) t → z ≡ stepOf op from to con s q c x t
   unfolding stepOf
-  by-op z t p = p ∙ ap (λ (k : ℕ). stepBy k from to con s q (counted x) t) e
+  by-op z t p = p ∙ ap (λ (k : ℕ). stepBy k from to con s q c (counted x) t) e
 
-  pub step-strip : (t : Tables) → o ≡ 1 → turned (moved (counted x) (x .pc + 1) (x .at) (x .marks)) t ≡ stepOf op from to con s q x t
+  pub step-strip : (t : Tables) → o ≡ 1 → turned (moved (counted x) (x .pc + 1) (x .at) (x .marks)) t ≡ stepOf op from to con s q c x t
   unfolding stepBy counted
   step-strip t z = by-op _ t (when-eq _ _ _ o 1 z refl)
 
-  pub step-divided : (r : State) (t u : Tables) → (o ≡ 1 → ⊥) → 7 < o → turned r u ≡ divideOf s o from (counted x) t → turned r u ≡ stepOf op from to con s q x t
+  pub step-divided : (r : State) (t u : Tables) → (o ≡ 1 → ⊥) → 7 < o → turned r u ≡ divideOf s o c from (counted x) t → turned r u ≡ stepOf op from to con s q c x t
   unfolding stepBy
   step-divided r t u n l p = by-op _ t (when-ne _ _ _ o 1 n (when-lt _ _ _ 7 o l p))
 
   module _ (n : o ≡ 1 → ⊥) (l : o ≤ 7) (b : Bool) (k : b ≡ passesOf o q s (x .at) (x .marks) (getD con (x .pc) (pos 0))) where
-    pub step-dropped : (r : State) (t : Tables) → b ≡ true → r ≡ dropped from to (t .ats) (t .backs) (counted x) → turned r t ≡ stepOf op from to con s q x t
+    pub step-dropped : (r : State) (t : Tables) → b ≡ true → r ≡ dropped from to (t .ats) (t .backs) (counted x) → turned r t ≡ stepOf op from to con s q c x t
     unfolding stepBy counted
     step-dropped r t j p = by-op _ t (when-ne _ _ _ o 1 n (when-le _ _ _ 7 o l (when-true _ _ _ b _ k j (rw p))))
 
-    pub step-fails : (t : Tables) → b ≡ false → turned (lived (counted x) 2) t ≡ stepOf op from to con s q x t
+    pub step-fails : (t : Tables) → b ≡ false → turned (lived (counted x) 2) t ≡ stepOf op from to con s q c x t
     unfolding stepBy counted
     step-fails t j = by-op _ t (when-ne _ _ _ o 1 n (when-le _ _ _ 7 o l (when-false _ _ _ b _ k j refl)))
 

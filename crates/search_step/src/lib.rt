@@ -60,9 +60,11 @@ pub struct State {
     pub words: usize,
 }
 
-// What was asked of the first atom before its state is taken up. same: what its tag 3 asks is equal.
+// What was asked of the first atom before its state is taken up. same: what its tag 3 asks is equal; choices: the places that a cons under a multiset
+// chooses from.
 pub struct Asked {
     pub same: bool,
+    pub choices: u64,
 }
 
 impl State {
@@ -100,9 +102,9 @@ impl State {
     }
 
     // A cons or a join: the frame is opened, unless there is no choice.
-    fn split(mut self, o: u16, lines: &Lines, slots: &mut Slots) -> State
+    fn split(mut self, o: u16, choices: u64, lines: &Lines, slots: &mut Slots) -> State
         requires { ⌜ Slotted (columnsOf (now lines) .arg) (now slots) (self .pc) ⌝ ∗ ⌜ Alone (columnsOf (now lines) .arg) (self .pc) ⌝ }
-        ensures { λ r. ⌜ turned r (viewOf (columnsOf (now (lines .entry)) .arg) (now (slots .exit))) ≡ splitOf o self (viewOf (columnsOf (now (lines .entry)) .arg) (now (slots .entry))) ⌝ }
+        ensures { λ r. ⌜ turned r (viewOf (columnsOf (now (lines .entry)) .arg) (now (slots .exit))) ≡ splitOf o choices self (viewOf (columnsOf (now (lines .entry)) .arg) (now (slots .entry))) ⌝ }
     {
         let m = self.marks;
         let no = nothing(o, m);
@@ -110,7 +112,7 @@ impl State {
             self.live = CHOOSES;
             return self;
         }
-        let c = opens(o, m);
+        let c = opens(o, m, choices);
         self.push(c, lines, slots)
     }
 
@@ -172,9 +174,17 @@ impl State {
     }
 
     // A cons, a join, a tuple; and, or, not.
-    fn divide(self, o: u16, s: &[i32], places: &Places, lines: &Lines, slots: &mut Slots) -> State
+    fn divide(
+        self,
+        o: u16,
+        choices: u64,
+        s: &[i32],
+        places: &Places,
+        lines: &Lines,
+        slots: &mut Slots,
+    ) -> State
         requires { ⌜ Target (now s) ⌝ ∗ ⌜ Placed (now s) (now places) ⌝ ∗ ⌜ Divides (now s) o (columnsOf (now lines) .from) (columnsOf (now lines) .arg) (now slots) self ⌝ }
-        ensures { λ r. ⌜ turned r (viewOf (columnsOf (now (lines .entry)) .arg) (now (slots .exit))) ≡ divideOf (now (s .entry)) o (columnsOf (now (lines .entry)) .from) self (viewOf (columnsOf (now (lines .entry)) .arg) (now (slots .entry))) ⌝ }
+        ensures { λ r. ⌜ turned r (viewOf (columnsOf (now (lines .entry)) .arg) (now (slots .exit))) ≡ divideOf (now (s .entry)) o choices (columnsOf (now (lines .entry)) .from) self (viewOf (columnsOf (now (lines .entry)) .arg) (now (slots .entry))) ⌝ }
     {
         if JOIN < o {
             if o < AND {
@@ -185,7 +195,7 @@ impl State {
         if o == LIST_CONS {
             return self.head(s, places, lines, slots);
         }
-        self.split(o, lines, slots)
+        self.split(o, choices, lines, slots)
     }
 
     // Takes up a state that has an atom left.
@@ -198,7 +208,7 @@ impl State {
         slots: &mut Slots,
     ) -> State
         requires { ⌜ Target (now s) ⌝ ∗ ⌜ Placed (now s) (now places) ⌝ ∗ ⌜ Steps (now s) (columnsOf (now lines) .op) (columnsOf (now lines) .from) (columnsOf (now lines) .arg) (columnsOf (now lines) .con) (now slots) self ⌝ }
-        ensures { λ r. ⌜ turned r (viewOf (columnsOf (now (lines .entry)) .arg) (now (slots .exit))) ≡ stepOf (columnsOf (now (lines .entry)) .op) (columnsOf (now (lines .entry)) .from) (columnsOf (now (lines .entry)) .to) (columnsOf (now (lines .entry)) .con) (now (s .entry)) (asked .same) self (viewOf (columnsOf (now (lines .entry)) .arg) (now (slots .entry))) ⌝ }
+        ensures { λ r. ⌜ turned r (viewOf (columnsOf (now (lines .entry)) .arg) (now (slots .exit))) ≡ stepOf (columnsOf (now (lines .entry)) .op) (columnsOf (now (lines .entry)) .from) (columnsOf (now (lines .entry)) .to) (columnsOf (now (lines .entry)) .con) (now (s .entry)) (asked .same) (asked .choices) self (viewOf (columnsOf (now (lines .entry)) .arg) (now (slots .entry))) ⌝ }
     {
         let pc = self.pc;
         let o = op_at(lines, pc);
@@ -209,7 +219,7 @@ impl State {
             return self;
         }
         if NIL < o {
-            return self.divide(o, s, places, lines, slots);
+            return self.divide(o, asked.choices, s, places, lines, slots);
         }
         let at = self.at;
         let m = self.marks;

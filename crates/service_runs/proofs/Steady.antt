@@ -20,6 +20,7 @@ use Rattle.search_step.specs.declared.State.{State}
 use Rattle.search.specs.Run.{Env, envOf, Run, run, runOf}
 use Rattle.search.specs.Valid.{Long, Valid}
 use Rattle.run_rules.specs.Lent.{allowed}
+use Rattle.rules.specs.Dialects.{everyPlace}
 use Rattle.rules.specs.Rows.{Form}
 use Rattle.rules.specs.Services.{Rule, accepted, ruleOf}
 use Rattle.forms.specs.Faults.{Sane}
@@ -141,7 +142,7 @@ ended-line (means-integer e) z = absurd (omega arith)
 ended-line (means-value m e n a) z = absurd (omega arith)
 ended-line (means-nil m e) z = absurd (omega arith)
 ended-line (means-list m e) z = absurd (omega arith)
-ended-line (means-multiset m e) z = absurd (omega arith)
+ended-line (means-multiset m e a) z = absurd (omega arith)
 ended-line (means-join m e) z = absurd (omega arith)
 ended-line (means-tuple n e h) z = absurd (omega arith)
 ended-line (means-keep e) z = absurd (omega arith)
@@ -200,7 +201,7 @@ module _ (form : Form) (ms ps ts : List ℤ) (n : ℕ) (none lines : List ℕ) (
       go false h = ltb-false i _ h
 
   fine-is : Fine (envOf (columnsOf lines) ms ts n form)
-  fine-is = ready-fine ms ps ts n none lines form g zeros vars is
+  fine-is = ready-fine everyPlace ms ps ts n none lines form g zeros vars is
 
   pub lines-close : Closes (columnsOf lines .op) (columnsOf lines .arg)
   unfolding lineIn

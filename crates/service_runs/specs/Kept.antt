@@ -102,24 +102,24 @@ module _ (form : Form) (ms ps ts : List ℤ) (g : Ready ms ps ts) where
   module _ (n size : ℕ) (x x′ : State) (slots slots′ : List ℕ) (b b′ : List Binding) (room room′ : List ℤ) (l : length room ≡ size)
       (went : runIn ms ps x′ slots′ b′ room′ ≡ runOf (envIn form ms ps ts) (allowed n (x .steps)) (runIn ms ps x slots b room)) (h : Held) (q : Standing size x slots b h) where
     pub went-told : numbersOf x′ ≡ tells n size h
-    unfolding Standing runIn
+    unfolding Standing runIn envIn
     went-told = ap (λ (r : Run). numbersOf (r .state)) went
         ∙ advance-told (envIn form ms ps ts) target-is fine (g .rule .matcher) (g .rule .pattern) 0 (sane .rule .fitting .0) (sane .rule .fitting .1) wide closed means after n size x
-        (viewOf (linesIn ms ps .arg) slots) b room l h q
+        (viewOf (linesIn ms ps .arg) slots) b room l refl h q
 
     pub went-room : room′ ≡ roomAfter n size h room
-    unfolding Standing runIn
+    unfolding Standing runIn envIn
     went-room = ap (λ (r : Run). r .room) went
         ∙ advance-room (envIn form ms ps ts) target-is fine (g .rule .matcher) (g .rule .pattern) 0 (sane .rule .fitting .0) (sane .rule .fitting .1) wide closed means after n size x
-        (viewOf (linesIn ms ps .arg) slots) b room l h q
+        (viewOf (linesIn ms ps .arg) slots) b room l refl h q
 
     pub went-held : Standing size x′ slots′ b′ (heldAfter n size h)
-    unfolding Standing runIn
+    unfolding Standing runIn envIn
     went-held = subst
         (λ (r : Run). Stood (envIn form ms ps ts) target-is fine (g .rule .matcher) (g .rule .pattern) 0 (sane .rule .fitting .0) (sane .rule .fitting .1) wide closed means after size
         (r .state) (r .tables) (r .binds) (heldAfter n size h)) (sym went)
         (advance-held (envIn form ms ps ts) target-is fine (g .rule .matcher) (g .rule .pattern) 0 (sane .rule .fitting .0) (sane .rule .fitting .1) wide closed means after n size x
-        (viewOf (linesIn ms ps .arg) slots) b room l h q)
+        (viewOf (linesIn ms ps .arg) slots) b room l refl h q)
 
   -- A run that stands and goes on is valid; one in which no state stands has ended.
   pub standing-valid : (size : ℕ) (x : State) (slots : List ℕ) (b : List Binding) (h : Held) (room : List ℤ) → length room ≡ size → x .live ≡ 1 → Standing size x slots b h

@@ -66,6 +66,7 @@ fn search_on(
         budget: budget,
         vars: n,
         origins: origins,
+        firsts: false,
     };
     advance(from, terms, m, t, &places, lines, slots, room)
 }

@@ -27,13 +27,13 @@ use Rattle.search.proofs.advance.Statement.{statement}
 use Rattle.search.proofs.advance.Tie as tie
 
 abbrev Inv-loop2 : tie.InvT-loop2
-Inv-loop2 terms mt s places lines slots room₀ x b o same e₀ v₀ room e v =
+Inv-loop2 terms mt s places lines slots room₀ x b o same choices e₀ v₀ room e v =
     (v ≤ terms .vars) × (length room ≡ length room₀) × (e₀ + length (row (formBy (terms .origins)) (bound s b (terms .vars))) ≤ length room)
     × (e₀ + length (row (formBy (terms .origins)) (bound s b (terms .vars))) ≡ e + length (row (formBy (terms .origins)) (boundFrom s b v (terms .vars))))
     × (put room₀ e₀ (row (formBy (terms .origins)) (bound s b (terms .vars))) ≡ put room e (row (formBy (terms .origins)) (boundFrom s b v (terms .vars))))
 
 abbrev μ-loop2 : tie.MeasureT-loop2
-μ-loop2 terms mt s places lines slots room₀ x b o same e₀ v₀ room e v = terms .vars - v
+μ-loop2 terms mt s places lines slots room₀ x b o same choices e₀ v₀ room e v = terms .vars - v
 
 abbrev Inv-loop : tie.InvT-loop
 Inv-loop terms mt s places lines slots₀ room₀ x₀ b₀ slots room x b =
@@ -58,29 +58,29 @@ stands c =
     (goes-less _ _ _ (c .before .goes-on .ensures) (c .if1 .taken)) (omega (arith, k .fits))
 
 -- Where the branches before a step meet.
-joined : (c : tie.Joined2 Inv-loop2 μ-loop2 Inv-loop μ-loop) → Asked (program (c .before .before .before .before)) (current (c .before .before .before .before)) (c .if2 .same) (c .if2 .b)
+joined : (c : tie.Joined2 Inv-loop2 μ-loop2 Inv-loop μ-loop) → Asked (program (c .before .before .before .before)) (current (c .before .before .before .before)) (c .if2 .same) (c .if2 .choices) (c .if2 .b)
 joined c =
     let p = c .before .op-at .ensures in
     ⊎-elim
-    (λ w. asked-5 _ _ _ _ _ _ _ _ p _ _ (w .1 .taken) (w .2 .ensures) (w .5) (w .6) (w .4 .ensures))
-    (⊎-elim (λ w. asked-3 _ _ _ _ _ _ _ _ p _ _ (w .3 .taken) (w .4 .ensures) (w .5 .ensures) (w .6) (w .7))
-    (⊎-elim (λ w. asked-4 _ _ _ _ _ _ _ _ p (w .2 .taken) (w .3 .left) (w .4) (w .5))
-    (⊎-elim (λ w. asked-6 _ _ _ _ _ _ _ _ p _ _ (w .1 .left) (w .2 .left) (w .3 .taken) (w .4 .ensures) (w .7) (w .8) (w .6 .ensures))
-    (⊎-elim (λ w. asked-above _ _ _ _ _ _ _ _ p (w .3 .left) (w .4) (w .5))
-    (λ w. asked-below _ _ _ _ _ _ _ _ p (w .0 .left) (w .1) (w .2))))))
+    (λ w. asked-5 _ _ _ _ _ _ _ _ _ p _ _ (w .1 .taken) (w .2 .ensures) (w .5) (w .6) (w .7) (w .4 .ensures))
+    (⊎-elim (λ w. asked-3 _ _ _ _ _ _ _ _ _ p _ _ (w .3 .taken) (w .4 .ensures) (w .5 .ensures) (w .6) (w .7) (w .8))
+    (⊎-elim (λ w. asked-4 _ _ _ _ _ _ _ _ _ p (w .2 .taken) (w .3 .left) (w .4) (w .5) (w .6))
+    (⊎-elim (λ w. asked-6 _ _ _ _ _ _ _ _ _ p _ _ (w .1 .left) (w .2 .left) (w .3 .taken) (w .4 .ensures) (w .7) (w .8) (w .9) (w .6 .ensures))
+    (⊎-elim (λ w. asked-above _ _ _ _ _ _ _ _ _ p _ (w .3 .left) (w .4 .ensures) (w .5) (w .6) (w .7))
+    (λ w. asked-below _ _ _ _ _ _ _ _ _ p (w .0 .left) (w .1) (w .2) (w .3))))))
     (c .if2 .came)
 
 -- At a state with no atom left: its row can be written.
 rows : (c : tie.Then7 Inv-loop2 μ-loop2 Inv-loop μ-loop) → Rows (c .before .before .before .before .before .before .before .before .args .s .now) (c .before .if2 .b) (c .before .before .before .before .before .before .before .before .args .terms .vars) (c .before .before .before .before .before .loop .x) (c .before .before .before .before .before .loop .room)
-rows c = let h = stands (c .before .before .before) in turn-row _ _ _ _ _ _ _ (joined (c .before)) (h .fine) (h .target) (h .valid) (h .count) (sym (c .before .before .op-at .ensures) ∙ c .if7 .taken)
+rows c = let h = stands (c .before .before .before) in turn-row _ _ _ _ _ _ _ _ (joined (c .before)) (h .fine) (h .target) (h .valid) (h .count) (sym (c .before .before .op-at .ensures) ∙ c .if7 .taken)
 
 -- A step is taken.
 took : (c : tie.After-step-arg Inv-loop2 μ-loop2 Inv-loop μ-loop) (y : State) (u : Tables)
-    → turned y u ≡ stepOf (program (c .before .before .before .before .before .before) .op) (program (c .before .before .before .before .before .before) .from) (program (c .before .before .before .before .before .before) .to) (program (c .before .before .before .before .before .before) .con) (program (c .before .before .before .before .before .before) .words) (c .before .before .if2 .same) (current (c .before .before .before .before .before .before) .state) (current (c .before .before .before .before .before .before) .tables)
+    → turned y u ≡ stepOf (program (c .before .before .before .before .before .before) .op) (program (c .before .before .before .before .before .before) .from) (program (c .before .before .before .before .before .before) .to) (program (c .before .before .before .before .before .before) .con) (program (c .before .before .before .before .before .before) .words) (c .before .before .if2 .same) (c .before .before .if2 .choices) (current (c .before .before .before .before .before .before) .state) (current (c .before .before .before .before .before .before) .tables)
     → Taken (program (c .before .before .before .before .before .before)) (current (c .before .before .before .before .before .before)) y u (c .before .before .if2 .b) (c .before .before .before .before .before .before .loop .room)
 took c y u e =
     let h = stands (c .before .before .before .before) in
-    taken-step _ _ _ _ _ _ _ (joined (c .before .before)) (h .fine) (h .target) (h .valid) (h .count) (h .live) _ _ _ (λ z. c .before .if7 .left (c .before .before .before .op-at .ensures ∙ z)) e refl
+    taken-step _ _ _ _ _ _ _ _ (joined (c .before .before)) (h .fine) (h .target) (h .valid) (h .count) (h .live) _ _ _ (λ z. c .before .if7 .left (c .before .before .before .op-at .ensures ∙ z)) e refl
 
 -- The budget is not used up.
 less : (c : tie.Then1 Inv-loop2 μ-loop2 Inv-loop μ-loop) → c .before .before .loop .x .steps < c .before .before .before .before .before .args .terms .budget
@@ -90,13 +90,13 @@ less c = goes-less _ _ _ (c .before .goes-on .ensures) (c .if1 .taken)
 met : (c : tie.Joined7 Inv-loop2 μ-loop2 Inv-loop μ-loop)
     → Swept (program (c .before .before .before .before .before)) (current (c .before .before .before .before .before)) (c .before .before .before .before .before .before .before .before .args .terms .budget) (c .if7 .x) (viewOf (columnsOf (c .before .before .before .before .before .before .before .before .args .lines .now) .arg) (c .if7 .slots)) (c .before .if2 .b) (c .if7 .room)
 met c = let h = stands (c .before .before .before) in let p = c .before .before .op-at .ensures in let l = less (c .before .before .before) in ⊎-elim
-    (λ w. swept-none _ _ _ _ _ _ (taken-is _ _ _ _ _ _ _ (joined (c .before)) (h .fine) (h .target) (h .valid) (h .count) (h .live) _ _ _
-    (took-full _ _ _ _ _ _ _ (joined (c .before)) _ _ _ (sym p ∙ w .0 .taken) (ltb-true _ _ (sym (w .1 .ensures) ∙ w .2 .taken)) (w .6 ∙ w .3 .ensures) (ap (viewOf _) (w .4)) (w .5))) (h .valid .room) _ l)
+    (λ w. swept-none _ _ _ _ _ _ (taken-is _ _ _ _ _ _ _ _ (joined (c .before)) (h .fine) (h .target) (h .valid) (h .count) (h .live) _ _ _
+    (took-full _ _ _ _ _ _ _ _ (joined (c .before)) _ _ _ (sym p ∙ w .0 .taken) (ltb-true _ _ (sym (w .1 .ensures) ∙ w .2 .taken)) (w .6 ∙ w .3 .ensures) (ap (viewOf _) (w .4)) (w .5))) (h .valid .room) _ l)
     (⊎-elim
     (λ w. let k = rows (record { before = c .before; if7 = w .0 }) .bound in
     let i = w .3 .inv in
-    swept-none _ _ _ _ _ _ (taken-is _ _ _ _ _ _ _ (joined (c .before)) (h .fine) (h .target) (h .valid) (h .count) (h .live) _ _ _
-    (took-wrote _ _ _ _ _ _ _ (joined (c .before)) _ _ _ _ (sym p ∙ w .0 .taken) (ltb-false _ _ (sym (w .1 .ensures) ∙ w .2 .left)) (w .9 ∙ w .6 .ensures)
+    swept-none _ _ _ _ _ _ (taken-is _ _ _ _ _ _ _ _ (joined (c .before)) (h .fine) (h .target) (h .valid) (h .count) (h .live) _ _ _
+    (took-wrote _ _ _ _ _ _ _ _ (joined (c .before)) _ _ _ _ (sym p ∙ w .0 .taken) (ltb-false _ _ (sym (w .1 .ensures) ∙ w .2 .left)) (w .9 ∙ w .6 .ensures)
     (row-out-size _ _ _ _ _ _ _ k (i .3) (w .5 .left)) (ap (viewOf _) (w .7)) (w .8 ∙ row-out _ _ _ _ _ _ _ _ k (i .4) (w .5 .left)))) (h .valid .room) _ l)
     (⊎-elim
     (λ w. let k = took (record { before = record { before = c .before; if7 = w .0 }; step-arg = w .1 }) _ _ (w .2 .ensures) in
@@ -158,6 +158,11 @@ is-equal-at-requires c κs =
     let h = stands (c .before .before .before .before .before .before .before) in
     (c .before .before .before .before .before .before .before .before .before .before .before .before .pre .0, (ready-bound _ _ _ _ _ h _ (c .before .before .before .before .before .before .op-at .ensures) (c .before .before .before .before .before .if2 .taken) (c .before .before .if6 .taken) _ (c .before .arg-at3 .ensures), (h .valid .held, ready-place _ _ _ _ _ h)))
 
+choices-at-requires : tie.Need-choices-at-requires Inv-loop2 μ-loop2 Inv-loop μ-loop
+choices-at-requires c κs =
+    let h = stands (c .before .before .before .before .before) in
+    (c .before .before .before .before .before .before .before .before .before .before .pre .0, (h .valid .held, ready-place _ _ _ _ _ h))
+
 sub-is-short : tie.Need-sub-is-short Inv-loop2 μ-loop2 Inv-loop μ-loop
 sub-is-short c = rows c .words
 
@@ -214,7 +219,7 @@ wrote-requires c κs = let k = rows (c .before .before .before .before .before) 
 step-requires : tie.Need-step-requires Inv-loop2 μ-loop2 Inv-loop μ-loop
 step-requires c κs =
     let h = stands (c .before .before .before .before) in
-    (h .target, (c .before .before .before .before .before .before .before .before .before .pre .0 .placed, turn-steps _ _ _ _ _ _ _ (joined (c .before .before)) (h .fine) (h .target) (h .valid) (h .count) _ refl))
+    (h .target, (c .before .before .before .before .before .before .before .before .before .pre .0 .placed, turn-steps _ _ _ _ _ _ _ _ (joined (c .before .before)) (h .fine) (h .target) (h .valid) (h .count) _ refl))
 
 asks-requires : tie.Need-asks-requires Inv-loop2 μ-loop2 Inv-loop μ-loop
 asks-requires c κs =
@@ -242,7 +247,7 @@ pass-over-requires c κs =
     let l = less (c .before .before .before .before .before .before .before .before .before .before .before) in
     let a = c .before .before .before .before .asks .ensures in
     let t = c .before .before .before .if11 .taken in
-    let q = turn-binds _ _ _ _ _ _ _ j (h .fine) (h .target) (h .valid) (h .count) (λ z. absurd (omega (arith, sym (c .before .before .before .before .before .before .before .before .before .before .op-at .ensures) ∙ c .before .before .before .before .before .if10 .taken, z))) in (
+    let q = turn-binds _ _ _ _ _ _ _ _ j (h .fine) (h .target) (h .valid) (h .count) (λ z. absurd (omega (arith, sym (c .before .before .before .before .before .before .before .before .before .before .op-at .ensures) ∙ c .before .before .before .before .before .if10 .taken, z))) in (
       h .target,
       (
         c .before .before .before .before .before .before .before .before .before .before .before .before .before .before .before .before .pre .0 .placed,
@@ -298,6 +303,7 @@ advance-spec =
     mul-is-equal-at
     array-copy-out-is-equal-at
     is-equal-at-requires
+    choices-at-requires
     sub-is-short
     is-short-requires
     filled-requires

@@ -11,6 +11,6 @@ carry-on-spec = tie.close (tie.spec
     (λ c κs. search needs)
     (λ c κs. search (matcher-few, pattern-few, needs))
     (λ c κs. search needs)
-    (λ c κs. (ready-target _ _ _ (c .before .before .before .before .before .before .before .pre .0), (ready-fine _ _ _ _ _ _ _ (c .before .before .before .before .before .before .before .pre .0) (c .before .before .before .before .before .before .no-lines .ensures) (c .before .before .before .before .compile .ensures .0) (c .before .before .before .before .compile .ensures .1), (slots-numbered asWords _ _ _ _ _ _ (c .before .before .before .before .before .before .before .pre .0) (c .before .before .before .before .before .before .no-lines .ensures) (c .before .before .before .before .compile .ensures .0) (c .before .before .before .before .compile .ensures .1) _ (c .before .before .before .before .before .before .before .pre .1 .1), (lines-close asWords _ _ _ _ _ _ (c .before .before .before .before .before .before .before .pre .0) (c .before .before .before .before .before .before .no-lines .ensures) (c .before .before .before .before .compile .ensures .0) (c .before .before .before .before .compile .ensures .1), c .before .before .before .before .before .before .before .pre .1 .0)))))
+    (λ c κs. (ready-target _ _ _ (c .before .before .before .before .before .before .before .pre .0), (ready-fine _ _ _ _ _ _ _ _ (c .before .before .before .before .before .before .before .pre .0) (c .before .before .before .before .before .before .no-lines .ensures) (c .before .before .before .before .compile .ensures .0) (c .before .before .before .before .compile .ensures .1), (slots-numbered asWords _ _ _ _ _ _ (c .before .before .before .before .before .before .before .pre .0) (c .before .before .before .before .before .before .no-lines .ensures) (c .before .before .before .before .compile .ensures .0) (c .before .before .before .before .compile .ensures .1) _ (c .before .before .before .before .before .before .before .pre .1 .1), (lines-close asWords _ _ _ _ _ _ (c .before .before .before .before .before .before .before .pre .0) (c .before .before .before .before .before .before .no-lines .ensures) (c .before .before .before .before .compile .ensures .0) (c .before .before .before .before .compile .ensures .1), c .before .before .before .before .before .before .before .pre .1 .0)))))
     (λ c. search needs)
     (λ c. carry-tried _ _ _ _ _ _ _ (c .before .before .before .before .before .before .before .before .before .pre .0) (c .before .before .before .before .before .before .before .before .no-lines .ensures) (c .before .before .before .before .before .before .compile .ensures .0) (c .before .before .before .before .before .before .compile .ensures .1) _ _ _ _ _ _ _ _ _ _ _ (c .before .before .before .before .before .budget-of .ensures) (c .before .try-on .ensures .0) (c .before .try-on .ensures .1)))
