@@ -32,7 +32,7 @@ pub const DIALECT_BAR: u64 = 20;
 pub const ROUNDS_BAR: u64 = 60;
 
 /// An advance by 1,000 steps: in hundredths the most of the same steps inside one match, and the instructions that may be added; the rules that are measured.
-pub const ADVANCE_BAR: (u64, u64) = (130, 6_000);
+pub const ADVANCE_BAR: (u64, u64) = (115, 6_000);
 pub const ADVANCED: &str = "T1 T2 T3 T4";
 
 /// The most instructions for a word of a book of 1,000 rules that is tested and listed, block by block.

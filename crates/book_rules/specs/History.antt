@@ -15,7 +15,10 @@ use Rattle.book_rules.specs.Walks.{First, verdict-version}
 use Rattle.book_rules.specs.Sizes.{written-sized, emptied-sized}
 use Rattle.book_rules.specs.Noticed.{Sized, Refused, good-number}
 use Rattle.book_rules.specs.Sums.{word, exchanged}
-use Rattle.book_rules.specs.Kept.{Slot, lowest, grown, in-use-long, good-lent, fit, at, add-where, add-writes, add-leaves, add-used, gone, gone-low, withdraw-writes, withdraw-leaves, withdraw-used, own, own-good, damaged, change-told, exchange-told, refused-kept, total-is, add-keeps-good, total-added, withdraw-keeps-good, total-withdrawn}
+use Rattle.book_rules.specs.Kept.{Slot, lowest, grown, in-use-long, good-lent, refused-kept, total-is}
+use Rattle.book_rules.specs.Added.{fit, at, add-where, add-writes, add-leaves, add-used, add-keeps-good, total-added}
+use Rattle.book_rules.specs.Withdrawn.{gone, gone-low, withdraw-writes, withdraw-leaves, withdraw-used, withdraw-keeps-good, total-withdrawn}
+use Rattle.book_rules.specs.Damaged.{own, own-good, damaged, change-told, exchange-told}
 
 pub data Call : Type 0 where
   adding : (e : Entry) → Ranged (e .matcher) → Ranged (e .pattern) → e .badge < 65536 → Call

@@ -8,6 +8,9 @@ pub mod Round
 pub mod Sizes
 pub mod Walks
 pub mod Kept
+pub mod Added
+pub mod Withdrawn
+pub mod Damaged
 pub mod History
 pub mod Bytes
 pub mod Views

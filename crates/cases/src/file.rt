@@ -3,6 +3,9 @@ use libc::STDOUT_FILENO;
 ghost use Prim.Native.Nat.{_≤_};
 ghost use lib.ListN.{length};
 
+// What a tally counts to, at most.
+const MOST: u64 = 1000000;
+
 pub struct Tally {
     pub cases: u64,
     pub differ: u64,
@@ -13,10 +16,10 @@ impl Tally {
     pub(crate) fn seen(self, good: bool) -> Self {
         let cases = self.cases;
         let differ = self.differ;
-        if 1000000 < cases {
+        if MOST < cases {
             return Tally { cases, differ };
         }
-        if 1000000 < differ {
+        if MOST < differ {
             return Tally { cases, differ };
         }
         if good {

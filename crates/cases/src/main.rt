@@ -6,13 +6,16 @@ mod trial;
 use file::Tally;
 use libc::STDOUT_FILENO;
 
+// The bytes of a file's name, at most.
+const NAME_BYTES: usize = 64;
+
 // Each argument behind the program's own name is a file.
 fn play_named() -> Tally {
     let mut tally = Tally {
         cases: 0,
         differ: 0,
     };
-    let mut name = [0u8; 64];
+    let mut name = [0u8; NAME_BYTES];
     let names = os::arg_count();
     let mut i: usize = 1;
     while i < names {

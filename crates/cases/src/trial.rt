@@ -6,6 +6,7 @@ use crate::lines::next_line;
 use crate::lines::seek;
 use crate::lines::stands_at;
 use text::Printed;
+use text::TEXT_BYTES;
 ghost use Prim.Native.Nat.{_≤_};
 ghost use lib.ListN.{length};
 
@@ -48,7 +49,7 @@ fn same(a: &[u8], b: &[u8]) -> bool {
 
 // One case.
 fn one(path: &[u8], input: &[u8], wanted: &[u8], tally: Tally) -> Tally {
-    let mut out = [0u8; 98304];
+    let mut out = [0u8; TEXT_BYTES];
     let n = printed(input, &mut out);
     let good = same(wanted, &out[..n]);
     if !good {

@@ -20,6 +20,11 @@ ghost use Rattle.book_blocks.specs.Heads.{entry};
 ghost use Rattle.host.specs.Border.{called};
 ghost use Rattle.host.specs.Books.{bookCalled, changing, telling, checkCalled, readCalled, blockCalled};
 
+// The bytes of three numbers, and of six.
+const BOOK_BYTES: usize = 24;
+
+const RULE_BYTES: usize = 48;
+
 fn half(x: u16) -> u64
     ensures { λ r. ⌜ r ≡ x ⌝ }
 {
@@ -40,7 +45,7 @@ pub extern "C" fn lozhbinor_book_add(
 ) -> u32
     ensures { λ r. ⌜ bookCalled r (now (book .exit)) (now (numbers .exit)) ≡ changing (add (entry version badge dialect (now (matcher .entry)) (now (pattern .entry))) (bookOf (now (book .entry)) used)) (now (book .entry)) (now (numbers .entry)) ⌝ }
 {
-    if numbers.len() < 24 {
+    if numbers.len() < BOOK_BYTES {
         return SHORT;
     }
     let e = Named {
@@ -63,7 +68,7 @@ pub extern "C" fn lozhbinor_book_withdraw(
 ) -> u32
     ensures { λ r. ⌜ bookCalled r (now (book .exit)) (now (numbers .exit)) ≡ changing (withdraw badge (bookOf (now (book .entry)) used)) (now (book .entry)) (now (numbers .entry)) ⌝ }
 {
-    if numbers.len() < 24 {
+    if numbers.len() < BOOK_BYTES {
         return SHORT;
     }
     let w = withdraw(book, used as usize, badge);
@@ -76,7 +81,7 @@ pub extern "C" fn lozhbinor_book_withdraw(
 pub extern "C" fn lozhbinor_book_total(book: &[u8], used: u32, numbers: &mut [u8]) -> u32
     ensures { λ r. ⌜ called r [] (now (numbers .exit)) ≡ telling (total (bookOf (now (book .entry)) used)) (now (numbers .entry)) ⌝ }
 {
-    if numbers.len() < 24 {
+    if numbers.len() < BOOK_BYTES {
         return SHORT;
     }
     let t = total(book, used as usize);
@@ -89,7 +94,7 @@ pub extern "C" fn lozhbinor_book_total(book: &[u8], used: u32, numbers: &mut [u8
 pub extern "C" fn lozhbinor_book_check(book: &[u8], used: u32, numbers: &mut [u8]) -> u32
     ensures { λ r. ⌜ called r [] (now (numbers .exit)) ≡ checkCalled (bookOf (now (book .entry)) used) (now (numbers .entry)) ⌝ }
 {
-    if numbers.len() < 24 {
+    if numbers.len() < BOOK_BYTES {
         return SHORT;
     }
     let c = test(book, used as usize);
@@ -108,7 +113,7 @@ pub extern "C" fn lozhbinor_book_read(
 ) -> u32
     ensures { λ r. ⌜ called r (now (words .exit)) (now (numbers .exit)) ≡ readCalled badge (bookOf (now (book .entry)) used) (now (words .entry)) (now (numbers .entry)) ⌝ }
 {
-    if numbers.len() < 48 {
+    if numbers.len() < RULE_BYTES {
         return SHORT;
     }
     if words.len() < LONGEST {
@@ -137,7 +142,7 @@ pub extern "C" fn lozhbinor_book_block(
 ) -> u32
     ensures { λ r. ⌜ called r (now (words .exit)) (now (numbers .exit)) ≡ blockCalled (now (book .entry)) block (now (words .entry)) (now (numbers .entry)) ⌝ }
 {
-    if numbers.len() < 48 {
+    if numbers.len() < RULE_BYTES {
         return SHORT;
     }
     if words.len() < LONGEST {

@@ -9,6 +9,9 @@ ghost use mathlib.Core.List.{[]};
 ghost use Rattle.host.specs.Border.{called};
 ghost use Rattle.host.specs.Rooms.{roomCalled};
 
+// The bytes of three numbers.
+const ROOM_BYTES: usize = 24;
+
 #[no_mangle]
 pub extern "C" fn lozhbinor_room(
     form: u32,
@@ -20,7 +23,7 @@ pub extern "C" fn lozhbinor_room(
 ) -> u32
     ensures { λ r. ⌜ called r [] (now (numbers .exit)) ≡ roomCalled form (now (matcher .entry)) (now (pattern .entry)) cap longest (now (numbers .entry)) ⌝ }
 {
-    if numbers.len() < 24 {
+    if numbers.len() < ROOM_BYTES {
         return SHORT;
     }
     let m = room(form, matcher, pattern, cap, longest);

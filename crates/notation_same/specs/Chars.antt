@@ -48,11 +48,11 @@ pub record Told (c m x : ℕ) : Type 0 where
 abbrev pub Says : ℕ → Type 0
 Says c = Told c (charOf c % 16) (charOf c / 16)
 
-All : (ℕ → Type 0) → (from n : ℕ) → Type 0
+unfoldable pub All : (ℕ → Type 0) → (from n : ℕ) → Type 0
 All P s zero = T true
 All P s (suc n) = P s × All P (suc s) n
 
-pick : (P : ℕ → Type 0) (n s k : ℕ) → All P s n → s ≤ k → k < s + n → P k
+pub pick : (P : ℕ → Type 0) (n s k : ℕ) → All P s n → s ≤ k → k < s + n → P k
 unfolding All
 pick P zero s k a l h = absurd (omega arith)
 pick P (suc n) s k a l h = go (eqb s k) refl (λ m. pick P n (suc s) k (a .1) m (omega arith))

@@ -144,7 +144,7 @@ unfoldable pub spotted : List ℕ → Token → List Spot
 unfolding rawOf spots
 spotted text t = cond (eqb (t .kind) 24) [] (rawOf text t from (length text - t .from) ∷ spots (full []) 0 (drop (t .to) text))
 
-pub Bytes : List ℕ → Type 0
+unfoldable pub Bytes : List ℕ → Type 0
 Bytes text = (i : ℕ) → getD text i 0 < 256
 
 unfolds : (c : ℕ) → goesOn (full []) c ≡ none

@@ -367,11 +367,15 @@ pub large-plain : (mode value : ℕ) → mode ≡ 1 → leb 2147483648 value ≡
 unfolding tooLarge
 large-plain mode value h = rw h
 
-pub large-other : (mode value : ℕ) → (mode ≡ 1 → ⊥) → false ≡ tooLarge mode value
+pub large-minus : (mode value : ℕ) → mode ≡ 2 → ltb 2147483648 value ≡ tooLarge mode value
 unfolding tooLarge
-large-other mode value h = rw (ne-eqb mode 1 h)
+large-minus mode value h = rw h
 
-pub ruleset too-large-rules = (large-plain, large-other, needs)
+pub large-other : (mode value : ℕ) → (mode ≡ 1 → ⊥) → (mode ≡ 2 → ⊥) → false ≡ tooLarge mode value
+unfolding tooLarge
+large-other mode value h i = rw (ne-eqb mode 1 h, ne-eqb mode 2 i)
+
+pub ruleset too-large-rules = (large-plain, large-minus, large-other, needs)
 
 -- ---- Words behind the others.
 module _ (stack : List ℕ) (ws : List ℤ) (s : Stand) (a value : ℕ) where

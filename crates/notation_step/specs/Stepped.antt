@@ -140,7 +140,7 @@ appended stack words s a value =
     view (record { place = nextPlace a; top = q .top; len = l .len; start = startOf s (tagBits a); matcher = s .matcher; pattern = s .pattern; cause = 0 }) (q .stack) (l .words)
 
 unfoldable pub tooLarge : (mode value : ℕ) → Bool
-tooLarge mode value = cond (eqb mode 1) (leb 2147483648 value) false
+tooLarge mode value = cond (eqb mode 1) (leb 2147483648 value) (cond (eqb mode 2) (ltb 2147483648 value) false)
 
 unfoldable pub appending : List ℕ → List ℤ → Stand → (a value : ℕ) → View
 unfolding appended refused view tooLarge

@@ -933,12 +933,15 @@ fn push(stack: &mut Stack, top: usize, some: u32, start: usize) -> usize
     top + 1
 }
 
-// Whether a number without a minus is out of range.
+// Whether a number is out of range, plain or behind a minus.
 fn too_large(mode: u32, value: u64) -> bool
     ensures { λ r. ⌜ r ≡ tooLarge mode value ⌝ }
 {
     if mode == 1 {
         return LARGEST <= value;
+    }
+    if mode == 2 {
+        return LARGEST < value;
     }
     false
 }

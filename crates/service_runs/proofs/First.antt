@@ -24,7 +24,6 @@ use Rattle.tests.specs.declared.TargetJudgement.{TargetJudgement}
 use Rattle.tests.specs.declared.TargetJudgement.the-variants as targets
 use Rattle.run_rules.specs.Lent.{Numbers, Held, ended, going, Lent, Opened, turnedAway, begun as begins, openTarget, openRule, openedIn, opened}
 use Rattle.tables.specs.Slot.{noSlots, viewOf}
-use Rattle.value_places.specs.Places.{Target, Tag}
 use Rattle.value_places.specs.Held.{put, part, wholeAt}
 use Rattle.value_rows.specs.Row.{formBy, nothing}
 use Rattle.value_rows.proofs.Room.{put-is}
@@ -86,12 +85,12 @@ pub away-is : (form size a i c s : ℕ) (slots : List ℕ) → slots ≡ noSlots
 unfolding away
 away-is form size a i c s slots e q = rw (e, q)
 
-pub begun-is : (form : ℕ) (ms ps ts : List ℤ) (size marks s : ℕ) (slots : List ℕ) (matchers patterns targets : List ℤ) → marks ≡ wholeAt ts 0 → slots ≡ noSlots → s ≡ size
+pub begun-is : (form : ℕ) (ms ps ts : List ℤ) (size s : ℕ) (x : State) (b : List Binding) (slots : List ℕ) (matchers patterns targets : List ℤ) → x ≡ opening 0 (wholeAt ts 0) → b ≡ unbound 16 → slots ≡ noSlots → s ≡ size
     → matchers ≡ kept 64 ms → patterns ≡ kept 256 ps → targets ≡ kept 1024 ts → _≡_ {A = out.Start}
     (record {
       run = record {
-        state = record { pc = 0; at = 0; marks = marks; top = 0; live = 1; rows = 0; steps = 0; words = 0 };
-        binds = replicate 16 nothing;
+        state = x;
+        binds = b;
         slots = slots;
         size = s;
         place = 0;
@@ -109,18 +108,15 @@ pub begun-is : (form : ℕ) (ms ps ts : List ℤ) (size marks s : ℕ) (slots : 
       place = 0;
       cause = 0;
     }) (begun form ms ps ts size)
-unfolding begun opening
-begun-is form ms ps ts size marks s slots matchers patterns targets m e q a b c = rw (m, e, q, a, b, c)
+unfolding begun unbound
+begun-is form ms ps ts size s x b slots matchers patterns targets m k e q i j l = rw (m, k, e, q, i, j, l)
 
 -- ---- Before the first state.
-
-pub first-tag : (ms ps ts : List ℤ) → Ready ms ps ts → Tag ts 0
-first-tag ms ps ts g = record { even = refl; inside = ready-some ms ps ts g }
 
 pub target-few : (ms ps ts : List ℤ) → Ready ms ps ts → length ts ≤ 1024
 target-few ms ps ts g = ready-target ms ps ts g .short
 
-pub ruleset begun-rules = (begun-is, first-tag, ready-target, matcher-few, pattern-few, target-few, needs)
+pub ruleset begun-rules = (begun-is, ready-some, ready-target, matcher-few, pattern-few, target-few, needs)
 
 module _ (form : Form) (ms ps ts : List ℤ) (g : Ready ms ps ts) (size : ℕ) where
   abbrev first : Held

@@ -26,6 +26,8 @@ use Rattle.value_rows.specs.declared.Binding.{Binding}
 use Rattle.search_step.specs.declared.State.{State}
 use Rattle.search_atom.specs.Leaves.{when}
 use Rattle.search.specs.Run.{answerOf}
+use Rattle.search.specs.Told.{reported}
+use Rattle.search.specs.declared.Report.{Report}
 use Rattle.services.specs.Matches.{Ready}
 use Rattle.services.proofs.Matches.{rule-whole, both-ready}
 use Rattle.run_sound.specs.Tested.{Decides}
@@ -41,27 +43,12 @@ use Rattle.service_runs.specs.declared.run.Out as out
 
 -- ---- What is told.
 
-abbrev numbers : ℕ → State → Numbers
-numbers a x = record { answer = a; place = 0; rows = x .rows; steps = x .steps; words = x .words; cause = 0 }
+module _ (x : State) (r : Report) (e : r ≡ reported x) where
+  pub tell-numbers : _≡_ {A = Numbers} (record { answer = r .answer; place = 0; rows = r .rows; steps = r .steps; words = r .words; cause = 0 }) (numbersOf x)
+  unfolding numbersOf reported
+  tell-numbers = rw e
 
-tell-by : (x : State) (a : ℕ) → a ≡ answerOf (x .live) → numbers a x ≡ numbersOf x
-unfolding numbersOf
-tell-by x a e i = numbers (e i) x
-
-module _ (x : State) where
-  pub tell-full : x .live ≡ 3 → numbers 8 x ≡ numbersOf x
-  unfolding answerOf when
-  tell-full h = tell-by x 8 (rw h)
-
-  pub tell-done : x .live ≡ 0 → numbers 0 x ≡ numbersOf x
-  unfolding answerOf when
-  tell-done h = tell-by x 0 (rw h)
-
-  pub tell-more : (x .live ≡ 3 → ⊥) → (x .live ≡ 0 → ⊥) → numbers 7 x ≡ numbersOf x
-  unfolding answerOf when
-  tell-more h k = tell-by x 7 (rw (ne-eqb (x .live) 3 h, ne-eqb (x .live) 0 k))
-
-pub ruleset tell-rules = (tell-full, tell-done, tell-more, needs)
+pub ruleset tell-rules = (tell-numbers, needs)
 
 -- ---- Whether words are accepted.
 
@@ -260,24 +247,20 @@ module _ (r : struct.Run) (n : ℕ) (room : List ℤ) (t : report.Told) where
   module _ (e : length room ≡ r .size) (a : r .answer ≡ 0) (v : r .state .live ≡ 1) (room′ : List ℤ) (sound : Bool) (x : State) (slots : List ℕ) (b : List Binding)
       (c : Over (formBy (eqb (r .form) 2)) (r .matchers) (r .matcher) (r .patterns) (r .pattern) (r .targets) (r .target) n (r .state) (r .slots) (r .binds) room sound x slots b room′) where
     -- Not sound: then it is no run that the last call left.
-    pub adv-unsound : not sound ≡ true → told t ≡ unlikeNumbers → Advances r n room (record { run = changed r (r .state) (r .binds) slots; told = t }) room′
+    pub adv-unsound : sound ≡ false → told t ≡ unlikeNumbers → Advances r n room same room′
     unfolding changed told
     adv-unsound u s = record {
       as-held = λ l w. absurd (go l w);
       within = refl;
       tabled = is-unlike (ap (λ (k : Numbers). k .answer) s);
-      unlike-still = λ h. (ap (changed r (r .state) (r .binds)) (c .still .slots-stay (no sound u)), c .still .room-stays (no sound u));
+      unlike-still = λ h. (refl, c .still .room-stays u);
     }
       where
-        no : (y : Bool) → not y ≡ true → y ≡ false
-        no true h = let z : _≡_ {A = ℕ} 0 1 = cc in absurd (omega arith)
-        no false h = refl
-
         go : (l : Lent) → Kept r l → ⊥
         go l (refused y q) = refusal-zero (r .answer) y a
-        go l (stands y k g h q d) = c .goes k .goes g .tries .kept (no sound u) (standing-valid _ _ _ _ g (r .size) (r .state) (r .slots) (r .binds) h room e v d)
+        go l (stands y k g h q d) = c .goes k .goes g .tries .kept u (standing-valid _ _ _ _ g (r .size) (r .state) (r .slots) (r .binds) h room e v d)
 
-    pub adv-went : not sound ≡ false → told t ≡ numbersOf x → Advances r n room (record { run = changed r x b slots; told = t }) room′
+    pub adv-went : sound ≡ true → told t ≡ numbersOf x → Advances r n room (record { run = changed r x b slots; told = t }) room′
     unfolding changed told
     adv-went u s = record {
       as-held = go;
@@ -289,7 +272,7 @@ module _ (r : struct.Run) (n : ℕ) (room : List ℤ) (t : report.Told) where
         go : (l : Lent) → Kept r l → (told t ≡ advanced n room l .numbers) × (room′ ≡ advanced n room l .room) × Kept (changed r x b slots) (advanced n room l .run)
         go l (refused y q) = absurd (refusal-zero (r .answer) y a)
         go l (stands y k g h q d) =
-            let w = c .goes k .goes g .tries .went (upheld sound u) in
+            let w = c .goes k .goes g .tries .went u in
             let z = ap (advanced n room) q ∙ goes-as n (r .size) room h e in (
               s ∙ went-told _ _ _ _ g n (r .size) (r .state) x (r .slots) slots (r .binds) b room room′ e w h d ∙ sym (ap (λ (i : Advanced). i .numbers) z),
               went-room _ _ _ _ g n (r .size) (r .state) x (r .slots) slots (r .binds) b room room′ e w h d ∙ sym (ap (λ (i : Advanced). i .room) z),

@@ -4,13 +4,11 @@ use run_sound::is_sound;
 use search::Progress;
 use search::Terms;
 use search::advance;
-use search_step::State;
 use tables::line::Lines;
 use tables::line::no_lines;
 use tables::place::no_places;
 use tables::slot::Slots;
 use value_places::places::places_of;
-use value_rows::Binding;
 use words::casts::wide;
 ghost use mathlib.Core.Path.{_≡_};
 ghost use Prim.Native.Nat.{_-_, _*_};
@@ -21,7 +19,8 @@ ghost use Rattle.services.specs.Matches.{Ready};
 ghost use Rattle.tables.specs.Line.{columnsOf};
 ghost use Rattle.tables.specs.Slot.{slotCount, viewOf};
 ghost use Rattle.value_places.specs.Places.{Target};
-ghost use Rattle.search.specs.Run.{envOf, run, runOf};
+ghost use Rattle.search.specs.Run.{run, runOf};
+ghost use Rattle.search.specs.Told.{envBy};
 ghost use Rattle.search.specs.Valid.{Fine, Valid};
 ghost use Rattle.run_sound.specs.Sound.{Numbered, Closes};
 ghost use Rattle.service_runs.specs.Going.{Tries, Still, Carries};
@@ -43,77 +42,68 @@ fn budget_of(steps: u64, portion: u32) -> u64
     steps + n
 }
 
-// The search, over the places of the target.
+// The search, over the places of the target. What waits is copied into its own frame and back, so that every table that it walks over stands there.
 fn search_on(
-    x: State,
-    b: [Binding; 16],
-    budget: u64,
-    n: usize,
-    origins: bool,
+    from: Progress,
+    terms: Terms,
     m: &[i32],
     t: &[i32],
     lines: &Lines,
     slots: &mut Slots,
     room: &mut [i32],
 ) -> Progress
-    requires { ⌜ Target (now t) ⌝ ∗ ⌜ Fine (envOf (columnsOf (now lines)) (now m) (now t) n (formBy origins)) ⌝ ∗ ⌜ Valid (envOf (columnsOf (now lines)) (now m) (now t) n (formBy origins)) (run x (viewOf (columnsOf (now lines) .arg) (now slots)) b (now room)) ⌝ }
-    ensures { λ r. ⌜ run (r .state) (viewOf (columnsOf (now (lines .entry)) .arg) (now (slots .exit))) (r .binds) (now (room .exit)) ≡ runOf (envOf (columnsOf (now (lines .entry))) (now (m .entry)) (now (t .entry)) n (formBy origins)) (budget - x .steps) (run x (viewOf (columnsOf (now (lines .entry)) .arg) (now (slots .entry))) b (now (room .entry))) ⌝ }
+    requires { ⌜ Target (now t) ⌝ ∗ ⌜ Fine (envBy (columnsOf (now lines)) (now m) (now t) terms) ⌝ ∗ ⌜ Valid (envBy (columnsOf (now lines)) (now m) (now t) terms) (run (from .state) (viewOf (columnsOf (now lines) .arg) (now slots)) (from .binds) (now room)) ⌝ }
+    ensures { λ r. ⌜ run (r .state) (viewOf (columnsOf (now (lines .entry)) .arg) (now (slots .exit))) (r .binds) (now (room .exit)) ≡ runOf (envBy (columnsOf (now (lines .entry))) (now (m .entry)) (now (t .entry)) terms) (terms .budget - from .state .steps) (run (from .state) (viewOf (columnsOf (now (lines .entry)) .arg) (now (slots .entry))) (from .binds) (now (room .entry))) ⌝ }
 {
     let mut places = no_places();
     places_of(t, &mut places);
-    let from = Progress { state: x, binds: b };
-    let terms = Terms {
-        budget: budget,
-        vars: n,
-        origins: origins,
-    };
-    advance(from, terms, m, t, &places, lines, slots, room)
+    let mut waiting = *slots;
+    let last = advance(from, terms, m, t, &places, lines, &mut waiting, room);
+    *slots = waiting;
+    last
 }
 
-// What was found, and whether the run was sound.
+// Where a run is after a call, and whether it was sound before.
 pub struct Tried {
     pub sound: bool,
-    pub state: State,
-    pub binds: [Binding; 16],
+    pub progress: Progress,
 }
 
-// The search, if the run is sound.
+// The search, if the run is sound. It is called from two places, once for each row form: then the compiler keeps it a function of its own, and its numbers in registers.
 fn try_on(
-    x: State,
-    b: [Binding; 16],
-    budget: u64,
-    n: usize,
-    origins: bool,
+    from: Progress,
+    terms: Terms,
     m: &[i32],
     t: &[i32],
     lines: &Lines,
     slots: &mut Slots,
     room: &mut [i32],
 ) -> Tried
-    requires { ⌜ Target (now t) ⌝ ∗ ⌜ Fine (envOf (columnsOf (now lines)) (now m) (now t) n (formBy origins)) ⌝ ∗ ⌜ Numbered (columnsOf (now lines) .arg) (now slots) ⌝ ∗ ⌜ Closes (columnsOf (now lines) .op) (columnsOf (now lines) .arg) ⌝ ∗ ⌜ x .live ≡ 1 ⌝ }
-    ensures { λ r. ⌜ Tries (envOf (columnsOf (now (lines .entry))) (now (m .entry)) (now (t .entry)) n (formBy origins)) (budget - x .steps) (run x (viewOf (columnsOf (now (lines .entry)) .arg) (now (slots .entry))) b (now (room .entry))) (r .sound) (run (r .state) (viewOf (columnsOf (now (lines .entry)) .arg) (now (slots .exit))) (r .binds) (now (room .exit))) ⌝ ∗ ⌜ Still (r .sound) (now (slots .entry)) (now (slots .exit)) (now (room .entry)) (now (room .exit)) ⌝ }
+    requires { ⌜ Target (now t) ⌝ ∗ ⌜ Fine (envBy (columnsOf (now lines)) (now m) (now t) terms) ⌝ ∗ ⌜ Numbered (columnsOf (now lines) .arg) (now slots) ⌝ ∗ ⌜ Closes (columnsOf (now lines) .op) (columnsOf (now lines) .arg) ⌝ ∗ ⌜ from .state .live ≡ 1 ⌝ }
+    ensures { λ r. ⌜ Tries (envBy (columnsOf (now (lines .entry))) (now (m .entry)) (now (t .entry)) terms) (terms .budget - from .state .steps) (run (from .state) (viewOf (columnsOf (now (lines .entry)) .arg) (now (slots .entry))) (from .binds) (now (room .entry))) (r .sound) (run (r .progress .state) (viewOf (columnsOf (now (lines .entry)) .arg) (now (slots .exit))) (r .progress .binds) (now (room .exit))) ⌝ ∗ ⌜ Still (r .sound) (now (slots .entry)) (now (slots .exit)) (now (room .entry)) (now (room .exit)) ⌝ }
 {
-    if !is_sound(x, b, room.len(), t, lines, slots) {
+    let b = from.binds;
+    if !is_sound(from.state, b, room.len(), t, lines, slots) {
         return Tried {
             sound: false,
-            state: x,
-            binds: b,
+            progress: from,
         };
     }
-    let found = search_on(x, b, budget, n, origins, m, t, lines, slots, room);
-    let state = found.state;
-    let binds = found.binds;
+    if terms.origins {
+        return Tried {
+            sound: true,
+            progress: search_on(from, terms, m, t, lines, slots, room),
+        };
+    }
     Tried {
         sound: true,
-        state: state,
-        binds: binds,
+        progress: search_on(from, terms, m, t, lines, slots, room),
     }
 }
 
 // An advance over words that are accepted.
 pub fn carry_on(
-    x: State,
-    b: [Binding; 16],
+    from: Progress,
     portion: u32,
     origins: bool,
     m: &[i32],
@@ -122,11 +112,15 @@ pub fn carry_on(
     slots: &mut Slots,
     room: &mut [i32],
 ) -> Tried
-    requires { ⌜ Ready (now m) (now p) (now t) ⌝ ∗ ⌜ x .live ≡ 1 ⌝ ∗ ⌜ length (now slots) ≡ 5 * slotCount ⌝ }
-    ensures { λ r. ⌜ Carries (formBy origins) (now (m .entry)) (now (p .entry)) (now (t .entry)) portion x (now (slots .entry)) b (now (room .entry)) (r .sound) (r .state) (now (slots .exit)) (r .binds) (now (room .exit)) ⌝ }
+    requires { ⌜ Ready (now m) (now p) (now t) ⌝ ∗ ⌜ from .state .live ≡ 1 ⌝ ∗ ⌜ length (now slots) ≡ 5 * slotCount ⌝ }
+    ensures { λ r. ⌜ Carries (formBy origins) (now (m .entry)) (now (p .entry)) (now (t .entry)) portion (from .state) (now (slots .entry)) (from .binds) (now (room .entry)) (r .sound) (r .progress .state) (now (slots .exit)) (r .progress .binds) (now (room .exit)) ⌝ }
 {
     let mut lines = no_lines();
     let n = compile(m, p, &mut lines);
-    let budget = budget_of(x.steps, portion);
-    try_on(x, b, budget, n, origins, m, t, &lines, slots, room)
+    let terms = Terms {
+        budget: budget_of(from.state.steps, portion),
+        vars: n,
+        origins: origins,
+    };
+    try_on(from, terms, m, t, &lines, slots, room)
 }

@@ -1,14 +1,16 @@
 // The opening of a run: it is refused there, or it stands before its first state and keeps its own copy of the words.
 use crate::run::Run;
 use crate::run::UNKNOWN_FORM;
+use search::open;
+use search_step::ENDED;
 use search_step::State;
 use tables::slot::no_slots;
 use tests::Judgement;
 use tests::TargetJudgement;
 use tests::rule_refused;
 use tests::target_refused;
-use value_places::places::whole;
 use value_rows::Binding;
+use value_rows::VARIABLES;
 use value_rows::copy;
 use words::casts::index;
 ghost use mathlib.Core.Path.{_≡_};
@@ -62,12 +64,12 @@ fn turned_away(form: u32, size: u32, answer: u32, place: usize, cause: u32) -> S
         at: 0,
         marks: 0,
         top: 0,
-        live: 0,
+        live: ENDED,
         rows: 0,
         steps: 0,
         words: 0,
     };
-    let binds = [Binding { at: 0, marks: 0 }; 16];
+    let binds = [Binding { at: 0, marks: 0 }; VARIABLES];
     let slots = no_slots();
     Start {
         run: Run {
@@ -97,17 +99,9 @@ fn begun(form: u32, m: &[i32], p: &[i32], t: &[i32], size: u32) -> Start
     requires { ⌜ Ready (now m) (now p) (now t) ⌝ }
     ensures { λ r. ⌜ r ≡ begins form (now (m .entry)) (now (p .entry)) (now (t .entry)) size ⌝ }
 {
-    let state = State {
-        pc: 0,
-        at: 0,
-        marks: whole(t, 0),
-        top: 0,
-        live: 1,
-        rows: 0,
-        steps: 0,
-        words: 0,
-    };
-    let binds = [Binding { at: 0, marks: 0 }; 16];
+    let first = open(t);
+    let state = first.state;
+    let binds = first.binds;
     let slots = no_slots();
     let matchers = matcher_kept(m);
     let patterns = pattern_kept(p);

@@ -1,6 +1,9 @@
 // A run that is lent by the game, as a struct by value: what it holds, and an advance of it.
 use crate::going::Tried;
 use crate::going::carry_on;
+use search::Progress;
+use search::tell;
+use search_step::STANDS;
 use search_step::State;
 use tables::slot::Slots;
 use tests::Judgement;
@@ -100,8 +103,7 @@ fn is_ready(m: &[i32], p: &[i32], t: &[i32]) -> bool
 
 // An advance over words, if they are accepted.
 fn go_on(
-    x: State,
-    b: [Binding; 16],
+    from: Progress,
     portion: u32,
     origins: bool,
     m: &[i32],
@@ -110,91 +112,85 @@ fn go_on(
     slots: &mut Slots,
     room: &mut [i32],
 ) -> Tried
-    requires { ⌜ x .live ≡ 1 ⌝ ∗ ⌜ length (now slots) ≡ 5 * slotCount ⌝ }
-    ensures { λ r. ⌜ Goes (formBy origins) (now (m .entry)) (now (p .entry)) (now (t .entry)) portion x (now (slots .entry)) b (now (room .entry)) (r .sound) (r .state) (now (slots .exit)) (r .binds) (now (room .exit)) ⌝ }
+    requires { ⌜ from .state .live ≡ 1 ⌝ ∗ ⌜ length (now slots) ≡ 5 * slotCount ⌝ }
+    ensures { λ r. ⌜ Goes (formBy origins) (now (m .entry)) (now (p .entry)) (now (t .entry)) portion (from .state) (now (slots .entry)) (from .binds) (now (room .entry)) (r .sound) (r .progress .state) (now (slots .exit)) (r .progress .binds) (now (room .exit)) ⌝ }
 {
     if !is_ready(m, p, t) {
         return Tried {
             sound: false,
-            state: x,
-            binds: b,
+            progress: from,
         };
     }
-    carry_on(x, b, portion, origins, m, p, t, slots, room)
+    carry_on(from, portion, origins, m, p, t, slots, room)
+}
+
+// How many words of matcher, pattern and target a run keeps.
+pub struct Counts {
+    pub matcher: usize,
+    pub pattern: usize,
+    pub target: usize,
 }
 
 // Whether the lengths of the words are those of an accepted rule and target.
-fn are_lengths(matcher: usize, pattern: usize, target: usize) -> bool
-    ensures { λ r. ⌜ Decides r (Lengths matcher pattern target) ⌝ }
+fn are_lengths(c: Counts) -> bool
+    ensures { λ r. ⌜ Decides r (Lengths (c .matcher) (c .pattern) (c .target)) ⌝ }
 {
-    if MATCHERS < matcher {
+    if MATCHERS < c.matcher {
         return false;
     }
-    if PATTERNS < pattern {
+    if PATTERNS < c.pattern {
         return false;
     }
-    target <= TARGETS
+    c.target <= TARGETS
 }
 
 // The same over the words that a run keeps.
-fn on_words(
-    x: State,
-    b: [Binding; 16],
+fn on_words<'a>(
+    from: Progress,
     portion: u32,
     origins: bool,
-    matchers: &[i32; 64],
-    matcher: usize,
-    patterns: &[i32; 256],
-    pattern: usize,
-    targets: &[i32; 1024],
-    target: usize,
+    c: Counts,
+    matchers: &'a [i32; 64],
+    patterns: &'a [i32; 256],
+    targets: &'a [i32; 1024],
     slots: &mut Slots,
     room: &mut [i32],
 ) -> Tried
-    requires { ⌜ x .live ≡ 1 ⌝ ∗ ⌜ length (now slots) ≡ 5 * slotCount ⌝ }
-    ensures { λ r. ⌜ Over (formBy origins) (now (matchers .entry)) matcher (now (patterns .entry)) pattern (now (targets .entry)) target portion x (now (slots .entry)) b (now (room .entry)) (r .sound) (r .state) (now (slots .exit)) (r .binds) (now (room .exit)) ⌝ }
+    requires { ⌜ from .state .live ≡ 1 ⌝ ∗ ⌜ length (now slots) ≡ 5 * slotCount ⌝ }
+    ensures { λ r. ⌜ Over (formBy origins) (now (matchers .entry)) (c .matcher) (now (patterns .entry)) (c .pattern) (now (targets .entry)) (c .target) portion (from .state) (now (slots .entry)) (from .binds) (now (room .entry)) (r .sound) (r .progress .state) (now (slots .exit)) (r .progress .binds) (now (room .exit)) ⌝ }
 {
-    if !are_lengths(matcher, pattern, target) {
+    if !are_lengths(c) {
         return Tried {
             sound: false,
-            state: x,
-            binds: b,
+            progress: from,
         };
     }
     let m = &matchers[..];
     let p = &patterns[..];
     let t = &targets[..];
     go_on(
-        x,
-        b,
+        from,
         portion,
         origins,
-        &m[..matcher],
-        &p[..pattern],
-        &t[..target],
+        &m[..c.matcher],
+        &p[..c.pattern],
+        &t[..c.target],
         slots,
         room,
     )
 }
 
-// The answer by `live`: 8 full, 0 done, 7 budget.
-fn tell(x: State) -> Told
+// What a run tells that was not refused.
+fn told_of(x: State) -> Told
     ensures { λ r. ⌜ told r ≡ numbersOf x ⌝ }
 {
-    let live = x.live;
-    let answer = if live == 3 {
-        8
-    } else if live == 0 {
-        0
-    } else {
-        7
-    };
+    let r = tell(x);
     Told {
-        answer: answer,
+        answer: r.answer,
         place: 0,
-        rows: x.rows,
-        steps: x.steps,
-        words: x.words,
+        rows: r.rows,
+        steps: r.steps,
+        words: r.words,
         cause: 0,
     }
 }
@@ -233,61 +229,43 @@ fn refused(answer: u32, place: usize, cause: u32) -> Told
 pub fn advanced(mut run: Run, portion: u32, room: &mut [i32]) -> Out
     ensures { λ r. ⌜ Advances run portion (now (room .entry)) r (now (room .exit)) ⌝ }
 {
-    let size = run.size;
-    if room.len() != size {
-        return Out {
-            run: run,
-            told: unlike(),
-        };
-    }
-    let answer = run.answer;
-    if answer != 0 {
-        return Out {
-            run: run,
-            told: refused(answer, run.place, run.cause),
-        };
-    }
     let x = run.state;
-    if x.live != 1 {
-        return Out {
-            run: run,
-            told: tell(x),
-        };
+    let mut t = unlike();
+    if room.len() == run.size {
+        if run.answer != 0 {
+            t = refused(run.answer, run.place, run.cause);
+        } else if x.live != STANDS {
+            t = told_of(x);
+        } else {
+            let b = run.binds;
+            let from = Progress { state: x, binds: b };
+            let counts = Counts {
+                matcher: run.matcher,
+                pattern: run.pattern,
+                target: run.target,
+            };
+            let mut slots = run.slots;
+            let found = on_words(
+                from,
+                portion,
+                run.form == ORIGINS,
+                counts,
+                &run.matchers,
+                &run.patterns,
+                &run.targets,
+                &mut slots,
+                room,
+            );
+            if found.sound {
+                let last = found.progress;
+                let y = last.state;
+                let c = last.binds;
+                run.state = y;
+                run.binds = c;
+                run.slots = slots;
+                t = told_of(y);
+            }
+        }
     }
-    let form = run.form;
-    let matcher = run.matcher;
-    let pattern = run.pattern;
-    let target = run.target;
-    let matchers = run.matchers;
-    let patterns = run.patterns;
-    let targets = run.targets;
-    let binds = run.binds;
-    let found = on_words(
-        x,
-        binds,
-        portion,
-        form == ORIGINS,
-        &matchers,
-        matcher,
-        &patterns,
-        pattern,
-        &targets,
-        target,
-        &mut run.slots,
-        room,
-    );
-    if !found.sound {
-        return Out {
-            run: run,
-            told: unlike(),
-        };
-    }
-    let y = found.state;
-    let b = found.binds;
-    run.state = y;
-    run.binds = b;
-    Out {
-        run: run,
-        told: tell(y),
-    }
+    Out { run: run, told: t }
 }

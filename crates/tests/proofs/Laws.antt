@@ -1,10 +1,13 @@
 -- The ordered tests as the code asks them: each test that passed has read something, and the first that did not gives the answer. Assumes nothing.
 use mathlib.Core.Path.{_≡_, refl, sym, _∙_, ap}
-use mathlib.Core.Bool.{Bool, true, false}
+use mathlib.Core.Bool.{Bool, true, false, cond}
 use mathlib.Core.List.{List, []}
-use Prim.Native.Nat.{ℕ, _+_}
+use Prim.Native.Nat.{ℕ, _+_, _<_, _≤_}
 use native.Mathlib.Omega.{arith}
 use borrow.Author.Needs.{needs}
+use borrow.Author.Tests.{lt-ltb, le-ltb, ltb-false, eqb-true}
+use lib.Dec.{eqb, ltb}
+use lib.ListN.{length}
 use lib.IntN.{ℤ}
 use Rattle.rules.specs.Forms.{Matcher, Pattern, Value, size}
 use Rattle.rules.specs.Reading.{Verdict, ok, fault, readMatcher, readPattern, readTarget}
@@ -22,11 +25,12 @@ use Rattle.test_forms.specs.declared.Tested.{Tested}
 use Rattle.test_forms.specs.declared.Tested.the-variants.{Passed, Fault}
 use Rattle.test_target.specs.declared.Found.{Found}
 use Rattle.test_target.specs.declared.Found.the-variants as finds
+use Rattle.test_target.specs.declared.Valued.the-variants as values
 use Rattle.test_variables.specs.declared.Counted.{Counted}
 use Rattle.test_variables.specs.declared.Counted.the-variants as counts
 use Rattle.test_forms.specs.declared.Ended.{Ended}
 use Rattle.test_forms.specs.declared.Ended.the-variants.{End, Bad}
-use Rattle.tests.specs.Judgements.{judgement, targetJudgement, targetUnder, Whole}
+use Rattle.tests.specs.Judgements.{judgement, targetJudgement, targetUnder, endsAt, fitsAll, Whole}
 use Rattle.tests.specs.declared.Judgement.{Judgement}
 use Rattle.tests.specs.declared.Judgement.the-variants.{Accepted, Refused}
 use Rattle.tests.specs.declared.TargetJudgement.the-variants as targets
@@ -34,6 +38,9 @@ use Rattle.test_forms.proofs.After.{after}
 use Rattle.test_variables.proofs.Walked as walked
 use Rattle.test_fit.proofs.Walked as fitted
 use Rattle.test_unfit.proofs.Fitted as unfit
+use Rattle.test_unfit.proofs.Values.{fit-reads}
+use Rattle.test_target.proofs.Looks.{valued-end}
+use Rattle.test_target.proofs.Steps.{ret-all, ret-whole}
 
 -- ---- A verdict from what the code found.
 
@@ -123,6 +130,39 @@ unfolding found
 found-fault (ok v) n i c e = let z : _≡_ {A = ℕ} 0 1 = cc in absurd (omega arith)
 found-fault (fault j) n i c e = let q : j ≡ i = cc in let r : c ≡ n = cc in (ap fault q, r)
 
+module _ (ms ts : List ℤ) where
+  pub all-long : 1024 < length ts → false ≡ fitsAll ms ts
+  unfolding fitsAll
+  all-long h = rw (lt-ltb 1024 (length ts) h)
+
+  module _ (h : length ts ≤ 1024) (c : Ended) (q : c ≡ fitFrom ts ms 8 0 0) where
+    pub all-end : (e : ℕ) → c ≡ End e → eqb e (length ts) ≡ fitsAll ms ts
+    unfolding fitsAll endsAt
+    all-end e f = rw (le-ltb 1024 (length ts) h, ← q, f)
+
+    pub all-bad : (i : ℕ) → c ≡ Bad i → false ≡ fitsAll ms ts
+    unfolding fitsAll endsAt
+    all-bad i f = rw (le-ltb 1024 (length ts) h, ← q, f)
+
+pub ruleset all-rules = (all-long, all-end, all-bad, needs)
+
+-- Words that fit up to the last are a target.
+fitted-read : (ms ts : List ℤ) → length ts ≤ 1024 → fitFrom ts ms 8 0 0 ≡ End (length ts) → finds.Passed ≡ found (readTarget ts) (causeOf ts)
+fitted-read ms ts l q =
+    ret-whole ts l (values.End (length ts)) (sym (valued-end ts 8 0 (length ts) (fit-reads ts ms 8 0 0 (length ts) q))) finds.Passed (ret-all ts (values.End (length ts)) (length ts) refl (omega arith))
+
+all-fits : (ms ts : List ℤ) → fitsAll ms ts ≡ true → (length ts ≤ 1024) × (fitFrom ts ms 8 0 0 ≡ End (length ts))
+unfolding fitsAll endsAt
+all-fits ms ts = go (ltb 1024 (length ts)) refl
+  where
+    at-end : (c : Ended) → endsAt (length ts) c ≡ true → c ≡ End (length ts)
+    at-end (End e) q = ap End (eqb-true e (length ts) q)
+    at-end (Bad i) q = let z : _≡_ {A = ℕ} 0 1 = cc in absurd (omega arith)
+
+    go : (x : Bool) → ltb 1024 (length ts) ≡ x → cond x false (endsAt (length ts) (fitFrom ts ms 8 0 0)) ≡ true → (length ts ≤ 1024) × (fitFrom ts ms 8 0 0 ≡ End (length ts))
+    go true p q = let z : _≡_ {A = ℕ} 0 1 = cc in absurd (omega arith)
+    go false p q = (ltb-false 1024 (length ts) p, at-end (fitFrom ts ms 8 0 0) q)
+
 module _ (ms ts : List ℤ) (w : Whole ms) (b : Found) (eb : b ≡ found (readTarget ts) (causeOf ts)) where
   pub ret-target : (i c : ℕ) → b ≡ finds.Fault i c → targets.Refused 5 i c ≡ targetJudgement ts (targetUnder ms ts)
   unfolding targetUnder targetOf test targetJudgement causeIn
@@ -140,4 +180,9 @@ module _ (ms ts : List ℤ) (w : Whole ms) (b : Found) (eb : b ≡ found (readTa
     unfolding targetUnder targetOf test targetJudgement
     ret-fit e f = rw (w .is, t .1, ended (fitsValue (w .matcher) (t .0) 0) (0 + size (t .0)) e (sym f ∙ ec ∙ unfit.of-target ms ts (w .matcher) (t .0) (w .is) (t .1)) .1)
 
-pub ruleset target-rules = (ret-target, ret-unfit, ret-fit, needs)
+pub ret-at-once : (ms ts : List ℤ) → Whole ms → (x : Bool) → x ≡ fitsAll ms ts → x ≡ true → targets.Accepted ≡ targetJudgement ts (targetUnder ms ts)
+ret-at-once ms ts w x e h =
+    let a = all-fits ms ts (sym e ∙ h) in
+    ret-fit ms ts w finds.Passed (fitted-read ms ts (a .0) (a .1)) refl (fitFrom ts ms 8 0 0) refl (length ts) (a .1)
+
+pub ruleset target-rules = (ret-target, ret-unfit, ret-fit, ret-at-once, needs)

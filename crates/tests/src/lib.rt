@@ -5,13 +5,14 @@ use test_forms::matcher::test_matcher;
 use test_forms::pattern::test_pattern;
 use test_target::Found;
 use test_target::TARGET_LEVELS;
+use test_target::TARGET_WORDS;
 use test_target::test_target;
 use test_unfit::fit_end;
 use test_variables::Counted;
 ghost use mathlib.Core.Path.{_≡_};
 ghost use Rattle.rules.specs.Services.{ruleIn, ruleOf};
 ghost use Rattle.words.specs.Dialects.{dialectBy};
-ghost use Rattle.tests.specs.Judgements.{judgement, targetJudgement, targetUnder, Whole};
+ghost use Rattle.tests.specs.Judgements.{judgement, targetJudgement, targetUnder, fitsAll, Whole};
 
 // Accepted; or refused, with document 01's number of the answer and the place.
 pub enum Judgement {
@@ -67,11 +68,27 @@ pub fn rule_refused(ms: &[i32], ps: &[i32]) -> Judgement
     rule_refused_in(false, ms, ps)
 }
 
-// Tests 5 and 6, each over its whole slice, for a matcher that test 1 has passed.
+// Whether words that are not too many fit a matcher up to the last one: then they are a target, too.
+fn fits_all(ms: &[i32], ts: &[i32]) -> bool
+    ensures { λ r. ⌜ r ≡ fitsAll (now (ms .entry)) (now (ts .entry)) ⌝ }
+{
+    if TARGET_WORDS < ts.len() {
+        return false;
+    }
+    match fit_end(ts, 0, ms, 0, TARGET_LEVELS) {
+        Ended::End(e) => e == ts.len(),
+        Ended::Bad(_) => false,
+    }
+}
+
+// Tests 5 and 6, each over its whole slice, for a matcher that test 1 has passed. One walk finds that both are passed; where one is not, test 5 comes first.
 pub fn target_refused(ms: &[i32], ts: &[i32]) -> TargetJudgement
     requires { ⌜ Whole (now ms) ⌝ }
     ensures { λ r. ⌜ r ≡ targetJudgement (now (ts .entry)) (targetUnder (now (ms .entry)) (now (ts .entry))) ⌝ }
 {
+    if fits_all(ms, ts) {
+        return TargetJudgement::Accepted;
+    }
     let b = test_target(ts);
     if let Found::Fault(i, c) = b {
         return TargetJudgement::Refused(TARGET, i, c);

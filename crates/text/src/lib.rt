@@ -2,12 +2,15 @@
 use services::matching::match_units;
 use test_variables::Counted;
 use test_variables::count_variables;
+use text_ask::ROOM_WORDS;
 use text_ask::question::Asked;
 use text_ask::question::read_input;
+use text_ask::table;
 use text_print::report::put_report;
 use text_print::report::put_unreadable;
 use text_print::rows::Rest;
 use words::casts::wide;
+use words::casts::wide_index;
 ghost use mathlib.Core.Path.{_≡_};
 ghost use Prim.Native.Nat.{_≤_};
 ghost use lib.ListN.{length};
@@ -15,6 +18,9 @@ ghost use Rattle.rules.specs.Services.{match};
 ghost use Rattle.text.specs.Printed.{variablesOf, report, emptyReport};
 ghost use Rattle.text_print.specs.Meaning.{Text};
 ghost use Rattle.text.specs.Meaning.{Answer, zeroWords};
+
+// The bytes that every text fits into.
+pub const TEXT_BYTES: usize = 98304;
 
 // How many bytes were written, and how many empty lines follow them; or nothing was written, since there are too few bytes for it.
 pub enum Printed {
@@ -44,28 +50,21 @@ fn answered(m: &[i32], p: &[i32], t: &[i32], budget: u32, room: &mut [i32], out:
     put_report(
         out,
         wide(r.answer),
-        r.place as u64,
+        wide_index(r.place),
         r.rows,
         r.steps,
-        n as u64,
+        wide_index(n),
         wide(r.cause),
         &room[..n],
         values_of(p),
     )
 }
 
-// A table for the words of a line.
-fn table() -> [i32; 2000]
-    ensures { λ r. ⌜ 2000 ≡ length r ⌝ }
-{
-    [0; 2000]
-}
-
 // A room of zeros.
-fn zeros() -> [i32; 4096]
+fn zeros() -> [i32; ROOM_WORDS]
     ensures { λ r. ⌜ r ≡ zeroWords 4096 ⌝ }
 {
-    [0; 4096]
+    [0; ROOM_WORDS]
 }
 
 fn text_of(r: Rest) -> Printed
@@ -78,7 +77,7 @@ fn text_of(r: Rest) -> Printed
 pub fn answer(input: &[u8], out: &mut [u8]) -> Printed
     ensures { λ r. ⌜ Answer (now (input .entry)) (now (out .entry)) (now (out .exit)) r ⌝ }
 {
-    if out.len() < 98304 {
+    if out.len() < TEXT_BYTES {
         return Printed::Short;
     }
     let mut m = table();

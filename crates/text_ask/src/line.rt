@@ -1,4 +1,6 @@
 // The lines of the trial program's input.
+use crate::LINE_WORDS;
+use crate::ROOM_WORDS;
 use text_number::Digits;
 use text_number::Piece;
 use text_number::find;
@@ -10,13 +12,9 @@ ghost use lib.ListN.{length};
 ghost use Rattle.text_ask.specs.Question.{pieces, wordsOf, limits};
 ghost use Rattle.text_ask.specs.Meaning.{ReadWords, ofBounds, RoomFew};
 
-// The words of a line, at most.
-pub const LINE_WORDS: usize = 2000;
-
 const LARGEST_BUDGET: u64 = 4294967295;
 
-// The words of the room, at most.
-pub const LARGEST_ROOM: u64 = 4096;
+const LARGEST_ROOM: u64 = ROOM_WORDS as u64;
 
 // How many words a line has.
 pub enum Line {

@@ -1,4 +1,5 @@
 // The trial program's whole input: four lines, and what they ask.
+use crate::INPUT_BYTES;
 use crate::line::Bounds;
 use crate::line::Line;
 use crate::line::bounds_of;
@@ -9,9 +10,6 @@ ghost use Prim.Native.Nat.{_≤_};
 ghost use lib.ListN.{length};
 ghost use Rattle.text_ask.specs.Question.{linesOf, question, asked};
 ghost use Rattle.text_ask.specs.Meaning.{Ordered, these, ofEnds, ofAsked, Few};
-
-// The bytes of an input, at most.
-const INPUT_BYTES: usize = 32768;
 
 // Where the four newlines stand.
 pub enum Ends {

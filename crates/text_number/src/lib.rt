@@ -8,6 +8,19 @@ ghost use Rattle.text_number.specs.Decimal.{_then_, natural as Decimal·
 ghost use Rattle.text_number.specs.Word.{word as Word·word, atMost};
 ghost use Rattle.text_number.specs.Meaning.{ofDigits, ofSigned, ofPiece, before};
 
+// The digits of a number, at most.
+const DIGITS: usize = 10;
+
+// The bytes of the digits 0 and 9.
+const ZERO: u64 = 48;
+
+const NINE: u64 = 57;
+
+// The first number that is no word, and how many words there are: a word below 0 is that many less.
+pub const BEYOND: u64 = 2147483648;
+
+pub const WORDS: u64 = 4294967296;
+
 // Digits and nothing else, or something else.
 pub enum Digits {
     Of(u64),
@@ -32,20 +45,20 @@ fn natural(s: &[u8]) -> Digits
     if s.len() == 0 {
         return Digits::Other;
     }
-    if 10 < s.len() {
+    if DIGITS < s.len() {
         return Digits::Other;
     }
     let mut n: u64 = 0;
     let mut i: usize = 0;
     while i < s.len() {
         let b = wide_byte(s[i]);
-        if b < 48 {
+        if b < ZERO {
             return Digits::Other;
         }
-        if 57 < b {
+        if NINE < b {
             return Digits::Other;
         }
-        n = n * 10 + (b - 48);
+        n = n * 10 + (b - ZERO);
         i += 1;
     }
     Digits::Of(n)
@@ -77,7 +90,7 @@ pub fn word(s: &[u8]) -> Piece
 {
     match number(s) {
         Signed::Plus(n) => {
-            if n < 2147483648 {
+            if n < BEYOND {
                 Piece::Word(of_bits(n as u32))
             } else {
                 Piece::Other
@@ -87,8 +100,8 @@ pub fn word(s: &[u8]) -> Piece
             if n == 0 {
                 return Piece::Word(0);
             }
-            if n <= 2147483648 {
-                Piece::Word(of_bits((4294967296 - n) as u32))
+            if n <= BEYOND {
+                Piece::Word(of_bits((WORDS - n) as u32))
             } else {
                 Piece::Other
             }

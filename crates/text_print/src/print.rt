@@ -1,4 +1,6 @@
 // Numbers and lines, written as decimal text into a lent slice of bytes.
+use text_number::BEYOND;
+use text_number::WORDS;
 use words::bits;
 use words::casts::wide;
 ghost use mathlib.Core.Path.{_≡_};
@@ -36,11 +38,11 @@ pub(crate) fn put_numeral(out: &mut [u8], at: usize, x: i32) -> usize
     ensures { λ r. ⌜ Wrote (now (out .entry)) (now (out .exit)) at r (numeral x) ⌝ }
 {
     let u = wide(bits(x));
-    if u < 2147483648 {
+    if u < BEYOND {
         return put_decimal(out, at, u);
     }
     out[at] = b'-';
-    put_decimal(out, at + 1, 4294967296 - u)
+    put_decimal(out, at + 1, WORDS - u)
 }
 
 // Further numbers of a line, each behind a space, and the newline. No number has more than 21 bytes.

@@ -1,7 +1,9 @@
 // The rows that match wrote one after the other, cut apart and printed.
 use crate::print::put_line;
+use words::NO_TAG;
 use words::casts::wide;
 use words::tag_of;
+use words::target;
 ghost use mathlib.Core.Path.{_≡_};
 ghost use Prim.Native.Nat.{_+_, _*_, _<_, _≤_};
 ghost use lib.ListN.{length};
@@ -18,11 +20,11 @@ pub struct Rest {
 fn inside(t: i32, c: i32) -> u32
     ensures { λ r. ⌜ r ≡ Rows·inside t c ⌝ }
 {
-    if tag_of(t) == 0 {
+    if tag_of(t) == target::INTEGER {
         return 0;
     }
     let n = tag_of(c);
-    if n == 2147483648 {
+    if n == NO_TAG {
         return 0;
     }
     n

@@ -3,6 +3,8 @@ use libc::STDERR_FILENO;
 use libc::STDIN_FILENO;
 use libc::STDOUT_FILENO;
 use text::Printed;
+use text::TEXT_BYTES;
+use text_ask::INPUT_BYTES;
 ghost use mathlib.Core.Path.{_≡_};
 ghost use Prim.Native.Nat.{_<_, _≤_};
 ghost use lib.ListN.{length, take};
@@ -15,10 +17,15 @@ enum Sent {
     Cut,
 }
 
-fn newlines() -> [u8; 4096]
+// Empty lines that are written in one go.
+const LINES: usize = 4096;
+
+const FULL: u64 = LINES as u64;
+
+fn newlines() -> [u8; LINES]
     ensures { λ r. ⌜ 4096 ≡ length r ⌝ }
 {
-    [b'\n'; 4096]
+    [b'\n'; LINES]
 }
 
 // Writes the first bytes of a slice and then empty lines.
@@ -31,11 +38,11 @@ fn send(out: &[u8], at: usize, lines: u64) -> Sent
     }
     let full = newlines();
     let mut sent: u64 = 0;
-    while 4096 < lines - sent {
+    while FULL < lines - sent {
         if !io::write_all(STDOUT_FILENO, &full) {
             return Sent::Cut;
         }
-        sent += 4096;
+        sent += FULL;
     }
     let n = (lines - sent) as usize;
     if !io::write_all(STDOUT_FILENO, &full[..n]) {
@@ -58,9 +65,9 @@ fn respond(read: &[u8], n: usize, out: &mut [u8]) -> Sent
 }
 
 fn main() {
-    let mut input = [0u8; 32769];
+    let mut input = [0u8; INPUT_BYTES + 1];
     let n = io::read_full(STDIN_FILENO, &mut input);
-    let mut out = [0u8; 98304];
+    let mut out = [0u8; TEXT_BYTES];
     match respond(&input, n, &mut out) {
         Sent::All(_, _) => {}
         Sent::Cut => {

@@ -9,25 +9,15 @@ use disc::LARGEST;
 use keep::Request;
 use libc::STDIN_FILENO;
 use line::tell;
+use text_ask::INPUT_BYTES;
+use text_ask::in_table;
 use text_ask::question::Asked;
 use text_ask::question::read_input;
+use text_ask::table;
 use words::tag_at;
 ghost use mathlib.Core.Path.{_≡_};
 ghost use Prim.Native.Nat.{_≤_};
 ghost use lib.ListN.{length};
-
-fn table() -> [i32; 2000]
-    ensures { λ r. ⌜ 2000 ≡ length r ⌝ }
-{
-    [0; 2000]
-}
-
-// How many words of a table a line has.
-fn words_of(n: usize) -> usize
-    ensures { λ r. ⌜ r ≤ 2000 ⌝ }
-{
-    if 2000 < n { 2000 } else { n }
-}
 
 fn blank() -> [u8; LARGEST] {
     [0; LARGEST]
@@ -69,8 +59,8 @@ fn respond(path: &[u8], input: &[u8]) {
             budget,
             room,
         } => {
-            let i = words_of(matcher);
-            let j = words_of(pattern);
+            let i = in_table(matcher);
+            let j = in_table(pattern);
             let asked = Request {
                 version: keep::half(tag_at(&t, 0)),
                 dialect: tag_at(&t, 1),
@@ -86,7 +76,7 @@ fn main() {
     let mut path = io::buffer();
     let n = os::arg(1, &mut path);
     // One byte more than is read, so that longer input is seen.
-    let mut input = [0u8; 32769];
+    let mut input = [0u8; INPUT_BYTES + 1];
     let k = io::read_full(STDIN_FILENO, &mut input);
     respond(&path[..n], &input[..k]);
 }

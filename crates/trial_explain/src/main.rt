@@ -6,8 +6,11 @@ use test_target::Found;
 use test_target::test_target;
 use tests::Judgement;
 use tests::rule_refused;
+use text_ask::INPUT_BYTES;
+use text_ask::in_table;
 use text_ask::question::Asked;
 use text_ask::question::read_input;
+use text_ask::table;
 ghost use mathlib.Core.Path.{_≡_};
 ghost use Prim.Native.Nat.{_<_, _≤_};
 ghost use lib.ListN.{length};
@@ -58,19 +61,6 @@ fn explain(m: &[i32], p: &[i32], t: &[i32]) {
     say_rule(m, p, t);
 }
 
-fn table() -> [i32; 2000]
-    ensures { λ r. ⌜ 2000 ≡ length r ⌝ }
-{
-    [0; 2000]
-}
-
-// How many words of a table a line has.
-fn words_of(n: usize) -> usize
-    ensures { λ r. ⌜ r ≤ 2000 ⌝ }
-{
-    if 2000 < n { 2000 } else { n }
-}
-
 fn answer(input: &[u8]) {
     let mut m = table();
     let mut p = table();
@@ -84,9 +74,9 @@ fn answer(input: &[u8]) {
             budget,
             room,
         } => {
-            let i = words_of(matcher);
-            let j = words_of(pattern);
-            let k = words_of(target);
+            let i = in_table(matcher);
+            let j = in_table(pattern);
+            let k = in_table(target);
             explain(&m[..i], &p[..j], &t[..k]);
         }
     }
@@ -94,7 +84,7 @@ fn answer(input: &[u8]) {
 
 fn main() {
     // One byte more than is read, so that longer input is seen.
-    let mut input = [0u8; 32769];
+    let mut input = [0u8; INPUT_BYTES + 1];
     let n = io::read_full(STDIN_FILENO, &mut input);
     answer(&input[..n]);
 }

@@ -2,8 +2,11 @@
 use libc::STDIN_FILENO;
 use libc::STDOUT_FILENO;
 use services::review::review;
+use text_ask::INPUT_BYTES;
+use text_ask::in_table;
 use text_ask::question::Asked;
 use text_ask::question::read_input;
+use text_ask::table;
 use words::of_bits;
 ghost use mathlib.Core.Path.{_≡_};
 ghost use Prim.Native.Nat.{_<_, _≤_};
@@ -67,19 +70,6 @@ fn say_review(m: &[i32], p: &[i32], cap: u32) {
     say_answer(cap, r.answer, r.place, r.count);
 }
 
-fn table() -> [i32; 2000]
-    ensures { λ r. ⌜ 2000 ≡ length r ⌝ }
-{
-    [0; 2000]
-}
-
-// How many words of a table a line has.
-fn words_of(n: usize) -> usize
-    ensures { λ r. ⌜ r ≤ 2000 ⌝ }
-{
-    if 2000 < n { 2000 } else { n }
-}
-
 fn answer(input: &[u8]) {
     let mut m = table();
     let mut p = table();
@@ -93,8 +83,8 @@ fn answer(input: &[u8]) {
             budget,
             room,
         } => {
-            let i = words_of(matcher);
-            let j = words_of(pattern);
+            let i = in_table(matcher);
+            let j = in_table(pattern);
             say_review(&m[..i], &p[..j], budget);
         }
     }
@@ -102,7 +92,7 @@ fn answer(input: &[u8]) {
 
 fn main() {
     // One byte more than is read, so that longer input is seen.
-    let mut input = [0u8; 32769];
+    let mut input = [0u8; INPUT_BYTES + 1];
     let n = io::read_full(STDIN_FILENO, &mut input);
     answer(&input[..n]);
 }

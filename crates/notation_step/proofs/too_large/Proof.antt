@@ -11,5 +11,8 @@ returns c = search too-large-rules
 returns-2 : tie.Need-returns-2
 returns-2 c = search too-large-rules
 
+returns-3 : tie.Need-returns-3
+returns-3 c = search too-large-rules
+
 pub too-large-spec : {M : Type 1} → statement M
-too-large-spec = tie.close (tie.spec returns returns-2)
+too-large-spec = tie.close (tie.spec returns returns-2 returns-3)

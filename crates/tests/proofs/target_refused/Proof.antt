@@ -5,6 +5,8 @@ use Rattle.tests.proofs.target_refused.Tie as tie
 
 pub target-refused-spec : {M : Type 1} → statement M
 target-refused-spec = tie.close (tie.spec
+    (λ c κs. search target-rules)
+    (λ c. search target-rules)
     (λ c. search target-rules)
     (λ c. search target-rules)
     (λ c. search target-rules)

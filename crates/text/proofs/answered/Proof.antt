@@ -10,6 +10,8 @@ answered-spec =
     (λ c κs. search answered-rules)
     (λ c κs. search answered-rules)
     (λ c κs. search answered-rules)
+    (λ c κs. search answered-rules)
+    (λ c κs. search answered-rules)
     (λ c. search answered-rules)
     (λ c. search answered-rules)
     (λ c κs. search answered-rules)

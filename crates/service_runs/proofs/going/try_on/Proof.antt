@@ -7,6 +7,15 @@ pub try-on-spec : {M : Type 1} → statement M
 try-on-spec = tie.close (tie.spec
     (λ c κs. search try-rules)
     (λ c. search try-rules)
-    (λ c κs. (c .before .before .before .before .before .pre .0, (c .before .before .before .before .before .pre .1 .0, try-valid _ _ _ _ _ (c .before .before .before .before .before .pre .1 .1 .1 .1) (c .before .before .before .is-sound .result) (c .before .before .before .is-sound .ensures) (c .before .before .before .before .before .pre .1 .1 .0) (c .before .before .if1 .left))))
+    (λ c κs.
+    let p = c .before .before .before .before .before .before .before .pre in
+    let i = c .before .before .before .before .is-sound in
+    (p .0, (p .1 .0, try-valid _ _ _ _ _ (p .1 .1 .1 .1) (i .result) (i .ensures) (p .1 .1 .0) (c .before .before .before .if1 .left))))
+    (λ c. search try-rules)
+    (λ c. search try-rules)
+    (λ c κs.
+    let p = c .before .before .before .before .before .before .before .pre in
+    let i = c .before .before .before .before .is-sound in
+    (p .0, (p .1 .0, try-valid _ _ _ _ _ (p .1 .1 .1 .1) (i .result) (i .ensures) (p .1 .1 .0) (c .before .before .before .if1 .left))))
     (λ c. search try-rules)
     (λ c. search try-rules))
