@@ -1,8 +1,8 @@
 //! The comparison at every budget and around every room: random rules over a multiset or a list of integers or tuples, small enough to be run with each
-//! budget up to their steps, and with rooms at and around each row's end.
+//! budget up to their steps, and with rooms at and around each row's end; half of them by rounds.
 
 use crate::inputs::Random;
-use crate::scripts::Picks;
+use crate::scripts::{Picks, BY_ROUNDS};
 use crate::Services;
 
 /// The steps and the words of room that a rule is looked at with.
@@ -136,6 +136,9 @@ pub fn random(services: &Services, rules: u64, seed: u64) -> Tally {
         let mut picks: Picks = [1 + r.below(2) as u32, 1, 1, 0, 0];
         if !services.takes(picks) {
             picks[0] = 1;
+        }
+        if services.takes(BY_ROUNDS) && r.once_in(2) {
+            [picks[1], picks[3]] = [2, r.pick(&[6, 20, 257]) as u32];
         }
         let plain = |budget, room: &mut [i32]| crate::picked_reference(picks, words, budget, room).unwrap();
         let whole = plain(STEPS, &mut [0; ROOM]);

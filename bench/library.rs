@@ -31,6 +31,22 @@ extern "C" {
         numbers: *mut u8,
         numbers_len: usize,
     ) -> u32;
+    fn lozhbinor_rounds(
+        form: u32,
+        matcher: *const i32,
+        matcher_len: usize,
+        pattern: *const i32,
+        pattern_len: usize,
+        target: *const i32,
+        target_len: usize,
+        budget: u32,
+        table: *mut i32,
+        table_len: usize,
+        room: *mut i32,
+        room_len: usize,
+        numbers: *mut u8,
+        numbers_len: usize,
+    ) -> u32;
     fn lozhbinor_review(
         matcher: *const i32,
         matcher_len: usize,
@@ -107,6 +123,9 @@ extern "C" {
     ) -> u32;
 }
 
+/// A word behind the lent table: it must stay.
+const LEFT: i32 = -1515870811;
+
 /// A byte that no number of a small run has, behind the numbers: it must stay.
 pub const MARK: u8 = 0xa5;
 
@@ -179,10 +198,49 @@ pub fn match_in(form: u32, words: [&[i32]; 3], budget: u32, room: &mut [i32]) ->
     numbers(&bytes, answer)
 }
 
-/// The picks that there are: the forms of No. 9. What a later request lets the caller pick is a line here, when it lands.
+/// The words of a state in the lent table, as docs/ and the header have it.
+const STATE_WORDS: usize = 825;
+
+/// The other search order, over a table of so many states, and so many words less.
+fn match_rounds(form: u32, states: u32, less: u32, words: [&[i32]; 3], budget: u32, room: &mut [i32]) -> Matched {
+    thread_local!(static TABLE: std::cell::RefCell<Vec<i32>> = std::cell::RefCell::new(vec![LEFT; 1024 * STATE_WORDS]));
+    let [matcher, pattern, target] = words;
+    let mut bytes = [MARK; 56];
+    let length = (states as usize * STATE_WORDS).saturating_sub(less as usize);
+    TABLE.with(|table| {
+        let mut table = table.borrow_mut();
+        if table.len() <= length {
+            table.resize(length + 1, LEFT);
+        }
+        table[length] = LEFT;
+        let answer = unsafe {
+            lozhbinor_rounds(
+                form,
+                matcher.as_ptr(),
+                matcher.len(),
+                pattern.as_ptr(),
+                pattern.len(),
+                target.as_ptr(),
+                target.len(),
+                budget,
+                table.as_mut_ptr(),
+                length,
+                room.as_mut_ptr(),
+                room.len(),
+                bytes.as_mut_ptr(),
+                bytes.len(),
+            )
+        };
+        assert_eq!(table[length], LEFT, "a word behind the table was written");
+        numbers(&bytes, answer)
+    })
+}
+
+/// The picks that there are: the forms of No. 9, and the order of No. 10. What a later request lets the caller pick is a line here, when it lands.
 pub fn picked(picks: Picks, words: [&[i32]; 3], budget: u32, room: &mut [i32]) -> Option<Matched> {
     match picks {
         [form, 1, 1, ..] => Some(match_in(form, words, budget, room)),
+        [form, 2, 1, states, less] => Some(match_rounds(form, states, less, words, budget, room)),
         _ => None,
     }
 }

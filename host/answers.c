@@ -87,6 +87,29 @@ static void match_with(uint32_t form, const char *m, const char *p, const char *
     untouched((size_t)lozhbinor_number(numbers, 4), LOZHBINOR_MATCH_BYTES);
 }
 
+/* By rounds, over a table of so many words; a word behind it stays. */
+static void rounds(const char *m, const char *p, const char *t, uint32_t budget, size_t table_words, size_t room, const char *expected, const char *rows)
+{
+    static int32_t table[6 * LOZHBINOR_STATE_WORDS + 1];
+    int32_t mw[64], pw[64], tw[64], rw[64];
+    size_t mn = parse(m, mw), pn = parse(p, pw), tn = parse(t, tw), rn = parse(rows, rw);
+    char got[128];
+    clear();
+    table[table_words] = -77;
+    uint32_t answer =
+        lozhbinor_rounds(1, mw, mn, pw, pn, tw, tn, budget, table, table_words, words + GUARD, room, bytes + GUARD, LOZHBINOR_MATCH_BYTES + SPARE);
+    const uint8_t *numbers = bytes + GUARD;
+    snprintf(got, sizeof got, "%" PRIu64 " %" PRIu64 " %" PRIu64 " %" PRIu64 " %" PRIu64 " %" PRIu64, lozhbinor_number(numbers, 0),
+             lozhbinor_number(numbers, 1), lozhbinor_number(numbers, 2), lozhbinor_number(numbers, 3), lozhbinor_number(numbers, 4),
+             lozhbinor_number(numbers, 5));
+    printf("rounds %s\n", got);
+    check(answer == lozhbinor_number(numbers, 0), "the call's answer is the first number");
+    check(strcmp(got, expected) == 0, expected);
+    check(rn == lozhbinor_number(numbers, 4) && memcmp(words + GUARD, rw, rn * sizeof *rw) == 0, rows);
+    check(table[table_words] == -77, "a word behind the table");
+    untouched((size_t)lozhbinor_number(numbers, 4), LOZHBINOR_MATCH_BYTES);
+}
+
 static void match(const char *m, const char *p, const char *t, uint32_t budget, size_t room, const char *expected)
 {
     int32_t tw[64];
@@ -130,6 +153,7 @@ static void too_short(void)
     for (size_t n = 0; n < LOZHBINOR_MATCH_BYTES; n++) {
         clear();
         check(lozhbinor_match(one, 1, seven, 1, seven, 2, 9, words + GUARD, ROOM, bytes + GUARD, n) == LOZHBINOR_SHORT, "match 24");
+        check(lozhbinor_rounds(9, one, 1, seven, 1, seven, 2, 9, NULL, 0, words + GUARD, ROOM, bytes + GUARD, n) == LOZHBINOR_SHORT, "rounds 24");
         untouched(0, 0);
     }
     for (size_t n = 0; n < LOZHBINOR_REVIEW_BYTES; n++) {
@@ -139,7 +163,7 @@ static void too_short(void)
         check(lozhbinor_room(9, one, 1, seven, 1, 3, 8, bytes + GUARD, n) == LOZHBINOR_SHORT, "room 24");
         untouched(0, 0);
     }
-    printf("match, review and room 24\n");
+    printf("match, rounds, review and room 24\n");
 }
 
 static void room(uint32_t form, const char *m, const char *p, int32_t cap, uint32_t longest, const char *expected)
@@ -202,6 +226,14 @@ int main(void)
     match_with(1, "3 1", "5 1 0 5 3 0 0 0", "1 3 0 2 0 8 0 2", ROOM, "0 0 2 22 4 0", "0 2 0 2");
     match_with(0, "9", "0", "0 7", ROOM, "20 0 0 0 0 0", "");
     match_with(3, "3 1", "5 1 0 5 3 0 0 0", "1 3 0 2 0 8 0 2", ROOM, "20 0 0 0 0 0", "");
+    size_t state = LOZHBINOR_STATE_WORDS;
+    rounds("3 1", "5 1 0 5 1 1 0", "1 3 0 1 0 2 0 3", 31, 6 * state, ROOM, "7 0 1 31 4 0", "0 1 0 2");
+    rounds("3 1", "5 1 0 5 1 1 0", "1 3 0 1 0 2 0 3", 99, 6 * state, ROOM, "8 0 2 34 8 0", "0 1 0 2 0 2 0 1");
+    rounds("3 1", "5 1 0 5 1 1 0", "1 3 0 1 0 2 0 3", 99, 6 * state - 1, ROOM, "21 0 0 14 0 0", "");
+    rounds("3 1", "5 1 0 5 1 1 0", "1 3 0 1 0 2 0 3", 14, 6 * state - 1, ROOM, "7 0 0 14 0 0", "");
+    rounds("2 1", "6 1 0 1 1", "1 1 0 1", 0, 0, ROOM, "7 0 0 0 0 0", "");
+    rounds("2 1", "6 1 0 1 1", "1 1 0 1", 99, state - 1, ROOM, "21 0 0 0 0 0", "");
+    rounds("9", "0", "0 7", 99, state, ROOM, "1 0 0 0 0 0", "");
     check(lozhbinor_marks((int32_t[]){0, -2, 1}) == 0x1FFFFFFFEu, "marks of two words' bits");
     review("3 1", "5 1 0 5 3 0 0 0", 3, "0 0 34");
     review("3 4 2 1 1", "5 7 2 1 0 1 1 5 7 2 3 0 0 3 1 1 0", 3, "0 0 55");

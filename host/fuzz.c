@@ -15,7 +15,7 @@
 #include <stdlib.h>
 #include <string.h>
 
-enum { FILL = -77, BOOK = 4 * LOZHBINOR_BLOCK_BYTES };
+enum { FILL = -77, BOOK = 4 * LOZHBINOR_BLOCK_BYTES, STATES = 24, TABLE = 4 * STATES * LOZHBINOR_STATE_WORDS };
 
 static void wrong(uint64_t call, const char *what)
 {
@@ -24,7 +24,7 @@ static void wrong(uint64_t call, const char *what)
 }
 
 struct lent {
-    struct pages matcher, pattern, target, room, numbers, book;
+    struct pages matcher, pattern, target, room, numbers, book, table;
 };
 
 struct call {
@@ -69,6 +69,33 @@ static void match(uint64_t no, const struct lent *l, const struct call *c, uint8
         if (numbers[i] != 0xA5)
             wrong(no, "a byte after the numbers");
     memcpy(kept, numbers, c->bytes);
+}
+
+/* By rounds, over a table of some words: a refusal is match's, and where both are done the rows take as many words and steps. */
+static int rounds(uint64_t no, const struct lent *l, const struct call *c, const uint8_t *depth_first)
+{
+    size_t words = below(4) ? (size_t)TABLE / 4 : below(TABLE / 4 + 1);
+    uint8_t *numbers = place_of(l->numbers, LOZHBINOR_MATCH_BYTES, c->at_end);
+    int32_t *room = place_of(l->room, 4 * c->room, c->at_end);
+    for (size_t i = 0; i < c->room; i++)
+        room[i] = FILL;
+    uint32_t answer = lozhbinor_rounds(LOZHBINOR_FORM_WORDS, laid(l->matcher, &c->m, c->at_end), c->m.count, laid(l->pattern, &c->p, c->at_end), c->p.count,
+                                       laid(l->target, &c->t, c->at_end), c->t.count, c->budget, place_of(l->table, 4 * words, c->at_end), words, room, c->room,
+                                       numbers, LOZHBINOR_MATCH_BYTES);
+    struct lozhbinor_matched r = lozhbinor_matched_of(numbers), one = lozhbinor_matched_of(depth_first);
+    int refused = one.answer >= LOZHBINOR_MATCHER && one.answer <= LOZHBINOR_UNFIT;
+    if (r.answer != answer || (answer > LOZHBINOR_FULL && answer != LOZHBINOR_TABLE))
+        wrong(no, "an answer that match by rounds does not give");
+    if ((refused || answer < LOZHBINOR_BUDGET) && answer != LOZHBINOR_DONE && memcmp(numbers, depth_first, LOZHBINOR_MATCH_BYTES) != 0)
+        wrong(no, "a refusal by rounds is another");
+    if (answer == LOZHBINOR_DONE && one.answer == LOZHBINOR_DONE && memcmp(numbers, depth_first, LOZHBINOR_MATCH_BYTES) != 0)
+        wrong(no, "as many rows, steps and words by rounds");
+    if (r.steps > c->budget || r.words > c->room)
+        wrong(no, "more steps than the budget, or more words than the room");
+    for (size_t i = r.words; i < c->room; i++)
+        if (room[i] != FILL)
+            wrong(no, "a word after the words written");
+    return answer == LOZHBINOR_DONE;
 }
 
 /* The same in a dialect: 22 where there is no such, and in dialect 2 perhaps a misfit; else what review gives. */
@@ -165,9 +192,9 @@ int main(int argc, char **argv)
 {
     uint64_t calls = argc > 1 ? strtoull(argv[1], NULL, 10) : 50000;
     state = 2463534242u + (argc > 2 ? strtoull(argv[2], NULL, 10) : 1);
-    struct lent l = {pages_for(4 * WORDS), pages_for(4 * WORDS), pages_for(4 * WORDS), pages_for(4 * WORDS), pages_for(64), pages_for(BOOK)};
+    struct lent l = {pages_for(4 * WORDS), pages_for(4 * WORDS), pages_for(4 * WORDS), pages_for(4 * WORDS), pages_for(64), pages_for(BOOK), pages_for(TABLE)};
     static struct call c;
-    uint64_t answers[LOZHBINOR_SHORT + 1] = {0}, sufficed = 0, live = 0;
+    uint64_t answers[LOZHBINOR_SHORT + 1] = {0}, sufficed = 0, live = 0, turned = 0;
     for (uint64_t no = 0; no < calls; no++) {
         uint8_t once[64], again[64];
         int next = 0;
@@ -187,11 +214,14 @@ int main(int argc, char **argv)
         if (memcmp(once, again, c.bytes) != 0)
             wrong(no, "the same call answers something else");
         answers[c.bytes < LOZHBINOR_MATCH_BYTES ? LOZHBINOR_SHORT : lozhbinor_number(once, LOZHBINOR_ANSWER)]++;
+        if (c.bytes >= LOZHBINOR_MATCH_BYTES)
+            turned += (uint64_t)rounds(no, &l, &c, once);
         review(no, &l, &c);
         sufficed += (uint64_t)room(no, &l, &c);
         live += book(no, &l, &c);
     }
     printf("fuzz: %" PRIu64 " random calls of match, twice each, and of review, between guard pages: 0 differ\n", calls);
+    printf("fuzz: by rounds %" PRIu64 " of these were done, with as many rows and steps\n", turned);
     printf("fuzz: %" PRIu64 " of these rules matched in the room that suffices\n", sufficed);
     printf("fuzz: as many rule books, with %" PRIu64 " live rules in the end\n", live);
     printf("fuzz: answers");

@@ -2,10 +2,10 @@
  * library is x86-64 code for Linux; on another machine it runs in an emulator.
  *
  * Every slice is a pointer and a length. Words are signed 32-bit numbers; the
- * lengths of matcher, pattern, target, room and `words` count words, those of
- * `numbers` and of a book count bytes. The slices are only read, except `room`,
- * `words`, `numbers` and a book that is changed, which must not overlap each
- * other or any other slice. A slice of length 0 may have any pointer, null too.
+ * lengths of matcher, pattern, target, table, room and `words` count words, those
+ * of `numbers` and of a book count bytes. The slices are only read, except
+ * `table`, `room`, `words`, `numbers` and a book that is changed, which must not
+ * overlap each other or any other slice. A slice of length 0 may have any pointer, null too.
  *
  * The words, each form a tag and what follows it (docs/RULES.md has examples):
  *   matcher, at most 64 words, four levels of 2, 3 and 4
@@ -45,7 +45,7 @@ extern "C" {
 /* The version of this header. lozhbinor_version() gives that of the library:
  * the same number, or the two do not belong together. */
 #define LOZHBINOR_VERSION_MAJOR 2
-#define LOZHBINOR_VERSION_MINOR 4
+#define LOZHBINOR_VERSION_MINOR 5
 #define LOZHBINOR_VERSION (1000 * LOZHBINOR_VERSION_MAJOR + LOZHBINOR_VERSION_MINOR)
 
 uint32_t lozhbinor_version(void);
@@ -110,6 +110,7 @@ enum {
     LOZHBINOR_BOOK_LONG = 18,     /* add: a rule of over 124 words */
     LOZHBINOR_UNLIKE = 19,      /* an advance: a room unlike the size given at the opening */
     LOZHBINOR_FORM = 20,        /* there is no such row form; before 1 */
+    LOZHBINOR_TABLE = 21,       /* rounds: more states wait than 256, or than the table holds */
     LOZHBINOR_DIALECT = 22,     /* there is no such dialect; after 20 and before 1 */
     LOZHBINOR_BOOK_NOT_LIVE = 23, /* withdraw: the badge is not live */
     LOZHBINOR_SHORT = 24        /* a slice for the answer is too short; nothing was written */
@@ -177,6 +178,28 @@ uint32_t lozhbinor_match_with(uint32_t form,
                               uint32_t budget,
                               int32_t *room, size_t room_words,
                               uint8_t *numbers, size_t numbers_bytes);
+
+/* The other search order: by rounds. In a round each list of waiting states gives
+ * up its first state; what follows comes first, then the remainders, in order.
+ * The rows are those of lozhbinor_match_with in another order, in as many steps;
+ * short ways come early. The waiting states stand in `table`, words that the game
+ * lends: it holds table_words / LOZHBINOR_STATE_WORDS states, and a round that
+ * would begin with more, or with more than 256, ends the call with 21, the rows
+ * of the rounds before in the room as with 7. Budget and room come first. What is
+ * left in the table is of no account, and nothing is read there that the call has
+ * not written. */
+enum {
+    LOZHBINOR_STATE_WORDS = 825,
+    LOZHBINOR_WAITING_LARGEST = 256
+};
+uint32_t lozhbinor_rounds(uint32_t form,
+                          const int32_t *matcher, size_t matcher_words,
+                          const int32_t *pattern, size_t pattern_words,
+                          const int32_t *target, size_t target_words,
+                          uint32_t budget,
+                          int32_t *table, size_t table_words,
+                          int32_t *room, size_t room_words,
+                          uint8_t *numbers, size_t numbers_bytes);
 
 /* The marks of a variable in a row of form 2, bit k for element k. */
 static inline uint64_t lozhbinor_marks(const int32_t *origin)
@@ -432,6 +455,7 @@ static inline const char *lozhbinor_answer_name(uint32_t answer)
     case LOZHBINOR_BOOK_LONG: return "too long";
     case LOZHBINOR_UNLIKE: return "unlike room";
     case LOZHBINOR_FORM: return "form";
+    case LOZHBINOR_TABLE: return "table";
     case LOZHBINOR_DIALECT: return "dialect";
     case LOZHBINOR_BOOK_NOT_LIVE: return "not live";
     case LOZHBINOR_SHORT: return "short";

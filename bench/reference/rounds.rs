@@ -140,7 +140,7 @@ fn rounds(search: &mut Search, holds: usize) -> Result<(), Stop> {
     Ok(())
 }
 
-pub fn by_rounds(mut search: Search, holds: usize) -> Matched {
+pub(super) fn by_rounds(mut search: Search, holds: usize) -> Matched {
     let ended = rounds(&mut search, holds);
     search.numbers(ended)
 }

@@ -5,6 +5,7 @@ use Prim.Native.Nat.{ℕ}
 use lib.IntN.{ℤ}
 use Rattle.host.specs.Border.{Called, called, matchCalled, matchWithCalled, reviewCalled, reviewWithCalled}
 use Rattle.host.specs.Rooms.{roomCalled}
+use Rattle.host_rounds.specs.Rounds.{roundsCalled}
 
 same-call : (a b : ℕ) (x y : List ℤ) (m n : List ℕ) (c : Called) → called a x m ≡ c → called b y n ≡ c → (a ≡ b) × (x ≡ y) × (m ≡ n)
 same-call a b x y m n c p q =
@@ -18,6 +19,12 @@ pub match-with-called-once : (form : ℕ) (ms ps ts : List ℤ) (budget : ℕ) (
     → called a x m ≡ matchWithCalled form ms ps ts budget room numbers → called b y n ≡ matchWithCalled form ms ps ts budget room numbers
     → (a ≡ b) × (x ≡ y) × (m ≡ n)
 match-with-called-once form ms ps ts budget room numbers a b x y m n = same-call a b x y m n (matchWithCalled form ms ps ts budget room numbers)
+
+-- What is left in the lent table is no part of it: docs/EXCEPTIONS.md.
+pub rounds-called-once : (form : ℕ) (ms ps ts : List ℤ) (budget words : ℕ) (room : List ℤ) (numbers : List ℕ) (a b : ℕ) (x y : List ℤ) (m n : List ℕ)
+    → called a x m ≡ roundsCalled form ms ps ts budget words room numbers → called b y n ≡ roundsCalled form ms ps ts budget words room numbers
+    → (a ≡ b) × (x ≡ y) × (m ≡ n)
+rounds-called-once form ms ps ts budget words room numbers a b x y m n = same-call a b x y m n (roundsCalled form ms ps ts budget words room numbers)
 
 pub review-called-once : (ms ps : List ℤ) (cap : ℤ) (numbers : List ℕ) (a b : ℕ) (m n : List ℕ)
     → called a [] m ≡ reviewCalled ms ps cap numbers → called b [] n ≡ reviewCalled ms ps cap numbers → (a ≡ b) × (m ≡ n)

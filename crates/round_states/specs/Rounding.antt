@@ -117,14 +117,14 @@ module _ (e : Env) (R : Ruled e) (used : ℕ) (U : Used e R used) where
 
     -- All lists are done: the new lists, and behind them the remainders, are those of the next round.
     pub sweep-ends : many ≤ i → 1 ≤ many → (ws₁ : List ℤ) → length ws₁ ≡ length ws → ((k : ℕ) → k < 275 * fresh → entryAt ws₁ k ≡ entryAt ws k)
-        → ((k : ℕ) → k < 275 * left → entryAt ws₁ (275 * fresh + k) ≡ entryAt ws (275 * many + k)) → Rounding F rounds limit budget ws₁ (fresh + left) wait x room
+        → ((q k : ℕ) → q < left → k < 3 + used → entryAt ws₁ (275 * (fresh + q) + k) ≡ entryAt ws (275 * (many + q) + k)) → Rounding F rounds limit budget ws₁ (fresh + left) wait x room
     sweep-ends h o ws₁ long low moved = record {
       all = S .new ++ remainders (S .done);
       count = let a = length-append (S .new) (remainders (S .done)) in let b = S .made in let c = S .over in omega arith;
       waits = let a = S .waits in let b = waiting-more (S .new) (remainders (S .done)) in let c = ap waiting none-left in let d = no-waiting in omega arith;
       there = let a = S .there in omega arith;
       lists = lists-join e R used U ws₁ 0 (S .new) (remainders (S .done)) (lists-same e R used U ws ws₁ 0 (S .new) (λ k a b. low k (let c = S .made in omega arith)) (S .new-lists))
-          (subst (λ n. Lists e R used U ws₁ n (remainders (S .done))) (let c = S .made in omega arith) (lists-moved e R used U ws ws₁ many fresh (remainders (S .done)) (λ k a. moved k (let c = S .over in omega arith)) (S .left-lists)));
+          (subst (λ n. Lists e R used U ws₁ n (remainders (S .done))) (let c = S .made in omega arith) (lists-moved e R used U ws ws₁ many fresh (remainders (S .done)) (λ q k a m. moved q k (let c = S .over in omega arith) m) (S .left-lists)));
       far = go (budget - x .steps) (S .rest) none-left (S .far);
       fuel = let f = S .fuel in omega arith;
     }

@@ -91,6 +91,7 @@ module _ (e : Env) (R : Ruled e) where
   -- The numbers of slots: each line's is among them.
   pub record Used (used : ℕ) : Type 0 where
     pub lines : (i : ℕ) → i < entries → getD (e .arg) i 0 < used
+    pub variables : 16 ≤ used
     pub most : used ≤ slotCount
 
   -- T holds what a list of states leaves in the table: entries 0 to 2 its first state and the open frame, then the bindings and the slots.

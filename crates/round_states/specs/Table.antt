@@ -97,8 +97,8 @@ module _ (e : Env) (R : Ruled e) where
   -- ---- Lists one after the other.
 
   module _ (used : ℕ) (u : Used e R used) where
-    -- The same entries hold the same list.
-    pub kept-same : (T S : ℕ → kept.Held) (br : Branch) → ((k : ℕ) → k < 275 → S k ≡ T k) → Kept e R used T br → Kept e R used S br
+    -- The same entries hold the same list, where those agree that the rule uses.
+    pub kept-same : (T S : ℕ → kept.Held) (br : Branch) → ((k : ℕ) → k < 3 + used → S k ≡ T k) → Kept e R used T br → Kept e R used S br
     kept-same T S br h k = record {
       x = k .x;
       slots = k .slots;
@@ -109,8 +109,8 @@ module _ (e : Env) (R : Ruled e) where
       pc = ap (λ (q : kept.Held). q .at) (h 2 (omega arith)) ∙ k .pc;
       whole = λ j z. ap (λ (q : kept.Held). q .marks) (h 1 (omega arith)) ∙ k .whole j z;
       left = λ j z. ap (λ (q : kept.Held). q .marks) (h 2 (omega arith)) ∙ k .left j z;
-      binds = λ v z. h (3 + v) (let f = R .fine .few in omega arith) ∙ k .binds v z;
-      waits = λ i l z. h (3 + getD (e .arg) i 0) (let f = u .lines i l in let g = u .most in omega arith) ∙ k .waits i l z;
+      binds = λ v z. h (3 + v) (let f = R .fine .few in let g = u .variables in omega arith) ∙ k .binds v z;
+      waits = λ i l z. h (3 + getD (e .arg) i 0) (let f = u .lines i l in omega arith) ∙ k .waits i l z;
     }
 
     unfoldable pub Lists : List ℤ → (at : ℕ) → List Branch → Type 0
@@ -123,21 +123,25 @@ module _ (e : Env) (R : Ruled e) where
     unfolding Lists
     lists-same old new at [] h l = tt
     lists-same old new at (br ∷ bs) h l = (
-      kept-same (nth old at) (nth new at) br (λ k m. h (275 * at + k) (omega arith) (omega arith)) (l .0),
+      kept-same (nth old at) (nth new at) br (λ k m. h (275 * at + k) (omega arith) (let g = u .most in omega arith)) (l .0),
       lists-same old new (suc at) bs (λ k a b. h k (omega arith) (omega arith)) (l .1),
     )
 
     -- Lists moved to another place.
-    pub lists-moved : (old new : List ℤ) (from to : ℕ) (bs : List Branch) → ((k : ℕ) → k < 275 * length bs → entryAt new (275 * to + k) ≡ entryAt old (275 * from + k))
+    pub lists-moved : (old new : List ℤ) (from to : ℕ) (bs : List Branch)
+        → ((q k : ℕ) → q < length bs → k < 3 + used → entryAt new (275 * (to + q) + k) ≡ entryAt old (275 * (from + q) + k))
         → Lists old from bs → Lists new to bs
     unfolding Lists
     lists-moved old new from to [] h l = tt
     lists-moved old new from to (br ∷ bs) h l = (
-      kept-same (nth old from) (nth new to) br (λ k m. h k (omega arith)) (l .0),
-      lists-moved old new (suc from) (suc to) bs (λ k m.
-          let a : 275 * suc to + k ≡ 275 * to + (275 + k) = omega arith in
-          let b : 275 * suc from + k ≡ 275 * from + (275 + k) = omega arith in
-          ap (entryAt new) a ∙ h (275 + k) (omega arith) ∙ sym (ap (entryAt old) b)) (l .1),
+      kept-same (nth old from) (nth new to) br (λ k m.
+          let a : 275 * to + k ≡ 275 * (to + 0) + k = omega arith in
+          let b : 275 * (from + 0) + k ≡ 275 * from + k = omega arith in
+          ap (entryAt new) a ∙ h 0 k (omega arith) m ∙ ap (entryAt old) b) (l .0),
+      lists-moved old new (suc from) (suc to) bs (λ q k n m.
+          let a : 275 * (suc to + q) + k ≡ 275 * (to + suc q) + k = omega arith in
+          let b : 275 * (from + suc q) + k ≡ 275 * (suc from + q) + k = omega arith in
+          ap (entryAt new) a ∙ h (suc q) k (omega arith) m ∙ ap (entryAt old) b) (l .1),
     )
 
     pub lists-join : (ws : List ℤ) (at : ℕ) (xs ys : List Branch) → Lists ws at xs → Lists ws (at + length xs) ys → Lists ws at (xs ++ ys)

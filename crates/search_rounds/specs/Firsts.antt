@@ -50,7 +50,6 @@ LeftBy e budget x₀ slots₀ b₀ room₀ spent x slots b room =
 pub record Firsts (e : Env) (used : ℕ) (ws : List ℤ) (r budget : ℕ) (x : State) (slots : List ℕ) (b : List Binding) (room : List ℤ) : Type 0 where
   pub ruled : Ruled e
   pub uses : Used e ruled used
-  pub variables : 16 ≤ used
   pub br : Branch
   pub kept : Kept e ruled used (nth e ruled ws r) br
   pub clean : Clean e ruled slots b

@@ -31,7 +31,6 @@ headIn ws r x = record {
 pub record Listed (e : Env) (used : ℕ) (ws : List ℤ) (r to : ℕ) (x : State) (slots : List ℕ) (b : List Binding) : Type 0 where
   pub ruled : Ruled e
   pub uses : Used e ruled used
-  pub variables : 16 ≤ used
   pub br : Branch
   pub kept : Kept e ruled used (nth e ruled ws r) br
   pub opened : entryAt ws (275 * r + 1) .at ≡ 0 → ⊥

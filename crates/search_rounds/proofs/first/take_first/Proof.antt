@@ -12,7 +12,7 @@ use Rattle.search_rounds.proofs.first.once.Reads as once-reads
 use Rattle.tables.proofs.line.op_at.Reads as op-at-reads
 
 take-out-requires : tie.Need-take-out-requires
-take-out-requires c κs = let P = c .before .pre .1 .0 in (P .ruled .fine .few, (P .variables, (P .uses .most, (P .there, P .clean .long))))
+take-out-requires c κs = let P = c .before .pre .1 .0 in (P .ruled .fine .few, (P .uses .variables, (P .uses .most, (P .there, P .clean .long))))
 
 alone-of-requires : tie.Need-alone-of-requires
 alone-of-requires c κs = c .before .before .pre .1 .0 .there

@@ -11,7 +11,7 @@ use Rattle.search_choice.proofs.settle.Reads as settle-reads
 use Rattle.search_rounds.proofs.remainder.head_of.Reads as head-of-reads
 
 take-out-requires : tie.Need-take-out-requires
-take-out-requires c κs = let L = c .before .before .pre .1 in (L .ruled .fine .few, (L .variables, (L .uses .most, (list-there L, L .clean .long))))
+take-out-requires c κs = let L = c .before .before .pre .1 in (L .ruled .fine .few, (L .uses .variables, (L .uses .most, (list-there L, L .clean .long))))
 
 head-of-requires : tie.Need-head-of-requires
 head-of-requires c κs = list-there (c .before .before .before .before .pre .1)
@@ -33,7 +33,7 @@ settle-requires c κs =
 keep-requires : tie.Need-keep-requires
 keep-requires c κs =
     let L = c .before .before .before .before .before .before .before .before .before .before .before .before .before .pre .1 in
-    (list-framed L (c .before .before .before .before .before .before .before .before .before .before .take-out .ensures) (c .before .before .before .before .before .before .before .before .head-of .ensures) (c .before .before .before .before .reopen .last .1 .1 .1 .1 .0) (c .before .before .before .before .reopen .ensures) (c .before .before .settle .result) (c .before .before .settle .last .1 .1 .1 .1 .0) (c .before .before .settle .ensures), (L .ruled .fine .few, (L .variables, (L .uses .most, L .there))))
+    (list-framed L (c .before .before .before .before .before .before .before .before .before .before .take-out .ensures) (c .before .before .before .before .before .before .before .before .head-of .ensures) (c .before .before .before .before .reopen .last .1 .1 .1 .1 .0) (c .before .before .before .before .reopen .ensures) (c .before .before .settle .result) (c .before .before .settle .last .1 .1 .1 .1 .0) (c .before .before .settle .ensures), (L .ruled .fine .few, (L .uses .variables, (L .uses .most, L .there))))
 
 same-length : tie.Need-same-length
 same-length c = search rules

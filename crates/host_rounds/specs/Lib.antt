@@ -1,0 +1,2 @@
+-- What a call of match by rounds gives.
+pub mod Rounds

@@ -1,0 +1,4 @@
+pub mod Counts
+pub mod Pulls
+pub mod Rests
+pub mod Turns
