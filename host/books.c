@@ -37,7 +37,7 @@ static void end(const char *what, uint32_t answer, uint32_t wanted, uint64_t num
 {
     printf("%s: %s\n", what, lozhbinor_answer_name(answer));
     check(answer == wanted && lozhbinor_number(numbers, LOZHBINOR_ANSWER) == wanted, what);
-    check(lozhbinor_number(numbers, LOZHBINOR_NUMBER) == number, what);
+    check(lozhbinor_booked_of(numbers).number == number, what);
     for (size_t i = bytes; i < sizeof numbers; i++)
         check(numbers[i] == GUARD, "a byte behind the numbers");
     check(answer == LOZHBINOR_DONE || memcmp(book, before, sizeof book) == 0, "a refused call changed a byte");
@@ -49,7 +49,7 @@ static void add(const char *what, uint16_t version, uint16_t badge, uint32_t dia
     begin();
     uint32_t answer = lozhbinor_book_add(book, sizeof book, used, version, badge, dialect, multiset, 2, pattern, n, numbers, sizeof numbers);
     end(what, answer, wanted, 0, LOZHBINOR_BOOK_BYTES);
-    used = (uint32_t)lozhbinor_number(numbers, LOZHBINOR_USED);
+    used = lozhbinor_booked_of(numbers).used;
 }
 
 static void withdraw(const char *what, uint16_t badge, uint32_t wanted)
@@ -74,9 +74,10 @@ static void check_book(const char *what, uint32_t wanted, uint64_t block)
 /* The rule in `words`, as the last call told it. */
 static void rule(uint64_t version, const int32_t *pattern, size_t n)
 {
-    check(lozhbinor_number(numbers, LOZHBINOR_RULE_VERSION) == version, "version");
-    check(lozhbinor_number(numbers, LOZHBINOR_RULE_MATCHER) == 2 && memcmp(words, multiset, sizeof multiset) == 0, "matcher");
-    check(lozhbinor_number(numbers, LOZHBINOR_RULE_PATTERN) == n && memcmp(words + 2, pattern, n * sizeof *pattern) == 0, "pattern");
+    struct lozhbinor_rule r = lozhbinor_rule_of(numbers);
+    check(r.version == version, "version");
+    check(r.matcher_words == 2 && memcmp(words, multiset, sizeof multiset) == 0, "matcher");
+    check(r.pattern_words == n && memcmp(words + 2, pattern, n * sizeof *pattern) == 0, "pattern");
     for (size_t i = 2 + n; i < sizeof words / sizeof words[0]; i++)
         check(words[i] == -77, "a word behind the rule");
 }
@@ -87,7 +88,7 @@ static void lists(void)
         begin();
         uint32_t answer = lozhbinor_book_block(book, sizeof book, block, words, sizeof words / sizeof words[0], numbers, sizeof numbers);
         check(answer == LOZHBINOR_DONE, "a block of a good book");
-        printf("block %u: badge %u\n", block, (unsigned)lozhbinor_number(numbers, LOZHBINOR_BADGE));
+        printf("block %u: badge %u\n", block, (unsigned)lozhbinor_rule_of(numbers).badge);
     }
     begin();
     end("a block that is not lent", lozhbinor_book_block(book, sizeof book, BLOCKS, words, LOZHBINOR_RULE_WORDS, numbers, sizeof numbers), LOZHBINOR_BOOK_NUMBER, 0,

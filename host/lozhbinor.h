@@ -23,9 +23,11 @@
  * input is wrong: every words, budget and room give one of the answers below.
  * Nothing is allocated, nothing is kept between calls but in a run that the game
  * lends, and two threads may call at the same time on slices of their own. The
- * deepest stack of a match, measured over the rules of bench/, is under 29 KB,
- * that of an advance under 65 KB. A call is not interrupted from outside: it ends
- * by itself, a match after at most `budget` steps, an advance after `steps`.
+ * deepest stack of a match, measured over rules that nest as far as the limits
+ * allow, is at most 28,928 bytes, that of an advance 65,024 bytes. A call is not
+ * interrupted from outside: it ends by itself, a match after at most `budget`
+ * steps; a search that must not stall a frame goes on by lozhbinor_advance, which
+ * ends after `steps`.
  *
  * How to choose a room. Either by what the game shows: with room for some rows
  * a match ends with 8 when the next one does not fit, and the rows before it
@@ -82,7 +84,11 @@ enum {
     LOZHBINOR_MATCHER_WORDS = 64,
     LOZHBINOR_PATTERN_WORDS = 256,
     LOZHBINOR_TARGET_WORDS = 1024,
+    LOZHBINOR_MATCHER_LEVELS = 4,
+    LOZHBINOR_TARGET_LEVELS = 8,
     LOZHBINOR_ELEMENTS = 64,
+    LOZHBINOR_WIDTH_SMALLEST = 2,
+    LOZHBINOR_WIDTH_LARGEST = 4,
     LOZHBINOR_VARIABLES = 16,
     LOZHBINOR_CAP_LARGEST = 64
 };
@@ -390,6 +396,19 @@ struct lozhbinor_opened {
     size_t place;
     uint32_t cause;
 };
+struct lozhbinor_booked { /* of add, withdraw, total and check */
+    uint32_t answer;
+    uint32_t number;
+    uint32_t used;
+};
+struct lozhbinor_rule { /* of read and of a block; badge is 1 or 0 for read */
+    uint32_t answer;
+    uint16_t badge;
+    uint16_t version;
+    uint32_t dialect;
+    size_t matcher_words;
+    size_t pattern_words;
+};
 
 static inline struct lozhbinor_matched lozhbinor_matched_of(const uint8_t *numbers)
 {
@@ -428,6 +447,27 @@ static inline struct lozhbinor_opened lozhbinor_opened_of(const uint8_t *numbers
     o.place = (size_t)lozhbinor_number(numbers, LOZHBINOR_PLACE);
     o.cause = (uint32_t)lozhbinor_number(numbers, LOZHBINOR_OPEN_CAUSE);
     return o;
+}
+
+static inline struct lozhbinor_booked lozhbinor_booked_of(const uint8_t *numbers)
+{
+    struct lozhbinor_booked b;
+    b.answer = (uint32_t)lozhbinor_number(numbers, LOZHBINOR_ANSWER);
+    b.number = (uint32_t)lozhbinor_number(numbers, LOZHBINOR_NUMBER);
+    b.used = (uint32_t)lozhbinor_number(numbers, LOZHBINOR_USED);
+    return b;
+}
+
+static inline struct lozhbinor_rule lozhbinor_rule_of(const uint8_t *numbers)
+{
+    struct lozhbinor_rule r;
+    r.answer = (uint32_t)lozhbinor_number(numbers, LOZHBINOR_ANSWER);
+    r.badge = (uint16_t)lozhbinor_number(numbers, LOZHBINOR_BADGE);
+    r.version = (uint16_t)lozhbinor_number(numbers, LOZHBINOR_RULE_VERSION);
+    r.dialect = (uint32_t)lozhbinor_number(numbers, LOZHBINOR_RULE_DIALECT);
+    r.matcher_words = (size_t)lozhbinor_number(numbers, LOZHBINOR_RULE_MATCHER);
+    r.pattern_words = (size_t)lozhbinor_number(numbers, LOZHBINOR_RULE_PATTERN);
+    return r;
 }
 
 /* An answer and a cause in a word or two, for a log. */

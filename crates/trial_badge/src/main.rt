@@ -13,12 +13,24 @@ use notation_write::TARGET;
 use notation_write::write;
 use services::matching::match_units;
 use services::matching::match_units_with;
+use services::review::ALWAYS_TRUE;
 use services::review::review;
 use words::bits;
 use words::of_bits;
 ghost use mathlib.Core.Path.{_≡_};
 ghost use Prim.Native.Nat.{_<_, _≤_};
 ghost use lib.ListN.{length};
+
+// The answers that are told in words of their own; the refusals of a rule are those from 1 to MISFIT.
+const DONE: u32 = 0;
+
+const MISFIT: u32 = 4;
+
+const TARGET_REFUSED: u32 = 5;
+
+const UNFIT: u32 = 6;
+
+const FULL: u32 = 8;
 
 fn say(text: &[u8]) {
     io::write_all(STDOUT_FILENO, text);
@@ -134,12 +146,12 @@ fn say_cap(m: &[i32], p: &[i32], cap: u32) {
     let r = review(m, p, of_bits(cap));
     say(b"cap ");
     say_number(cap as u64);
-    if r.answer == 0 {
+    if r.answer == DONE {
         say(b": at most ");
         say_number(r.count);
         return say(b" steps\n");
     }
-    if r.answer == 11 {
+    if r.answer == ALWAYS_TRUE {
         return say(b": the rule is always true, every player has this badge\n");
     }
     say(b": more than 4294967295 steps\n");
@@ -148,10 +160,10 @@ fn say_cap(m: &[i32], p: &[i32], cap: u32) {
 // Whether the library takes the rule; if not, why.
 fn accepted(m: &[i32], p: &[i32]) -> bool {
     let r = review(m, p, 0);
-    if 4 < r.answer {
+    if MISFIT < r.answer {
         return true;
     }
-    if r.answer == 0 {
+    if r.answer == DONE {
         return true;
     }
     say(b"refused, answer ");
@@ -163,16 +175,29 @@ fn accepted(m: &[i32], p: &[i32]) -> bool {
 }
 
 // ---- Rows by name.
-fn page() -> [u8; 8192]
+// The characters of a value that are shown at most, and the words of the rows.
+const PAGE: usize = 8192;
+
+const ROOM: usize = 8192;
+
+// A target's levels, and one for what stands inside the last.
+const LEVELS: u32 = 9;
+
+// A collection's elements, and the counts that it can have.
+const ELEMENTS: u32 = 64;
+
+const COUNTS: u32 = 65;
+
+fn page() -> [u8; PAGE]
     ensures { λ r. ⌜ 8192 ≡ length r ⌝ }
 {
-    [0; 8192]
+    [0; PAGE]
 }
 
 fn bytes_of(n: usize) -> usize
     ensures { λ r. ⌜ r ≤ 8192 ⌝ }
 {
-    if 8192 < n { 8192 } else { n }
+    if PAGE < n { PAGE } else { n }
 }
 
 // The value at an index of a row, and the index behind it.
@@ -182,7 +207,7 @@ fn say_value(ws: &[i32], at: usize) -> usize {
         ws,
         at,
         TARGET,
-        9,
+        LEVELS,
         &mut out,
         Pen {
             at: 0,
@@ -201,7 +226,7 @@ fn behind(ws: &[i32], at: usize) -> usize {
         ws,
         at,
         TARGET,
-        9,
+        LEVELS,
         &mut out,
         Pen {
             at: 0,
@@ -229,16 +254,16 @@ fn say_marks(marks: u32, from: u32) {
     let mut k: u32 = 0;
     while 0 < left {
         if left % 2 == 1 {
-            say_unit(from % 64 + k % 64);
+            say_unit(from % ELEMENTS + k % ELEMENTS);
         }
         left /= 2;
-        k = (k + 1) % 64;
+        k = (k + 1) % ELEMENTS;
     }
 }
 
 // The unit that the place of a value lies in.
 fn say_unit_at(ts: &[i32], place: usize) {
-    let count = word_at(ts, 1) % 65;
+    let count = word_at(ts, 1) % COUNTS;
     let mut k: u32 = 0;
     let mut e: usize = 2;
     while k < count {
@@ -284,7 +309,7 @@ fn next_name(text: &[u8], from: usize) -> usize {
     at
 }
 
-// One row: each variable's name, its value and its units. What is given back is the index behind the row in form 1.
+// One row: each variable's name, its value and its units, which are three words in row form 2. What is given back is the index behind the row in form 1.
 fn say_row(text: &[u8], ts: &[i32], row: &[i32], from: usize, origins: &[i32], at: usize) -> usize {
     let mut name: usize = 0;
     let mut i = from;
@@ -365,26 +390,30 @@ fn say_rows(text: &[u8], ts: &[i32], rows: &[i32], origins: &[i32], count: u64, 
 
 const BUDGET: u32 = 1000000;
 
-fn room() -> [i32; 8192]
+fn room() -> [i32; ROOM]
     ensures { λ r. ⌜ 8192 ≡ length r ⌝ }
 {
-    [0; 8192]
+    [0; ROOM]
+}
+
+// With FULL a row was found, whether it fits or not.
+fn say_earned(answer: u32, rows: u64) {
+    if 0 < rows {
+        return say(b"earned: ");
+    }
+    match answer {
+        DONE => say(b"not earned: "),
+        FULL => say(b"earned by a row that is too long to be shown: "),
+        _ => say(b"not known: "),
+    }
 }
 
 fn say_found(answer: u32, rows: u64, steps: u64) {
-    if 0 < rows {
-        say(b"earned: ");
-    } else {
-        if answer == 0 {
-            say(b"not earned: ");
-        } else {
-            say(b"not known: ");
-        }
-    }
+    say_earned(answer, rows);
     say_number(rows);
     say(b" rows in ");
     say_number(steps);
-    if answer == 0 {
+    if answer == DONE {
         return say(b" steps\n");
     }
     say(b" steps, and there is more\n");
@@ -395,10 +424,10 @@ fn play(text: &[u8], m: &[i32], p: &[i32], ts: &[i32]) {
     let mut rows = room();
     let mut origins = room();
     let r = match_units(m, p, ts, BUDGET, &mut rows);
-    if r.answer == 5 {
+    if r.answer == TARGET_REFUSED {
         return say_refused_units(r.answer, r.place);
     }
-    if r.answer == 6 {
+    if r.answer == UNFIT {
         return say_refused_units(r.answer, r.place);
     }
     let o = match_units_with(2, m, p, ts, BUDGET, &mut origins);
@@ -407,8 +436,8 @@ fn play(text: &[u8], m: &[i32], p: &[i32], ts: &[i32]) {
     say_rows(
         text,
         ts,
-        &rows[..8192],
-        &origins[..8192],
+        &rows[..ROOM],
+        &origins[..ROOM],
         n,
         variables(text),
     );
@@ -445,10 +474,10 @@ fn tell(text: &[u8], ts: &[i32], m: &[i32], p: &[i32]) {
 
 const WORDS: usize = 2048;
 
-fn table() -> [i32; 2048]
+fn table() -> [i32; WORDS]
     ensures { λ r. ⌜ 2048 ≡ length r ⌝ }
 {
-    [0; 2048]
+    [0; WORDS]
 }
 
 fn answer(text: &[u8]) {
@@ -460,7 +489,7 @@ fn answer(text: &[u8]) {
     if WORDS < t.end {
         return say(b"refused: the rule and its units have more words than the library takes\n");
     }
-    let ws = &words[..2048];
+    let ws = &words[..WORDS];
     tell(
         text,
         part_of(ws, 0, t.matcher),
@@ -469,9 +498,11 @@ fn answer(text: &[u8]) {
     );
 }
 
+// One byte more than is read, so that longer input is seen.
+const INPUT: usize = 16385;
+
 fn main() {
-    // One byte more than is read, so that longer input is seen.
-    let mut input = [0u8; 16385];
+    let mut input = [0u8; INPUT];
     let n = io::read_full(STDIN_FILENO, &mut input);
     answer(&input[..n]);
 }

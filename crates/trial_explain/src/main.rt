@@ -5,6 +5,7 @@ use notation_write::write_rule;
 use test_target::Found;
 use test_target::test_target;
 use tests::Judgement;
+use tests::TARGET;
 use tests::rule_refused;
 use text_ask::INPUT_BYTES;
 use text_ask::in_table;
@@ -29,17 +30,19 @@ fn say_refused(answer: u32, place: usize) {
 }
 
 // The bytes of a page: the longest text of a rule and its units is shorter.
-fn page() -> [u8; 32768]
+const PAGE: usize = 32768;
+
+fn page() -> [u8; PAGE]
     ensures { λ r. ⌜ 32768 ≡ length r ⌝ }
 {
-    [0; 32768]
+    [0; PAGE]
 }
 
 // How many bytes of a page a text has.
 fn bytes_of(n: usize) -> usize
     ensures { λ r. ⌜ r ≤ 32768 ⌝ }
 {
-    if 32768 < n { 32768 } else { n }
+    if PAGE < n { PAGE } else { n }
 }
 
 fn say_rule(m: &[i32], p: &[i32], t: &[i32]) {
@@ -55,7 +58,7 @@ fn explain(m: &[i32], p: &[i32], t: &[i32]) {
     }
     if 0 < t.len() {
         if let Found::Fault(i, _) = test_target(t) {
-            return say_refused(5, i);
+            return say_refused(TARGET, i);
         }
     }
     say_rule(m, p, t);
