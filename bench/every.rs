@@ -1,9 +1,10 @@
 //! The comparison at every budget and around every room: random rules over a multiset or a list of integers or tuples, small enough to be run with each
-//! budget up to their steps, and with rooms at and around each row's end; half of them by rounds.
+//! budget up to their steps, and with rooms at and around each row's end; half of them by rounds, a third of them in
+//! dialect 2.
 
 use crate::inputs::Random;
 use crate::scripts::{Picks, BY_ROUNDS};
-use crate::Services;
+use crate::{Services, IN_DIALECT_2};
 
 /// The steps and the words of room that a rule is looked at with.
 const STEPS: u32 = 700;
@@ -139,6 +140,9 @@ pub fn random(services: &Services, rules: u64, seed: u64) -> Tally {
         }
         if services.takes(BY_ROUNDS) && r.once_in(2) {
             [picks[1], picks[3]] = [2, r.pick(&[6, 20, 257]) as u32];
+        }
+        if services.takes(IN_DIALECT_2) && r.once_in(3) {
+            picks[2] = 2;
         }
         let plain = |budget, room: &mut [i32]| crate::picked_reference(picks, words, budget, room).unwrap();
         let whole = plain(STEPS, &mut [0; ROOM]);

@@ -19,6 +19,7 @@ extern "C" {
     ) -> u32;
     fn lozhbinor_match_with(
         form: u32,
+        dialect: u32,
         matcher: *const i32,
         matcher_len: usize,
         pattern: *const i32,
@@ -33,6 +34,7 @@ extern "C" {
     ) -> u32;
     fn lozhbinor_rounds(
         form: u32,
+        dialect: u32,
         matcher: *const i32,
         matcher_len: usize,
         pattern: *const i32,
@@ -161,11 +163,12 @@ pub fn call_match(rule: [&[i32]; 2], target: &[i32], budget: u32, room: &mut [i3
     }
 }
 
-fn call_match_with(form: u32, words: [&[i32]; 3], budget: u32, room: &mut [i32], numbers: &mut [u8]) -> u32 {
+fn call_match_with(form: u32, dialect: u32, words: [&[i32]; 3], budget: u32, room: &mut [i32], numbers: &mut [u8]) -> u32 {
     let [matcher, pattern, target] = words;
     unsafe {
         lozhbinor_match_with(
             form,
+            dialect,
             matcher.as_ptr(),
             matcher.len(),
             pattern.as_ptr(),
@@ -192,9 +195,9 @@ pub fn match_words(matcher: &[i32], pattern: &[i32], target: &[i32], budget: u32
     numbers(&bytes, answer)
 }
 
-pub fn match_in(form: u32, words: [&[i32]; 3], budget: u32, room: &mut [i32]) -> Matched {
+pub fn match_in(form: u32, dialect: u32, words: [&[i32]; 3], budget: u32, room: &mut [i32]) -> Matched {
     let mut bytes = [MARK; 56];
-    let answer = call_match_with(form, words, budget, room, &mut bytes);
+    let answer = call_match_with(form, dialect, words, budget, room, &mut bytes);
     numbers(&bytes, answer)
 }
 
@@ -202,7 +205,7 @@ pub fn match_in(form: u32, words: [&[i32]; 3], budget: u32, room: &mut [i32]) ->
 const STATE_WORDS: usize = 825;
 
 /// The other search order, over a table of so many states, and so many words less.
-fn match_rounds(form: u32, states: u32, less: u32, words: [&[i32]; 3], budget: u32, room: &mut [i32]) -> Matched {
+fn match_rounds([form, dialect]: [u32; 2], [states, less]: [u32; 2], words: [&[i32]; 3], budget: u32, room: &mut [i32]) -> Matched {
     thread_local!(static TABLE: std::cell::RefCell<Vec<i32>> = std::cell::RefCell::new(vec![LEFT; 1024 * STATE_WORDS]));
     let [matcher, pattern, target] = words;
     let mut bytes = [MARK; 56];
@@ -216,6 +219,7 @@ fn match_rounds(form: u32, states: u32, less: u32, words: [&[i32]; 3], budget: u
         let answer = unsafe {
             lozhbinor_rounds(
                 form,
+                dialect,
                 matcher.as_ptr(),
                 matcher.len(),
                 pattern.as_ptr(),
@@ -236,18 +240,18 @@ fn match_rounds(form: u32, states: u32, less: u32, words: [&[i32]; 3], budget: u
     })
 }
 
-/// The picks that there are: the forms of No. 9, and the order of No. 10. What a later request lets the caller pick is a line here, when it lands.
+/// The picks that there are: the forms of No. 9, the order of No. 10 and the dialects of No. 13. What a later request lets the caller pick is a line here, when it lands.
 pub fn picked(picks: Picks, words: [&[i32]; 3], budget: u32, room: &mut [i32]) -> Option<Matched> {
     match picks {
-        [form, 1, 1, ..] => Some(match_in(form, words, budget, room)),
-        [form, 2, 1, states, less] => Some(match_rounds(form, states, less, words, budget, room)),
+        [form, 1, dialect, ..] => Some(match_in(form, dialect, words, budget, room)),
+        [form, 2, dialect, states, less] => Some(match_rounds([form, dialect], [states, less], words, budget, room)),
         _ => None,
     }
 }
 
 /// Rows in form 2.
 pub fn match_origins(matcher: &[i32], pattern: &[i32], target: &[i32], budget: u32, room: &mut [i32]) -> Matched {
-    match_in(2, [matcher, pattern, target], budget, room)
+    match_in(2, 1, [matcher, pattern, target], budget, room)
 }
 
 pub fn review(matcher: &[i32], pattern: &[i32], cap: i32) -> Reviewed {
@@ -335,7 +339,7 @@ pub fn short() -> usize {
         let answer = call_match(rule, &[1, 1, 0, 7], 99, &mut room, &mut bytes[..len]);
         assert!(answer == 24 && bytes == [MARK; 48] && room == [-7; 4], "match, {len} bytes for the numbers");
         let words = [rule[0], rule[1], &[1, 1, 0, 7]];
-        let answer = call_match_with(3, words, 99, &mut room, &mut bytes[..len]);
+        let answer = call_match_with(3, 1, words, 99, &mut room, &mut bytes[..len]);
         assert!(answer == 24 && bytes == [MARK; 48] && room == [-7; 4], "match with a form, {len} bytes for the numbers");
     }
     for len in 0..24 {

@@ -4,7 +4,7 @@
 //!   bench rules                    what is measured: name, bar in tenths of an instruction, for a `step` or a `call`, and what it is
 //!   bench speed CASE ROUNDS WHO [BUDGET]   one of them, or `join` or `two`, again and again, by `plain`, `tuned`, `library` or the library as `origins` (row form 2), `once` (dialect 2),
 //!                                  `rounds` (the other search order); prints the steps of one run
-//!   bench beside                   what is measured beside the library as it is: who, in tenths the most of its instructions, cases; only what there is
+//!   bench beside                   what is measured beside the library as it is: who, its bar, cases; only what there is
 //!   bench listing ROUNDS           a book of 1,000 rules tested and listed again and again; prints the words of its blocks, and the bar
 //!   bench portions CASE CALLS WHO  a rule for CALLS times 1,000 steps: in advances of a run (`run`), or in one match (`match`)
 //!   bench advance                  what an advance may cost: in hundredths the most of the same steps in one match, the instructions added, rules

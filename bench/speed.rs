@@ -27,9 +27,9 @@ pub const STACK_BAR: usize = 28_928;
 /// The same of an advance.
 pub const ADVANCE_STACK_BAR: usize = 65_024;
 
-/// The most that dialect 2 may take of dialect 1's instructions, and a state by rounds of a state depth-first, in tenths. (60 was the aim by rounds: docs/CHANGES.md, No. 10.)
+/// The most that dialect 2 may take of dialect 1's instructions, in tenths; and the most instructions of a state by rounds.
 pub const DIALECT_BAR: u64 = 20;
-pub const ROUNDS_BAR: u64 = 290;
+pub const ROUNDS_BAR: u64 = 960;
 
 /// An advance by 1,000 steps: in hundredths the most of the same steps inside one match, and the instructions that may be added; the rules that are measured.
 pub const ADVANCE_BAR: (u64, u64) = (115, 6_000);

@@ -34,7 +34,7 @@ fn depth(rule: [&[i32]; 2], target: &[i32]) -> usize {
 /// Of an advance: it keeps copies of the run, and calls what a match calls.
 pub fn of_an_advance() -> usize {
     let words: [&[i32]; 3] = [&[3, 3, 3, 3, 1], &[5, 1, 0, 5, 3, 0, 0, 0], &[1, 2, 1, 1, 1, 1, 1, 1, 0, 5, 1, 1, 1, 1, 1, 1, 0, 5]];
-    let (mut run, mut room) = (runs::opened(1, words, 64).0, [0; 64]);
+    let (mut run, mut room) = (runs::opened(1, 1, words, 64).0, [0; 64]);
     below(|| {
         runs::advanced(&mut run, 1_000, &mut room);
     })

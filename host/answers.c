@@ -69,18 +69,18 @@ static void match_units(const char *m, const char *p, const int32_t *units, size
 }
 
 /* Rows in the form that is picked; the words of the room are compared too. */
-static void match_with(uint32_t form, const char *m, const char *p, const char *t, size_t room, const char *expected, const char *rows)
+static void match_with(uint32_t form, uint32_t dialect, const char *m, const char *p, const char *t, size_t room, const char *expected, const char *rows)
 {
     int32_t mw[64], pw[64], tw[64], rw[64];
     size_t mn = parse(m, mw), pn = parse(p, pw), tn = parse(t, tw), rn = parse(rows, rw);
     char got[128];
     clear();
-    uint32_t answer = lozhbinor_match_with(form, mw, mn, pw, pn, tw, tn, 99, words + GUARD, room, bytes + GUARD, LOZHBINOR_MATCH_BYTES + SPARE);
+    uint32_t answer = lozhbinor_match_with(form, dialect, mw, mn, pw, pn, tw, tn, 99, words + GUARD, room, bytes + GUARD, LOZHBINOR_MATCH_BYTES + SPARE);
     const uint8_t *numbers = bytes + GUARD;
     snprintf(got, sizeof got, "%" PRIu64 " %" PRIu64 " %" PRIu64 " %" PRIu64 " %" PRIu64 " %" PRIu64, lozhbinor_number(numbers, 0),
              lozhbinor_number(numbers, 1), lozhbinor_number(numbers, 2), lozhbinor_number(numbers, 3), lozhbinor_number(numbers, 4),
              lozhbinor_number(numbers, 5));
-    printf("form %" PRIu32 " %s\n", form, got);
+    printf("form %" PRIu32 ", dialect %" PRIu32 " %s\n", form, dialect, got);
     check(answer == lozhbinor_number(numbers, 0), "the call's answer is the first number");
     check(strcmp(got, expected) == 0, expected);
     check(rn == lozhbinor_number(numbers, 4) && memcmp(words + GUARD, rw, rn * sizeof *rw) == 0, rows);
@@ -88,7 +88,8 @@ static void match_with(uint32_t form, const char *m, const char *p, const char *
 }
 
 /* By rounds, over a table of so many words; a word behind it stays. */
-static void rounds(const char *m, const char *p, const char *t, uint32_t budget, size_t table_words, size_t room, const char *expected, const char *rows)
+static void rounds(uint32_t form, uint32_t dialect, const char *m, const char *p, const char *t, uint32_t budget, size_t table_words, size_t room,
+                   const char *expected, const char *rows)
 {
     static int32_t table[6 * LOZHBINOR_STATE_WORDS + 1];
     int32_t mw[64], pw[64], tw[64], rw[64];
@@ -97,12 +98,12 @@ static void rounds(const char *m, const char *p, const char *t, uint32_t budget,
     clear();
     table[table_words] = -77;
     uint32_t answer =
-        lozhbinor_rounds(1, mw, mn, pw, pn, tw, tn, budget, table, table_words, words + GUARD, room, bytes + GUARD, LOZHBINOR_MATCH_BYTES + SPARE);
+        lozhbinor_rounds(form, dialect, mw, mn, pw, pn, tw, tn, budget, table, table_words, words + GUARD, room, bytes + GUARD, LOZHBINOR_MATCH_BYTES + SPARE);
     const uint8_t *numbers = bytes + GUARD;
     snprintf(got, sizeof got, "%" PRIu64 " %" PRIu64 " %" PRIu64 " %" PRIu64 " %" PRIu64 " %" PRIu64, lozhbinor_number(numbers, 0),
              lozhbinor_number(numbers, 1), lozhbinor_number(numbers, 2), lozhbinor_number(numbers, 3), lozhbinor_number(numbers, 4),
              lozhbinor_number(numbers, 5));
-    printf("rounds %s\n", got);
+    printf("rounds, form %" PRIu32 ", dialect %" PRIu32 " %s\n", form, dialect, got);
     check(answer == lozhbinor_number(numbers, 0), "the call's answer is the first number");
     check(strcmp(got, expected) == 0, expected);
     check(rn == lozhbinor_number(numbers, 4) && memcmp(words + GUARD, rw, rn * sizeof *rw) == 0, rows);
@@ -153,7 +154,7 @@ static void too_short(void)
     for (size_t n = 0; n < LOZHBINOR_MATCH_BYTES; n++) {
         clear();
         check(lozhbinor_match(one, 1, seven, 1, seven, 2, 9, words + GUARD, ROOM, bytes + GUARD, n) == LOZHBINOR_SHORT, "match 24");
-        check(lozhbinor_rounds(9, one, 1, seven, 1, seven, 2, 9, NULL, 0, words + GUARD, ROOM, bytes + GUARD, n) == LOZHBINOR_SHORT, "rounds 24");
+        check(lozhbinor_rounds(9, 9, one, 1, seven, 1, seven, 2, 9, NULL, 0, words + GUARD, ROOM, bytes + GUARD, n) == LOZHBINOR_SHORT, "rounds 24");
         untouched(0, 0);
     }
     for (size_t n = 0; n < LOZHBINOR_REVIEW_BYTES; n++) {
@@ -219,21 +220,34 @@ int main(void)
     match("1", "0", "1 0", 1000, ROOM, "6 0 0 0 0 0");
     match("3 1", "5 1 0 5 3 0 0 0", "1 3 0 2 0 8 0 2", 9, ROOM, "7 0 1 9 2 0");
     match("3 1", "5 1 0 5 3 0 0 0", "1 3 0 2 0 8 0 2", 1000, 3, "8 0 1 21 2 0");
-    match_with(2, "3 1", "5 1 0 5 3 0 0 0", "1 3 0 2 0 8 0 2", ROOM, "0 0 2 22 6 0", "2 0 0 6 0 0");
-    match_with(2, "3 1", "5 1 0 5 3 0 0 0", "1 3 0 2 0 8 0 2", 5, "8 0 1 21 3 0", "2 0 0");
-    match_with(2, "2 1", "5 0 1 0", "1 1 0 7", ROOM, "0 0 1 6 3 0", "0 0 0");
-    match_with(2, "0", "1 0", "1 3 0 2 0 8 0 2", ROOM, "0 0 1 2 3 0", "0 7 0");
-    match_with(1, "3 1", "5 1 0 5 3 0 0 0", "1 3 0 2 0 8 0 2", ROOM, "0 0 2 22 4 0", "0 2 0 2");
-    match_with(0, "9", "0", "0 7", ROOM, "20 0 0 0 0 0", "");
-    match_with(3, "3 1", "5 1 0 5 3 0 0 0", "1 3 0 2 0 8 0 2", ROOM, "20 0 0 0 0 0", "");
+    match_with(2, 1, "3 1", "5 1 0 5 3 0 0 0", "1 3 0 2 0 8 0 2", ROOM, "0 0 2 22 6 0", "2 0 0 6 0 0");
+    match_with(2, 1, "3 1", "5 1 0 5 3 0 0 0", "1 3 0 2 0 8 0 2", 5, "8 0 1 21 3 0", "2 0 0");
+    match_with(2, 1, "2 1", "5 0 1 0", "1 1 0 7", ROOM, "0 0 1 6 3 0", "0 0 0");
+    match_with(2, 1, "0", "1 0", "1 3 0 2 0 8 0 2", ROOM, "0 0 1 2 3 0", "0 7 0");
+    match_with(1, 1, "3 1", "5 1 0 5 3 0 0 0", "1 3 0 2 0 8 0 2", ROOM, "0 0 2 22 4 0", "0 2 0 2");
+    match_with(0, 1, "9", "0", "0 7", ROOM, "20 0 0 0 0 0", "");
+    match_with(3, 1, "3 1", "5 1 0 5 3 0 0 0", "1 3 0 2 0 8 0 2", ROOM, "20 0 0 0 0 0", "");
+    match_with(1, 2, "3 1", "5 1 0 5 3 0 0 0", "1 3 0 2 0 8 0 2", ROOM, "0 0 1 13 2 0", "0 2");
+    match_with(2, 2, "3 1", "5 1 0 0", "1 3 0 2 0 8 0 2", ROOM, "0 0 2 11 6 0", "2 0 0 4 0 0");
+    match_with(1, 2, "3 0", "5 6 0 0 0", "1 0", ROOM, "4 0 0 0 0 0", "");
+    match_with(1, 3, "9", "0", "0 7", ROOM, "22 0 0 0 0 0", "");
+    match_with(3, 3, "9", "0", "0 7", ROOM, "20 0 0 0 0 0", "");
     size_t state = LOZHBINOR_STATE_WORDS;
-    rounds("3 1", "5 1 0 5 1 1 0", "1 3 0 1 0 2 0 3", 31, 6 * state, ROOM, "7 0 1 31 4 0", "0 1 0 2");
-    rounds("3 1", "5 1 0 5 1 1 0", "1 3 0 1 0 2 0 3", 99, 6 * state, ROOM, "8 0 2 34 8 0", "0 1 0 2 0 2 0 1");
-    rounds("3 1", "5 1 0 5 1 1 0", "1 3 0 1 0 2 0 3", 99, 6 * state - 1, ROOM, "21 0 0 14 0 0", "");
-    rounds("3 1", "5 1 0 5 1 1 0", "1 3 0 1 0 2 0 3", 14, 6 * state - 1, ROOM, "7 0 0 14 0 0", "");
-    rounds("2 1", "6 1 0 1 1", "1 1 0 1", 0, 0, ROOM, "7 0 0 0 0 0", "");
-    rounds("2 1", "6 1 0 1 1", "1 1 0 1", 99, state - 1, ROOM, "21 0 0 0 0 0", "");
-    rounds("9", "0", "0 7", 99, state, ROOM, "1 0 0 0 0 0", "");
+    rounds(1, 1, "3 1", "5 1 0 5 1 1 0", "1 3 0 1 0 2 0 3", 31, 6 * state, ROOM, "7 0 1 31 4 0", "0 1 0 2");
+    rounds(1, 1, "3 1", "5 1 0 5 1 1 0", "1 3 0 1 0 2 0 3", 99, 6 * state, ROOM, "8 0 2 34 8 0", "0 1 0 2 0 2 0 1");
+    rounds(1, 1, "3 1", "5 1 0 5 1 1 0", "1 3 0 1 0 2 0 3", 99, 6 * state - 1, ROOM, "21 0 0 14 0 0", "");
+    rounds(1, 1, "3 1", "5 1 0 5 1 1 0", "1 3 0 1 0 2 0 3", 14, 6 * state - 1, ROOM, "7 0 0 14 0 0", "");
+    rounds(1, 1, "2 1", "6 1 0 1 1", "1 1 0 1", 0, 0, ROOM, "7 0 0 0 0 0", "");
+    rounds(1, 1, "2 1", "6 1 0 1 1", "1 1 0 1", 99, state - 1, ROOM, "21 0 0 0 0 0", "");
+    rounds(1, 1, "9", "0", "0 7", 99, state, ROOM, "1 0 0 0 0 0", "");
+    rounds(1, 2, "3 1", "5 1 0 5 3 0 0 0", "1 3 0 2 0 8 0 2", 99, 6 * state, ROOM, "0 0 1 13 2 0", "0 2");
+    rounds(2, 2, "3 1", "5 1 0 0", "1 3 0 2 0 8 0 2", 99, 6 * state, ROOM, "0 0 2 11 6 0", "2 0 0 4 0 0");
+    rounds(1, 2, "3 1", "5 1 0 5 1 1 0", "1 3 0 1 0 1 0 2", 99, 6 * state, ROOM, "8 0 2 22 8 0", "0 1 0 1 0 2 0 1");
+    rounds(1, 1, "3 1", "5 1 0 0", "1 6 0 7 0 7 0 7 0 7 0 7 0 7", 99, 5 * state, ROOM, "21 0 0 1 0 0", "");
+    rounds(1, 2, "3 1", "5 1 0 0", "1 6 0 7 0 7 0 7 0 7 0 7 0 7", 99, 5 * state, ROOM, "0 0 1 6 2 0", "0 7");
+    rounds(1, 2, "3 0", "5 6 0 0 0", "1 0", 99, state, ROOM, "4 0 0 0 0 0", "");
+    rounds(1, 3, "9", "0", "0 7", 99, state, ROOM, "22 0 0 0 0 0", "");
+    rounds(3, 3, "9", "0", "0 7", 99, state, ROOM, "20 0 0 0 0 0", "");
     check(lozhbinor_marks((int32_t[]){0, -2, 1}) == 0x1FFFFFFFEu, "marks of two words' bits");
     review("3 1", "5 1 0 5 3 0 0 0", 3, "0 0 34");
     review("3 4 2 1 1", "5 7 2 1 0 1 1 5 7 2 3 0 0 3 1 1 0", 3, "0 0 55");

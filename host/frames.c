@@ -26,7 +26,8 @@ int main(int argc, char **argv)
     for (int k = 0; k < UNITS; k++)
         units[3 + 2 * k] = k % 16 == 9 ? 99 : k / 3; /* four of rank 99, at most three of each other */
 
-    lozhbinor_open(&run, LOZHBINOR_FORM_WORDS, matcher, COUNT(matcher), pattern, COUNT(pattern), units, COUNT(units), COUNT(room), numbers, sizeof numbers);
+    lozhbinor_open(&run, LOZHBINOR_FORM_WORDS, LOZHBINOR_DIALECT_EVERY_PLACE, matcher, COUNT(matcher), pattern, COUNT(pattern), units, COUNT(units), COUNT(room), numbers,
+                   sizeof numbers);
     struct lozhbinor_opened opened = lozhbinor_opened_of(numbers);
     if (opened.answer != LOZHBINOR_DONE) {
         printf("refused: %s, at word %zu\n", lozhbinor_answer_name(opened.answer), opened.place);

@@ -71,22 +71,46 @@ static void match(uint64_t no, const struct lent *l, const struct call *c, uint8
     memcpy(kept, numbers, c->bytes);
 }
 
-/* By rounds, over a table of some words: a refusal is match's, and where both are done the rows take as many words and steps. */
-static int rounds(uint64_t no, const struct lent *l, const struct call *c, const uint8_t *depth_first)
+/* The same in a dialect: 22 where there is no such, in dialect 1 what match gives, in dialect 2 no more rows and steps, or a misfit. */
+static void match_in(uint64_t no, const struct lent *l, const struct call *c, uint32_t dialect, const uint8_t *plain, uint8_t *kept)
 {
+    uint8_t *numbers = place_of(l->numbers, LOZHBINOR_MATCH_BYTES, c->at_end);
+    uint32_t answer = lozhbinor_match_with(LOZHBINOR_FORM_WORDS, dialect, laid(l->matcher, &c->m, c->at_end), c->m.count, laid(l->pattern, &c->p, c->at_end),
+                                           c->p.count, laid(l->target, &c->t, c->at_end), c->t.count, c->budget, place_of(l->room, 4 * c->room, c->at_end),
+                                           c->room, numbers, LOZHBINOR_MATCH_BYTES);
+    struct lozhbinor_matched r = lozhbinor_matched_of(numbers), one = lozhbinor_matched_of(plain);
+    if (r.answer != answer || (answer == LOZHBINOR_DIALECT) != (dialect < 1 || dialect > 2))
+        wrong(no, "an answer that match in a dialect does not give");
+    if (dialect == 1 && memcmp(numbers, plain, LOZHBINOR_MATCH_BYTES) != 0)
+        wrong(no, "match in dialect 1 gives something else");
+    if (dialect == 2 && one.answer == LOZHBINOR_DONE && answer != LOZHBINOR_MISFIT && (answer != LOZHBINOR_DONE || r.rows > one.rows || r.steps > one.steps))
+        wrong(no, "more in dialect 2 than in dialect 1");
+    memcpy(kept, numbers, LOZHBINOR_MATCH_BYTES);
+}
+
+static int refused(uint32_t answer)
+{
+    return answer == LOZHBINOR_DIALECT || (answer >= LOZHBINOR_MATCHER && answer <= LOZHBINOR_UNFIT);
+}
+
+/* By rounds in a dialect, over a table of some words: a refusal is match's there, and where both are done the rows take as many words and steps. */
+static int rounds(uint64_t no, const struct lent *l, const struct call *c, const uint8_t *plain)
+{
+    uint8_t depth_first[LOZHBINOR_MATCH_BYTES];
+    uint32_t dialect = below(4);
+    match_in(no, l, c, dialect, plain, depth_first);
     size_t words = below(4) ? (size_t)TABLE / 4 : below(TABLE / 4 + 1);
     uint8_t *numbers = place_of(l->numbers, LOZHBINOR_MATCH_BYTES, c->at_end);
     int32_t *room = place_of(l->room, 4 * c->room, c->at_end);
     for (size_t i = 0; i < c->room; i++)
         room[i] = FILL;
-    uint32_t answer = lozhbinor_rounds(LOZHBINOR_FORM_WORDS, laid(l->matcher, &c->m, c->at_end), c->m.count, laid(l->pattern, &c->p, c->at_end), c->p.count,
-                                       laid(l->target, &c->t, c->at_end), c->t.count, c->budget, place_of(l->table, 4 * words, c->at_end), words, room, c->room,
-                                       numbers, LOZHBINOR_MATCH_BYTES);
+    uint32_t answer = lozhbinor_rounds(LOZHBINOR_FORM_WORDS, dialect, laid(l->matcher, &c->m, c->at_end), c->m.count, laid(l->pattern, &c->p, c->at_end),
+                                       c->p.count, laid(l->target, &c->t, c->at_end), c->t.count, c->budget, place_of(l->table, 4 * words, c->at_end), words,
+                                       room, c->room, numbers, LOZHBINOR_MATCH_BYTES);
     struct lozhbinor_matched r = lozhbinor_matched_of(numbers), one = lozhbinor_matched_of(depth_first);
-    int refused = one.answer >= LOZHBINOR_MATCHER && one.answer <= LOZHBINOR_UNFIT;
-    if (r.answer != answer || (answer > LOZHBINOR_FULL && answer != LOZHBINOR_TABLE))
+    if (r.answer != answer || (answer > LOZHBINOR_FULL && answer != LOZHBINOR_TABLE && !refused(answer)))
         wrong(no, "an answer that match by rounds does not give");
-    if ((refused || answer < LOZHBINOR_BUDGET) && answer != LOZHBINOR_DONE && memcmp(numbers, depth_first, LOZHBINOR_MATCH_BYTES) != 0)
+    if ((refused(answer) || refused(one.answer)) && memcmp(numbers, depth_first, LOZHBINOR_MATCH_BYTES) != 0)
         wrong(no, "a refusal by rounds is another");
     if (answer == LOZHBINOR_DONE && one.answer == LOZHBINOR_DONE && memcmp(numbers, depth_first, LOZHBINOR_MATCH_BYTES) != 0)
         wrong(no, "as many rows, steps and words by rounds");
@@ -141,7 +165,7 @@ static int room(uint64_t no, const struct lent *l, const struct call *c)
         wrong(no, "an answer that room does not give");
     if (answer != LOZHBINOR_DONE || r.words > WORDS || budget > 100000)
         return 0;
-    answer = lozhbinor_match_with(form, m, c->m.count, p, c->p.count, t, c->t.count, budget, place_of(l->room, 4 * (size_t)r.words, c->at_end),
+    answer = lozhbinor_match_with(form, 1 + below(2), m, c->m.count, p, c->p.count, t, c->t.count, budget, place_of(l->room, 4 * (size_t)r.words, c->at_end),
                                   (size_t)r.words, numbers, LOZHBINOR_MATCH_BYTES);
     if (answer == LOZHBINOR_BUDGET || answer == LOZHBINOR_FULL)
         wrong(no, "the words that suffice do not");

@@ -89,7 +89,7 @@ int main(void)
                 return 1;
             length[k] = words_of(line, into[k], MOST);
         }
-        lozhbinor_match_with(LOZHBINOR_FORM_ORIGINS, matcher, length[0], pattern, length[1], target, length[2], UINT32_MAX, room, ROOM, numbers,
+        lozhbinor_match_with(LOZHBINOR_FORM_ORIGINS, LOZHBINOR_DIALECT_EVERY_PLACE, matcher, length[0], pattern, length[1], target, length[2], UINT32_MAX, room, ROOM, numbers,
                              sizeof numbers);
         struct lozhbinor_matched found = lozhbinor_matched_of(numbers);
         if ((found.answer != LOZHBINOR_DONE && found.answer != LOZHBINOR_FULL) || target[0] == LOZHBINOR_T_INTEGER)

@@ -46,8 +46,8 @@ extern "C" {
 
 /* The version of this header. lozhbinor_version() gives that of the library:
  * the same number, or the two do not belong together. */
-#define LOZHBINOR_VERSION_MAJOR 2
-#define LOZHBINOR_VERSION_MINOR 5
+#define LOZHBINOR_VERSION_MAJOR 3
+#define LOZHBINOR_VERSION_MINOR 0
 #define LOZHBINOR_VERSION (1000 * LOZHBINOR_VERSION_MAJOR + LOZHBINOR_VERSION_MINOR)
 
 uint32_t lozhbinor_version(void);
@@ -175,9 +175,20 @@ uint32_t lozhbinor_match(const int32_t *matcher, size_t matcher_words,
                          int32_t *room, size_t room_words,
                          uint8_t *numbers, size_t numbers_bytes);
 
-/* The same with rows in the form that is picked. In form 2 the room is never
- * full with rows times variables times three words. */
-uint32_t lozhbinor_match_with(uint32_t form,
+/* The dialects. In dialect 2 equal units count once: a cons under a multiset
+ * takes one place for each value that differs, the first one, among those that
+ * are left there. A cons under a multiset whose elements cannot be told apart,
+ * since something stands in their matcher, is 4 in dialect 2. */
+enum {
+    LOZHBINOR_DIALECT_EVERY_PLACE = 1,
+    LOZHBINOR_DIALECT_FIRST_PLACES = 2
+};
+
+/* The same with rows in the form, and in the dialect, that are picked: 20 where
+ * there is no such form, and then 22 where there is no such dialect. In form 2
+ * the room is never full with rows times variables times three words. Dialect 2
+ * has some of dialect 1's rows, in their order, in no more steps. */
+uint32_t lozhbinor_match_with(uint32_t form, uint32_t dialect,
                               const int32_t *matcher, size_t matcher_words,
                               const int32_t *pattern, size_t pattern_words,
                               const int32_t *target, size_t target_words,
@@ -187,18 +198,18 @@ uint32_t lozhbinor_match_with(uint32_t form,
 
 /* The other search order: by rounds. In a round each list of waiting states gives
  * up its first state; what follows comes first, then the remainders, in order.
- * The rows are those of lozhbinor_match_with in another order, in as many steps;
- * short ways come early. The waiting states stand in `table`, words that the game
- * lends: it holds table_words / LOZHBINOR_STATE_WORDS states, and a round that
- * would begin with more, or with more than 256, ends the call with 21, the rows
- * of the rounds before in the room as with 7. Budget and room come first. What is
- * left in the table is of no account, and nothing is read there that the call has
- * not written. */
+ * The rows are those of lozhbinor_match_with with the same form and dialect, in
+ * another order, in as many steps; short ways come early. The waiting states stand
+ * in `table`, words that the game lends: it holds table_words /
+ * LOZHBINOR_STATE_WORDS states, and a round that would begin with more, or with
+ * more than 256, ends the call with 21, the rows of the rounds before in the room
+ * as with 7. Budget and room come first. What is left in the table is of no
+ * account, and nothing is read there that the call has not written. */
 enum {
     LOZHBINOR_STATE_WORDS = 825,
     LOZHBINOR_WAITING_LARGEST = 256
 };
-uint32_t lozhbinor_rounds(uint32_t form,
+uint32_t lozhbinor_rounds(uint32_t form, uint32_t dialect,
                           const int32_t *matcher, size_t matcher_words,
                           const int32_t *pattern, size_t pattern_words,
                           const int32_t *target, size_t target_words,
@@ -220,15 +231,6 @@ uint32_t lozhbinor_review(const int32_t *matcher, size_t matcher_words,
                           const int32_t *pattern, size_t pattern_words,
                           int32_t cap,
                           uint8_t *numbers, size_t numbers_bytes);
-
-/* The dialects. In dialect 2 equal units count once: a cons under a multiset
- * takes one place for each value that differs, the first one, among those that
- * are left there. A cons under a multiset whose elements cannot be told apart,
- * since something stands in their matcher, is 4 in dialect 2. */
-enum {
-    LOZHBINOR_DIALECT_EVERY_PLACE = 1,
-    LOZHBINOR_DIALECT_FIRST_PLACES = 2
-};
 
 /* Review in a dialect; 22 where there is none such. The figure bounds a match in
  * either. lozhbinor_review is review in dialect 1. */
@@ -340,11 +342,12 @@ enum {
     LOZHBINOR_OPEN_BYTES = 24
 };
 
-/* Opens a run, whatever the struct held before: 0 0 0, or the refusal, 20 or 1
- * to 6. The words are copied: matcher, pattern and target need not stay. A run
- * that is refused has ended. `room_words` is the length of the room that every
- * advance will lend. */
-uint32_t lozhbinor_open(struct lozhbinor_run *run, uint32_t form,
+/* Opens a run in the form and the dialect that are picked, whatever the struct
+ * held before: 0 0 0, or the refusal, 20, then 22, then 1 to 6. Every advance
+ * goes on in them. The words are copied: matcher, pattern and target need not
+ * stay. A run that is refused has ended. `room_words` is the length of the room
+ * that every advance will lend. */
+uint32_t lozhbinor_open(struct lozhbinor_run *run, uint32_t form, uint32_t dialect,
                         const int32_t *matcher, size_t matcher_words,
                         const int32_t *pattern, size_t pattern_words,
                         const int32_t *target, size_t target_words,

@@ -20,10 +20,10 @@ int main(void)
                 return 1;
             length[k] = words_of(line, words[k], MOST);
         }
-        lozhbinor_match_with(LOZHBINOR_FORM_WORDS, words[0], length[0], words[1], length[1], words[2], length[2], UINT32_MAX, first, ROOM, numbers,
+        lozhbinor_match_with(LOZHBINOR_FORM_WORDS, LOZHBINOR_DIALECT_EVERY_PLACE, words[0], length[0], words[1], length[1], words[2], length[2], UINT32_MAX, first, ROOM, numbers,
                              sizeof numbers);
         struct lozhbinor_matched depth = lozhbinor_matched_of(numbers);
-        lozhbinor_rounds(LOZHBINOR_FORM_WORDS, words[0], length[0], words[1], length[1], words[2], length[2], UINT32_MAX, table,
+        lozhbinor_rounds(LOZHBINOR_FORM_WORDS, LOZHBINOR_DIALECT_EVERY_PLACE, words[0], length[0], words[1], length[1], words[2], length[2], UINT32_MAX, table,
                          STATES * LOZHBINOR_STATE_WORDS, second, ROOM, numbers, sizeof numbers);
         struct lozhbinor_matched rounds = lozhbinor_matched_of(numbers);
         if (depth.answer != LOZHBINOR_DONE || rounds.answer != LOZHBINOR_DONE || depth.steps != rounds.steps)

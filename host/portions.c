@@ -58,7 +58,8 @@ int main(int argc, char **argv)
         for (int k = 0; k < GROUPS; k++)
             units(&target, IN_GROUP);
     }
-    if (lozhbinor_open(&run, LOZHBINOR_FORM_WORDS, pair ? multiset : groups, pair ? 2 : 3, pattern.word, pattern.count, target.word, target.count, ROOM,
+    if (lozhbinor_open(&run, LOZHBINOR_FORM_WORDS, LOZHBINOR_DIALECT_EVERY_PLACE, pair ? multiset : groups, pair ? 2 : 3, pattern.word, pattern.count, target.word,
+                       target.count, ROOM,
                        numbers, sizeof numbers) != LOZHBINOR_DONE)
         return 1;
     uint32_t steps = (uint32_t)strtoul(argv[2], NULL, 10);

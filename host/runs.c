@@ -6,8 +6,8 @@
  * its numbers and its room must be those of one match with their sum as budget.
  * Then it is lent otherwise than the last call left it: bytes at random in every
  * field, in some of them, or numbers near those that a run has. Whatever it
- * holds, an advance must answer from the table, leave the run's words, form and
- * size as they are, and with 19 everything. */
+ * holds, an advance must answer from the table, leave the run's words, form,
+ * dialect and size as they are, and with 19 everything. */
 #define _DEFAULT_SOURCE
 #include "lozhbinor.h"
 #include "random.h"
@@ -74,14 +74,14 @@ struct lent {
 struct rule {
     struct words m, p, t;
     size_t room;
-    uint32_t form;
+    uint32_t form, dialect;
     int at_end;
 };
 
 static uint32_t open(const struct lent *l, const struct rule *c, uint8_t *run, uint8_t *numbers)
 {
-    return lozhbinor_open((struct lozhbinor_run *)(void *)run, c->form, laid(l->matcher, &c->m, c->at_end), c->m.count, laid(l->pattern, &c->p, c->at_end), c->p.count,
-                          laid(l->target, &c->t, c->at_end), c->t.count, (uint32_t)c->room, numbers, LOZHBINOR_MATCH_BYTES);
+    return lozhbinor_open((struct lozhbinor_run *)(void *)run, c->form, c->dialect, laid(l->matcher, &c->m, c->at_end), c->m.count, laid(l->pattern, &c->p, c->at_end),
+                          c->p.count, laid(l->target, &c->t, c->at_end), c->t.count, (uint32_t)c->room, numbers, LOZHBINOR_MATCH_BYTES);
 }
 
 static uint32_t advance(uint8_t *run, uint32_t steps, int32_t *room, size_t words, uint8_t *numbers)
@@ -107,7 +107,7 @@ static uint32_t portions(const struct lent *l, const struct rule *c, uint8_t *ru
         }
         answer = advance(run, steps, room, c->room, numbers);
         sum += steps;
-        uint32_t one = lozhbinor_match_with(c->form, c->m.at, c->m.count, c->p.at, c->p.count, c->t.at, c->t.count, sum, beside, c->room, other, sizeof other);
+        uint32_t one = lozhbinor_match_with(c->form, c->dialect, c->m.at, c->m.count, c->p.at, c->p.count, c->t.at, c->t.count, sum, beside, c->room, other, sizeof other);
         if (one != answer || memcmp(other, numbers, sizeof other) != 0)
             wrong("other numbers than one match has");
         if (memcmp(beside, room, 4 * c->room) != 0)
@@ -163,10 +163,10 @@ static uint32_t otherwise(const struct rule *c, uint8_t *run, int32_t *room, uin
     memcpy(before, run, RUN);
     memcpy(held_room, room, 4 * c->room);
     uint32_t answer = advance(run, below(4) ? below(300) : below(5000), room, c->room, numbers);
-    if (lozhbinor_number(numbers, LOZHBINOR_ANSWER) != answer || (answer > LOZHBINOR_FULL && answer != LOZHBINOR_UNLIKE && answer != LOZHBINOR_FORM))
+    if (lozhbinor_number(numbers, LOZHBINOR_ANSWER) != answer || (answer > LOZHBINOR_FULL && answer != LOZHBINOR_UNLIKE && answer != LOZHBINOR_FORM && answer != LOZHBINOR_DIALECT))
         wrong("an answer that an advance does not give");
     if (memcmp(before + SIZE, run + SIZE, RUN - SIZE) != 0)
-        wrong("the run's words, form or size changed");
+        wrong("the run's words, form, dialect or size changed");
     if (answer == LOZHBINOR_UNLIKE && (memcmp(before, run, RUN) != 0 || memcmp(held_room, room, 4 * c->room) != 0))
         wrong("19, and run or room changed");
     return answer;
@@ -200,6 +200,7 @@ int main(int argc, char **argv)
         }
         c.room = below(ROOM);
         c.form = below(16) ? 1 + below(2) : below(5);
+        c.dialect = below(16) ? 1 + below(2) : below(5);
         c.at_end = (int)below(2);
         uint8_t *run = place_of(l.run, RUN, c.at_end), *numbers = place_of(l.numbers, LOZHBINOR_MATCH_BYTES, c.at_end);
         int32_t *room = place_of(l.room, 4 * c.room, c.at_end);

@@ -15,16 +15,16 @@ pub match-called-once : (ms ps ts : List ℤ) (budget : ℕ) (room : List ℤ) (
     → called a x m ≡ matchCalled ms ps ts budget room numbers → called b y n ≡ matchCalled ms ps ts budget room numbers → (a ≡ b) × (x ≡ y) × (m ≡ n)
 match-called-once ms ps ts budget room numbers a b x y m n = same-call a b x y m n (matchCalled ms ps ts budget room numbers)
 
-pub match-with-called-once : (form : ℕ) (ms ps ts : List ℤ) (budget : ℕ) (room : List ℤ) (numbers : List ℕ) (a b : ℕ) (x y : List ℤ) (m n : List ℕ)
-    → called a x m ≡ matchWithCalled form ms ps ts budget room numbers → called b y n ≡ matchWithCalled form ms ps ts budget room numbers
+pub match-with-called-once : (form dialect : ℕ) (ms ps ts : List ℤ) (budget : ℕ) (room : List ℤ) (numbers : List ℕ) (a b : ℕ) (x y : List ℤ) (m n : List ℕ)
+    → called a x m ≡ matchWithCalled form dialect ms ps ts budget room numbers → called b y n ≡ matchWithCalled form dialect ms ps ts budget room numbers
     → (a ≡ b) × (x ≡ y) × (m ≡ n)
-match-with-called-once form ms ps ts budget room numbers a b x y m n = same-call a b x y m n (matchWithCalled form ms ps ts budget room numbers)
+match-with-called-once form dialect ms ps ts budget room numbers a b x y m n = same-call a b x y m n (matchWithCalled form dialect ms ps ts budget room numbers)
 
 -- What is left in the lent table is no part of it: docs/EXCEPTIONS.md.
-pub rounds-called-once : (form : ℕ) (ms ps ts : List ℤ) (budget words : ℕ) (room : List ℤ) (numbers : List ℕ) (a b : ℕ) (x y : List ℤ) (m n : List ℕ)
-    → called a x m ≡ roundsCalled form ms ps ts budget words room numbers → called b y n ≡ roundsCalled form ms ps ts budget words room numbers
+pub rounds-called-once : (form dialect : ℕ) (ms ps ts : List ℤ) (budget words : ℕ) (room : List ℤ) (numbers : List ℕ) (a b : ℕ) (x y : List ℤ) (m n : List ℕ)
+    → called a x m ≡ roundsCalled form dialect ms ps ts budget words room numbers → called b y n ≡ roundsCalled form dialect ms ps ts budget words room numbers
     → (a ≡ b) × (x ≡ y) × (m ≡ n)
-rounds-called-once form ms ps ts budget words room numbers a b x y m n = same-call a b x y m n (roundsCalled form ms ps ts budget words room numbers)
+rounds-called-once form dialect ms ps ts budget words room numbers a b x y m n = same-call a b x y m n (roundsCalled form dialect ms ps ts budget words room numbers)
 
 pub review-called-once : (ms ps : List ℤ) (cap : ℤ) (numbers : List ℕ) (a b : ℕ) (m n : List ℕ)
     → called a [] m ≡ reviewCalled ms ps cap numbers → called b [] n ≡ reviewCalled ms ps cap numbers → (a ≡ b) × (m ≡ n)

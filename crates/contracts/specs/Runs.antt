@@ -9,7 +9,7 @@ use lib.ListN.{length, take, drop}
 use lib.Dec.{ltb}
 use lib.IntN.{ℤ}
 use borrow.Author.Tests.{ltb-true, ltb-false}
-use Rattle.rules.specs.Services.{Matched, matchWith}
+use Rattle.rules.specs.Services.{Matched, matchPicked}
 use Rattle.run_rules.specs.Lent.{Numbers, Lent, cut, opened, advanced}
 use Rattle.run_rules.specs.Calls.{Call, called, given}
 use Rattle.run_rules.specs.Matches.{numbersOf}
@@ -26,19 +26,19 @@ use Rattle.host_runs.specs.declared.Called.{Called}
 
 -- ---- An opening: every field of the run, too, but where the call is refused as short; then the run is as it was.
 
-pub opened-once : (form : ℕ) (ms ps ts : List ℤ) (size : ℕ) (a b : Start) → Opens form ms ps ts size a → Opens form ms ps ts size b → a ≡ b
-opened-once form ms ps ts size a b p q = p .fixed ∙ sym (q .fixed)
+pub opened-once : (form dialect : ℕ) (ms ps ts : List ℤ) (size : ℕ) (a b : Start) → Opens form dialect ms ps ts size a → Opens form dialect ms ps ts size b → a ≡ b
+opened-once form dialect ms ps ts size a b p q = p .fixed ∙ sym (q .fixed)
 
-pub open-called-once : (r : Run) (form : ℕ) (ms ps ts : List ℤ) (size : ℕ) (numbers : List ℕ) (a b : Called) (m n : List ℕ)
-    → OpenCalls r form ms ps ts size numbers a m → OpenCalls r form ms ps ts size numbers b n → (a ≡ b) × (m ≡ n)
-open-called-once r form ms ps ts size numbers a b m n p q = go (ltb (length numbers) 24) refl
+pub open-called-once : (r : Run) (form dialect : ℕ) (ms ps ts : List ℤ) (size : ℕ) (numbers : List ℕ) (a b : Called) (m n : List ℕ)
+    → OpenCalls r form dialect ms ps ts size numbers a m → OpenCalls r form dialect ms ps ts size numbers b n → (a ≡ b) × (m ≡ n)
+open-called-once r form dialect ms ps ts size numbers a b m n p q = go (ltb (length numbers) 24) refl
   where
     go : (x : Bool) → ltb (length numbers) 24 ≡ x → (a ≡ b) × (m ≡ n)
     go true e = let s = p .short (ltb-true _ _ e) in let t = q .short (ltb-true _ _ e) in (s .0 ∙ sym (t .0), s .1 ∙ sym (t .1))
     go false e =
         let s = p .starts (ltb-false _ _ e) in
         let t = q .starts (ltb-false _ _ e) in
-        let z = opened-once form ms ps ts size (s .start) (t .start) (s .opens) (t .opens) in
+        let z = opened-once form dialect ms ps ts size (s .start) (t .start) (s .opens) (t .opens) in
         (s .is ∙ ap (λ (y : Start). both (y .run) (y .answer)) z ∙ sym (t .is), s .written ∙ ap (λ (y : Start). over (bytesOf (startNumbers y)) numbers) z ∙ sym (t .written))
 
 -- ---- An advance of a run that is lent as the last call left it.
@@ -80,22 +80,22 @@ module _ (r : Run) (l : Lent) (k : Kept r l) (n : ℕ) (room : List ℤ) where
 
 -- ---- After an opening and any calls: "the rows, steps and answer shall be those of one match with the portions' sum, cut at 4,294,967,295, as budget".
 
-module _ (form : ℕ) (ms ps ts : List ℤ) (size : ℕ) (calls : List Call) (r : Run) (k : Kept r (called calls (opened form ms ps ts size .run))) (n : ℕ) (room : List ℤ)
+module _ (form dialect : ℕ) (ms ps ts : List ℤ) (size : ℕ) (calls : List Call) (r : Run) (k : Kept r (called calls (opened form dialect ms ps ts size .run))) (n : ℕ) (room : List ℤ)
     (like : length room ≡ size) (numbers : List ℕ) (long : 48 ≤ length numbers) (o : Called) (x : List ℤ) (m : List ℕ) (c : AdvanceCalls r n room numbers o x m) where
   abbrev before : Matched
-  before = matchWith form ms ps ts (cut (given size calls)) room
+  before = matchPicked form dialect ms ps ts (cut (given size calls)) room
 
   abbrev now : Matched
-  now = matchWith form ms ps ts (cut (given size calls + n)) room
+  now = matchPicked form dialect ms ps ts (cut (given size calls + n)) room
 
   pub numbers-of-one-match : (o .answer ≡ now .answer) × (m ≡ over (bytesOf (matchNumbers now)) numbers)
   unfolding numbersOf matchNumbers listed
   numbers-of-one-match =
-      let b = advance-bytes r (called calls (opened form ms ps ts size .run)) k n room numbers long o x m c in
-      let e = portions-add-up form ms ps ts size calls n room like in (
+      let b = advance-bytes r (called calls (opened form dialect ms ps ts size .run)) k n room numbers long o x m c in
+      let e = portions-add-up form dialect ms ps ts size calls n room like in (
         b .0 ∙ ap (λ (z : Numbers). z .answer) e,
-        b .2 ∙ ap (λ z. over (bytesOf (listed r (called calls (opened form ms ps ts size .run)) k n room z)) numbers) e,
+        b .2 ∙ ap (λ z. over (bytesOf (listed r (called calls (opened form dialect ms ps ts size .run)) k n room z)) numbers) e,
       )
 
   pub room-of-one-match : x ≡ take (before .words) room ++ drop (before .words) (now .room)
-  room-of-one-match = advance-bytes r (called calls (opened form ms ps ts size .run)) k n room numbers long o x m c .1 ∙ room-holds form ms ps ts size calls n room like
+  room-of-one-match = advance-bytes r (called calls (opened form dialect ms ps ts size .run)) k n room numbers long o x m c .1 ∙ room-holds form dialect ms ps ts size calls n room like

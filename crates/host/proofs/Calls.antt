@@ -9,7 +9,7 @@ use lib.IntN.{ℤ}
 use borrow.Author.Tests.{lt-ltb, le-ltb}
 use borrow.Author.Needs.{needs}
 use Rattle.rules.specs.Services as paper
-use Rattle.rules.specs.Services.{match, matchWith, review, reviewPicked}
+use Rattle.rules.specs.Services.{match, matchPicked, review, reviewPicked}
 use Rattle.services.specs.Matches.{told}
 use Rattle.services.specs.Reviews.{reviewed}
 use Rattle.services.specs.declared.matching.Matched.{Matched}
@@ -29,14 +29,14 @@ module _ (ms ps ts : List ℤ) (budget : ℕ) (room : List ℤ) (numbers : List 
   match-told m after out r h e q o =
       rw (le-ltb (length numbers) 48 h) (rw (o, q) (ap (λ (x : paper.Matched). matchTold x numbers) e))
 
-module _ (form : ℕ) (ms ps ts : List ℤ) (budget : ℕ) (room : List ℤ) (numbers : List ℕ) where
-  pub with-short : length numbers < 48 → called 24 room numbers ≡ matchWithCalled form ms ps ts budget room numbers
+module _ (form dialect : ℕ) (ms ps ts : List ℤ) (budget : ℕ) (room : List ℤ) (numbers : List ℕ) where
+  pub with-short : length numbers < 48 → called 24 room numbers ≡ matchWithCalled form dialect ms ps ts budget room numbers
   unfolding matchWithCalled
   with-short h = rw (lt-ltb (length numbers) 48 h)
 
-  pub with-told : (m : Matched) (after : List ℤ) (out : List ℕ) (r : ℕ) → 48 ≤ length numbers → told m after ≡ matchWith form ms ps ts budget room
+  pub with-told : (m : Matched) (after : List ℤ) (out : List ℕ) (r : ℕ) → 48 ≤ length numbers → told m after ≡ matchPicked form dialect ms ps ts budget room
       → r ≡ m .answer → out ≡ over (bytesOf (m .answer ∷ m .place ∷ m .rows ∷ m .steps ∷ m .words ∷ m .cause ∷ [])) numbers
-      → called r after out ≡ matchWithCalled form ms ps ts budget room numbers
+      → called r after out ≡ matchWithCalled form dialect ms ps ts budget room numbers
   unfolding matchWithCalled matchTold matchNumbers told
   with-told m after out r h e q o =
       rw (le-ltb (length numbers) 48 h) (rw (o, q) (ap (λ (x : paper.Matched). matchTold x numbers) e))

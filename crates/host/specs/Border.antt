@@ -6,7 +6,7 @@ use lib.ListN.{length}
 use lib.Dec.{ltb}
 use lib.IntN.{ℤ}
 use Rattle.host_numbers.specs.Numbers.{bytesOf, over}
-use Rattle.rules.specs.Services.{Matched, match, matchWith, Reviewed, review, reviewPicked}
+use Rattle.rules.specs.Services.{Matched, match, matchPicked, Reviewed, review, reviewPicked}
 
 -- ---- What a call gives back, and what the room and the slice for the numbers hold then.
 
@@ -33,9 +33,9 @@ unfoldable pub matchCalled : (ms ps ts : List ℤ) (budget : ℕ) (room : List �
 unfolding match matchTold
 matchCalled ms ps ts budget room numbers = cond (ltb (length numbers) 48) (called 24 room numbers) (matchTold (match ms ps ts budget room) numbers)
 
-unfoldable pub matchWithCalled : (form : ℕ) (ms ps ts : List ℤ) (budget : ℕ) (room : List ℤ) (numbers : List ℕ) → Called
-unfolding matchWith matchTold
-matchWithCalled form ms ps ts budget room numbers = cond (ltb (length numbers) 48) (called 24 room numbers) (matchTold (matchWith form ms ps ts budget room) numbers)
+unfoldable pub matchWithCalled : (form dialect : ℕ) (ms ps ts : List ℤ) (budget : ℕ) (room : List ℤ) (numbers : List ℕ) → Called
+unfolding matchPicked matchTold
+matchWithCalled form dialect ms ps ts budget room numbers = cond (ltb (length numbers) 48) (called 24 room numbers) (matchTold (matchPicked form dialect ms ps ts budget room) numbers)
 
 unfoldable pub reviewTold : Reviewed → List ℕ → Called
 unfolding bytesOf over reviewNumbers

@@ -54,11 +54,11 @@ fn tell_review(m: Reviewed, numbers: &mut [u8]) -> u32
 const SHORT: u32 = 24;
 
 // The library's version, as the header has it: a thousand times the first number, plus the second.
-const VERSION: u32 = 2005;
+const VERSION: u32 = 3000;
 
 #[no_mangle]
 pub extern "C" fn lozhbinor_version() -> u32
-    ensures { λ r. ⌜ r ≡ 2005 ⌝ }
+    ensures { λ r. ⌜ r ≡ 3000 ⌝ }
 {
     VERSION
 }
@@ -81,10 +81,11 @@ pub extern "C" fn lozhbinor_match(
     tell(m, numbers)
 }
 
-// Match with its rows in the form that the caller picks: 20 where that is unknown.
+// Match with its rows in the form, and in the dialect, that the caller picks: 20 where that form is unknown, and 22 where that dialect is.
 #[no_mangle]
 pub extern "C" fn lozhbinor_match_with(
     form: u32,
+    dialect: u32,
     matcher: &[i32],
     pattern: &[i32],
     target: &[i32],
@@ -92,12 +93,12 @@ pub extern "C" fn lozhbinor_match_with(
     room: &mut [i32],
     numbers: &mut [u8],
 ) -> u32
-    ensures { λ r. ⌜ called r (now (room .exit)) (now (numbers .exit)) ≡ matchWithCalled form (now (matcher .entry)) (now (pattern .entry)) (now (target .entry)) budget (now (room .entry)) (now (numbers .entry)) ⌝ }
+    ensures { λ r. ⌜ called r (now (room .exit)) (now (numbers .exit)) ≡ matchWithCalled form dialect (now (matcher .entry)) (now (pattern .entry)) (now (target .entry)) budget (now (room .entry)) (now (numbers .entry)) ⌝ }
 {
     if numbers.len() < MATCH_BYTES {
         return SHORT;
     }
-    let m = match_units_with(form, matcher, pattern, target, budget, room);
+    let m = match_units_with(form, dialect, matcher, pattern, target, budget, room);
     tell(m, numbers)
 }
 

@@ -22,14 +22,14 @@ pub tells : (out numbers : List ℕ) (m : Matched) (a p w k : ℕ) → a ≡ m .
     → out ≡ over (bytesOf (m .answer ∷ m .place ∷ m .rows ∷ m .steps ∷ m .words ∷ m .cause ∷ [])) numbers
 tells out numbers m a p w k qa qp qw qk o = o ∙ rw (qa, qp, qw, qk)
 
-module _ (form : ℕ) (ms ps ts : List ℤ) (budget words : ℕ) (room : List ℤ) (numbers : List ℕ) where
-  pub rounds-short : length numbers < 48 → called 24 room numbers ≡ roundsCalled form ms ps ts budget words room numbers
+module _ (form dialect : ℕ) (ms ps ts : List ℤ) (budget words : ℕ) (room : List ℤ) (numbers : List ℕ) where
+  pub rounds-short : length numbers < 48 → called 24 room numbers ≡ roundsCalled form dialect ms ps ts budget words room numbers
   unfolding roundsCalled
   rounds-short h = rw (lt-ltb (length numbers) 48 h)
 
-  pub rounds-told : (m : Matched) (after : List ℤ) (out : List ℕ) (r : ℕ) → 48 ≤ length numbers → told m after ≡ matchRoundsPicked form 1 ms ps ts (statesIn 825 words) budget room
+  pub rounds-told : (m : Matched) (after : List ℤ) (out : List ℕ) (r : ℕ) → 48 ≤ length numbers → told m after ≡ matchRoundsPicked form dialect ms ps ts (statesIn 825 words) budget room
       → r ≡ m .answer → out ≡ over (bytesOf (m .answer ∷ m .place ∷ m .rows ∷ m .steps ∷ m .words ∷ m .cause ∷ [])) numbers
-      → called r after out ≡ roundsCalled form ms ps ts budget words room numbers
+      → called r after out ≡ roundsCalled form dialect ms ps ts budget words room numbers
   unfolding roundsCalled matchTold matchNumbers told
   rounds-told m after out r h e q o =
       rw (le-ltb (length numbers) 48 h) (rw (o, q) (ap (λ (x : paper.Matched). matchTold x numbers) e))

@@ -9,7 +9,7 @@ use Rattle.round_rules.specs.Rounds.{statesIn, matchRoundsPicked}
 use Rattle.host.specs.Border.{Called, called, matchTold}
 
 -- 24 before all others; a state has 825 words.
-unfoldable pub roundsCalled : (form : ℕ) (ms ps ts : List ℤ) (budget words : ℕ) (room : List ℤ) (numbers : List ℕ) → Called
+unfoldable pub roundsCalled : (form dialect : ℕ) (ms ps ts : List ℤ) (budget words : ℕ) (room : List ℤ) (numbers : List ℕ) → Called
 unfolding statesIn matchRoundsPicked matchTold
-roundsCalled form ms ps ts budget words room numbers =
-    cond (ltb (length numbers) 48) (called 24 room numbers) (matchTold (matchRoundsPicked form 1 ms ps ts (statesIn 825 words) budget room) numbers)
+roundsCalled form dialect ms ps ts budget words room numbers =
+    cond (ltb (length numbers) 48) (called 24 room numbers) (matchTold (matchRoundsPicked form dialect ms ps ts (statesIn 825 words) budget room) numbers)

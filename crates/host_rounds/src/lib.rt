@@ -35,10 +35,11 @@ fn tell(m: Matched, numbers: &mut [u8]) -> u32
     m.answer
 }
 
-// Match in the other search order, with its rows in the form that the caller picks; what is left in the table is of no account.
+// Match in the other search order, with its rows in the form, and in the dialect, that the caller picks; what is left in the table is of no account.
 #[no_mangle]
 pub extern "C" fn lozhbinor_rounds(
     form: u32,
+    dialect: u32,
     matcher: &[i32],
     pattern: &[i32],
     target: &[i32],
@@ -47,11 +48,11 @@ pub extern "C" fn lozhbinor_rounds(
     room: &mut [i32],
     numbers: &mut [u8],
 ) -> u32
-    ensures { λ r. ⌜ called r (now (room .exit)) (now (numbers .exit)) ≡ roundsCalled form (now (matcher .entry)) (now (pattern .entry)) (now (target .entry)) budget (length (now (table .entry))) (now (room .entry)) (now (numbers .entry)) ⌝ }
+    ensures { λ r. ⌜ called r (now (room .exit)) (now (numbers .exit)) ≡ roundsCalled form dialect (now (matcher .entry)) (now (pattern .entry)) (now (target .entry)) budget (length (now (table .entry))) (now (room .entry)) (now (numbers .entry)) ⌝ }
 {
     if numbers.len() < BYTES {
         return SHORT;
     }
-    let m = match_rounds(form, matcher, pattern, target, budget, table, room);
+    let m = match_rounds(form, dialect, matcher, pattern, target, budget, table, room);
     tell(m, numbers)
 }

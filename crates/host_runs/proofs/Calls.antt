@@ -16,12 +16,12 @@ use Rattle.service_runs.specs.declared.opening.Start.{Start}
 use Rattle.host_runs.specs.Runs.{both, startNumbers, Starts, OpenCalls, toldNumbers, Goes, AdvanceCalls}
 use Rattle.host_runs.specs.declared.Called.{Called}
 
-module _ (r : Run) (form : ℕ) (ms ps ts : List ℤ) (size : ℕ) (numbers : List ℕ) where
-  pub open-short : length numbers < 24 → OpenCalls r form ms ps ts size numbers (record { run = r; answer = 24 }) numbers
+module _ (r : Run) (form dialect : ℕ) (ms ps ts : List ℤ) (size : ℕ) (numbers : List ℕ) where
+  pub open-short : length numbers < 24 → OpenCalls r form dialect ms ps ts size numbers (record { run = r; answer = 24 }) numbers
   open-short h = record { short = λ k. (refl, refl); starts = λ k. absurd (omega arith) }
 
-  pub open-told : 24 ≤ length numbers → (s : Start) → Opens form ms ps ts size s → (a i c : ℕ) (numbers′ : List ℕ) → a ≡ s .answer → i ≡ s .place → c ≡ s .cause
-      → numbers′ ≡ over (bytesOf (a ∷ i ∷ c ∷ [])) numbers → OpenCalls r form ms ps ts size numbers (record { run = s .run; answer = s .answer }) numbers′
+  pub open-told : 24 ≤ length numbers → (s : Start) → Opens form dialect ms ps ts size s → (a i c : ℕ) (numbers′ : List ℕ) → a ≡ s .answer → i ≡ s .place → c ≡ s .cause
+      → numbers′ ≡ over (bytesOf (a ∷ i ∷ c ∷ [])) numbers → OpenCalls r form dialect ms ps ts size numbers (record { run = s .run; answer = s .answer }) numbers′
   unfolding startNumbers
   open-told h s o a i c numbers′ p q e w = record {
     short = λ k. absurd (omega arith);

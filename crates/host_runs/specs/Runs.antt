@@ -21,16 +21,16 @@ both r a = record { run = r; answer = a }
 unfoldable pub startNumbers : Start → List ℕ
 startNumbers s = s .answer ∷ s .place ∷ s .cause ∷ []
 
-pub record Starts (form : ℕ) (ms ps ts : List ℤ) (size : ℕ) (numbers : List ℕ) (o : Called) (numbers′ : List ℕ) : Type 0 where
+pub record Starts (form dialect : ℕ) (ms ps ts : List ℤ) (size : ℕ) (numbers : List ℕ) (o : Called) (numbers′ : List ℕ) : Type 0 where
   pub start : Start
-  pub opens : Opens form ms ps ts size start
+  pub opens : Opens form dialect ms ps ts size start
   pub is : o ≡ both (start .run) (start .answer)
   pub written : numbers′ ≡ over (bytesOf (startNumbers start)) numbers
 
 -- "24, before all others: the slice for the numbers is too short for them; nothing is written anywhere": the run stays, too.
-pub record OpenCalls (r : Run) (form : ℕ) (ms ps ts : List ℤ) (size : ℕ) (numbers : List ℕ) (o : Called) (numbers′ : List ℕ) : Type 0 where
+pub record OpenCalls (r : Run) (form dialect : ℕ) (ms ps ts : List ℤ) (size : ℕ) (numbers : List ℕ) (o : Called) (numbers′ : List ℕ) : Type 0 where
   pub short : length numbers < 24 → (o ≡ both r 24) × (numbers′ ≡ numbers)
-  pub starts : 24 ≤ length numbers → Starts form ms ps ts size numbers o numbers′
+  pub starts : 24 ≤ length numbers → Starts form dialect ms ps ts size numbers o numbers′
 
 -- ---- An advance: the six numbers, in 48 bytes.
 

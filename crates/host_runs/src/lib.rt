@@ -30,13 +30,14 @@ const ADVANCE_BYTES: usize = 48;
 pub fn open_called(
     run: Run,
     form: u32,
+    dialect: u32,
     matcher: &[i32],
     pattern: &[i32],
     target: &[i32],
     size: u32,
     numbers: &mut [u8],
 ) -> Called
-    ensures { λ r. ⌜ OpenCalls run form (now (matcher .entry)) (now (pattern .entry)) (now (target .entry)) size (now (numbers .entry)) r (now (numbers .exit)) ⌝ }
+    ensures { λ r. ⌜ OpenCalls run form dialect (now (matcher .entry)) (now (pattern .entry)) (now (target .entry)) size (now (numbers .entry)) r (now (numbers .exit)) ⌝ }
 {
     if numbers.len() < OPEN_BYTES {
         return Called {
@@ -44,7 +45,7 @@ pub fn open_called(
             answer: SHORT,
         };
     }
-    let start = opened(form, matcher, pattern, target, size);
+    let start = opened(form, dialect, matcher, pattern, target, size);
     put_three(
         numbers,
         wide(start.answer),
@@ -91,15 +92,16 @@ pub fn advance_called(run: Run, steps: u32, room: &mut [i32], numbers: &mut [u8]
 pub extern "C" fn lozhbinor_open(
     run: &mut Run,
     form: u32,
+    dialect: u32,
     matcher: &[i32],
     pattern: &[i32],
     target: &[i32],
     size: u32,
     numbers: &mut [u8],
 ) -> u32
-    ensures { λ r. ⌜ OpenCalls (now (run .entry)) form (now (matcher .entry)) (now (pattern .entry)) (now (target .entry)) size (now (numbers .entry)) (both (now (run .exit)) r) (now (numbers .exit)) ⌝ }
+    ensures { λ r. ⌜ OpenCalls (now (run .entry)) form dialect (now (matcher .entry)) (now (pattern .entry)) (now (target .entry)) size (now (numbers .entry)) (both (now (run .exit)) r) (now (numbers .exit)) ⌝ }
 {
-    let begun = open_called(*run, form, matcher, pattern, target, size, numbers);
+    let begun = open_called(*run, form, dialect, matcher, pattern, target, size, numbers);
     *run = begun.run;
     begun.answer
 }

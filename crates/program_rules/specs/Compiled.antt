@@ -349,7 +349,7 @@ module _ {ms : List ℤ} {vars pc : ℕ} where
   split-goes {ks} (multisetCons m) {p} {q} {ts} (at-tag i us a ps e v) =
       let r = e ∙ split-lines ms i us pc (pos 5) 3 9 (matcher-tag (multiset m) a) refl refl refl p q ts in
       let u = ap variablesIn r in
-      record { first = _; others = _; lines = r; means = λ to y. means-multiset m refl; stands = at-tag {pc = suc pc} {ks = ks} {p = p} (i + 1) (waits i pc 0 ∷ us) (multiset-inner a) (parts {n = 0} {p = q} a (omega arith) ps) refl (omega arith) }
+      record { first = _; others = _; lines = r; means = λ to y. means-multiset m refl (multiset-inner a); stands = at-tag {pc = suc pc} {ks = ks} {p = p} (i + 1) (waits i pc 0 ∷ us) (multiset-inner a) (parts {n = 0} {p = q} a (omega arith) ps) refl (omega arith) }
   split-goes {ks} (joins m) {p} {q} {ts} (at-tag i us a ps e v) =
       let r = e ∙ split-lines ms i us pc (pos 6) 2 10 (matcher-tag (list m) a) refl refl refl p q ts in
       let u = ap variablesIn r in

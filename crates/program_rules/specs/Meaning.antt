@@ -95,7 +95,7 @@ pub data Means (ms : List ℤ) (vars : ℕ) (l : Line) (to : ℕ) : Instr → Ty
   means-value : (m : Matcher) → l .op ≡ 6 → isInteger m ≡ false → MatcherAt ms (l .mat) m → Means ms vars l to (test (asValue m (l .arg) (l .con)) (l .from) to)
   means-nil : (m : Matcher) → l .op ≡ 7 → Means ms vars l to (test (asNil m) (l .from) to)
   means-list : (m : Matcher) → l .op ≡ 8 → Means ms vars l to (split (listCons m))
-  means-multiset : (m : Matcher) → l .op ≡ 9 → Means ms vars l to (split (multisetCons m))
+  means-multiset : (m : Matcher) → l .op ≡ 9 → MatcherAt ms (l .mat + 1) m → Means ms vars l to (split (multisetCons m))
   means-join : (m : Matcher) → l .op ≡ 10 → Means ms vars l to (split (joins m))
   means-tuple : (n : ℕ) → l .op ≡ 11 + n → n ≤ 2 → Means ms vars l to (apart n)
   means-keep : l .op ≡ 14 → Means ms vars l to keep

@@ -11,14 +11,15 @@ use Rattle.rules.specs.Forms.{Pattern, wildcard, nil, variable, constant, value
 use Rattle.rules.specs.Fit.{element, takes, withoutSomething, sameShape, isSomething}
 use Rattle.rules.specs.Equality.{isConstant, isValue, isEmpty}
 use Rattle.rules.specs.Origins.{Valueᵒ, Bindings, plain}
-use Rattle.rules.specs.Search.{Halves, consHalves, joinHalves, Atom, atom, endOfNot, State, state, dropIf, after, leaveNot, afterIn, consHalvesIn}
+use Rattle.rules.specs.Search.{Halves, consHalves, joinHalves, Atom, atom, endOfNot, State, state, dropIf, leaveNot, afterIn, consHalvesIn, isMultiset}
+use Rattle.rules.specs.Dialects.{Dialect, everyPlace, firstPlaces}
 
 -- What waits when a state has been taken up and `ss` waited behind it.
-unfoldable pub resume : State → List State → List State
+unfoldable pub resume : Dialect → State → List State → List State
 unfolding afterIn consHalvesIn leaveNot
-resume (state g [] e) ss = ss
-resume (state g (endOfNot ∷ older) e) ss = leaveNot ss
-resume (state g (atom p m v ∷ older) e) ss = after p m v older e ++ ss
+resume dialect (state g [] e) ss = ss
+resume dialect (state g (endOfNot ∷ older) e) ss = leaveNot ss
+resume dialect (state g (atom p m v ∷ older) e) ss = afterIn dialect p m v older e ++ ss
 
 -- ---- The ways in which an atom is divided into two, each with the matcher that it stands under.
 pub data Kind : Type 0 where
@@ -39,22 +40,23 @@ whole (listCons m) p q = cons p q
 whole (multisetCons m) p q = cons p q
 whole (joins m) p q = join p q
 
-unfoldable pub halves : Kind → Valueᵒ → List Halves
-unfolding consHalves joinHalves
-halves (listCons m) v = consHalves (list m) v
-halves (multisetCons m) v = consHalves (multiset m) v
-halves (joins m) v = joinHalves v
+unfoldable pub halves : Dialect → Kind → Valueᵒ → List Halves
+unfolding consHalves consHalvesIn joinHalves
+halves dialect (listCons m) v = consHalves (list m) v
+halves dialect (multisetCons m) v = consHalvesIn dialect (multiset m) v
+halves dialect (joins m) v = joinHalves v
 
 unfoldable pub branch : Kind → Pattern → Pattern → List Atom → Bindings → Halves → State
 unfolding over firstBy
 branch k p q older e h = state false (atom p (firstBy k) (h .first) ∷ atom q (over k) (h .second) ∷ older) e
 
-pub after-whole : (k : Kind) (p q : Pattern) (v : Valueᵒ) (older : List Atom) (e : Bindings)
-    → after (whole k p q) (over k) v older e ≡ map (branch k p q older e) (halves k v)
-unfolding afterIn consHalvesIn whole over firstBy halves branch element
-after-whole (listCons m) p q v older e = refl
-after-whole (multisetCons m) p q v older e = refl
-after-whole (joins m) p q v older e = refl
+pub after-whole : (dialect : Dialect) (k : Kind) (p q : Pattern) (v : Valueᵒ) (older : List Atom) (e : Bindings)
+    → afterIn dialect (whole k p q) (over k) v older e ≡ map (branch k p q older e) (halves dialect k v)
+unfolding afterIn consHalvesIn isMultiset whole over firstBy halves branch element
+after-whole everyPlace (listCons m) p q v older e = refl
+after-whole firstPlaces (listCons m) p q v older e = refl
+after-whole dialect (multisetCons m) p q v older e = refl
+after-whole dialect (joins m) p q v older e = refl
 
 -- ---- The tests that drop an atom or end a state.
 pub data Test : Type 0 where
@@ -85,23 +87,23 @@ Sound (asConstant c) ms = Unit {0}
 Sound (asValue m x c) ms = (k : Matcher) × (getElem? ms x ≡ some k) × (sameShape m k ≡ true) × (withoutSomething m ≡ true)
 Sound (asNil m) ms = takes m 4 ≡ true
 
-pub after-test : (t : Test) (v : Valueᵒ) (older : List Atom) (e : Bindings)
-    → after (tested t) (testBy t) v older e ≡ dropIf (passes t e v) older e
+pub after-test : (dialect : Dialect) (t : Test) (v : Valueᵒ) (older : List Atom) (e : Bindings)
+    → afterIn dialect (tested t) (testBy t) v older e ≡ dropIf (passes t e v) older e
 unfolding afterIn consHalvesIn tested testBy passes
-after-test (asConstant c) v older e = refl
-after-test (asValue m x c) v older e = refl
-after-test (asNil m) v older e = refl
+after-test dialect (asConstant c) v older e = refl
+after-test dialect (asValue m x c) v older e = refl
+after-test dialect (asNil m) v older e = refl
 
 -- ---- The patterns that take any value: under anything but something they are first put under something.
 pub data Loose : Pattern → Type 0 where
   loose-wildcard : Loose wildcard
   loose-variable : {x : ℤ} → Loose (variable x)
 
-pub after-loose : {p : Pattern} → Loose p → (m : Matcher) (v : Valueᵒ) (older : List Atom) (e : Bindings) → isSomething m ≡ false
-    → after p m v older e ≡ state false (atom p something v ∷ older) e ∷ []
+pub after-loose : (dialect : Dialect) {p : Pattern} → Loose p → (m : Matcher) (v : Valueᵒ) (older : List Atom) (e : Bindings) → isSomething m ≡ false
+    → afterIn dialect p m v older e ≡ state false (atom p something v ∷ older) e ∷ []
 unfolding afterIn consHalvesIn
-after-loose loose-wildcard m v older e h = ap (λ b. elim b as (λ _. List State) [ true ↦ state false older e ∷ [] | false ↦ state false (atom wildcard something v ∷ older) e ∷ [] ]) h
-after-loose (loose-variable {x}) m v older e h =
+after-loose dialect loose-wildcard m v older e h = ap (λ b. elim b as (λ _. List State) [ true ↦ state false older e ∷ [] | false ↦ state false (atom wildcard something v ∷ older) e ∷ [] ]) h
+after-loose dialect (loose-variable {x}) m v older e h =
     ap (λ b. elim b as (λ _. List State) [ true ↦ state false older (e ++ (v ∷ [])) ∷ [] | false ↦ state false (atom (variable x) something v ∷ older) e ∷ [] ]) h
 
 -- ---- Instructions. One instruction is one state taken up. Those that drop an atom end with the slot of the value for the next atom (`from`) and that

@@ -11,7 +11,7 @@ use lib.Seq.{length-take-le}
 use lib.Dec.{eqb, leb}
 use lib.IntN.{ℤ}
 use borrow.Author.Tests.{ne-eqb, lt-leb}
-use Rattle.rules.specs.Dialects.{everyPlace}
+use Rattle.rules.specs.Dialects.{Dialect}
 use Rattle.rules.specs.Rows.{Form}
 use Rattle.rules.specs.Search as paper
 use Rattle.rules.specs.Search.{start, stopped}
@@ -52,14 +52,14 @@ nothing-ran : (a : ℕ) (room : List ℤ) → matched a 0 0 0 room ≡ carriedOu
 unfolding matched carriedOut stopped
 nothing-ran a room = refl
 
-none-ran : (f : Form) (first : paper.State) (room : List ℤ) (n : ℕ)
-    → matched (cond (eqb n 0) 7 21) 0 0 0 room ≡ carriedOut (byRounds everyPlace f n 0 n (record { first = first; others = [] } ∷ []) (length room)) room
+none-ran : (dialect : Dialect) (f : Form) (first : paper.State) (room : List ℤ) (n : ℕ)
+    → matched (cond (eqb n 0) 7 21) 0 0 0 room ≡ carriedOut (byRounds dialect f n 0 n (record { first = first; others = [] } ∷ []) (length room)) room
 unfolding byRounds cond
-none-ran f first room zero = nothing-ran 7 room
-none-ran f first room (suc n) =
+none-ran dialect f first room zero = nothing-ran 7 room
+none-ran dialect f first room (suc n) =
     let b : List Branch = record { first = first; others = [] } ∷ [] in
     rw (ne-eqb (suc n) 0 (λ y. omega arith)) (nothing-ran 21 room
-    ∙ ap (λ t. carriedOut (elim t as (λ _. paper.Run) [ true ↦ takeRound everyPlace f (suc n) b [] (length room) (λ l nw free. byRounds everyPlace f n 0 l (nw ++ remainders b) free) | false ↦ stopped 21 0 ]) room)
+    ∙ ap (λ t. carriedOut (elim t as (λ _. paper.Run) [ true ↦ takeRound dialect f (suc n) b [] (length room) (λ l nw free. byRounds dialect f n 0 l (nw ++ remainders b) free) | false ↦ stopped 21 0 ]) room)
     (sym (lt-leb (waiting b) 0 (let w = waiting-one (record { first = first; others = [] }) in omega arith))))
 
 pub no-table : (e : Env) (budget words : ℕ) (room : List ℤ) (limit : ℕ) → limit ≡ limitOf (statesIn 825 words) → limit ≡ 0 → (r : Report) → r ≡ noTable budget
@@ -68,8 +68,8 @@ unfolding ByRounds noTable runRounds branch
 no-table e budget words room limit q z r h R =
     let first = start (R .rule .matcher) (R .rule .pattern) (R .value) in
     ap (λ (r : Report). matched (r .answer) (r .rows) (r .steps) (r .words) room) h
-    ∙ none-ran (e .form) first room budget
-    ∙ ap (λ n. carriedOut (byRounds everyPlace (e .form) budget n budget (record { first = first; others = [] } ∷ []) (length room)) room) (sym z ∙ q)
+    ∙ none-ran (e .dialect) (e .form) first room budget
+    ∙ ap (λ n. carriedOut (byRounds (e .dialect) (e .form) budget n budget (record { first = first; others = [] } ∷ []) (length room)) room) (sym z ∙ q)
 
 -- A table that holds some.
 pub table-some : (words limit : ℕ) → limit ≡ limitOf (statesIn 825 words) → (limit ≡ 0 → ⊥) → 825 * 0 + 825 ≤ words
@@ -99,7 +99,7 @@ module _ (e : Env) (R : Ruled e) where
     frames = v .frames;
     rep = same-waiting (D e R) (code e R) (points e R) (follows e R)
         (fresh-same (D e R) (R .rule .matcher) (R .rule .pattern) (R .value) (binding 0 (wholeAt (e .words) 0)) (R .is) 0 (R .kinds) (R .fit) (R .wide) (R .closed)
-        (slotsOf (e .form) (e .words) (R .target-is) (viewOf (e .arg) slots)) (bindsOf (e .form) (e .words) (R .target-is) b) 0) refl;
+        (slotsOf (e .dialect) (e .form) (e .words) (R .target-is) (viewOf (e .arg) slots)) (bindsOf (e .dialect) (e .form) (e .words) (R .target-is) b) 0) refl;
     shallow = record { frame = λ j h. absurd (omega arith) };
   }
 
@@ -117,7 +117,7 @@ module _ (e : Env) (R : Ruled e) where
       journey = record {
         ruled = R;
         uses = used-is e R used num;
-        whole = runRounds everyPlace (e .form) (statesIn 825 words) budget (firstState ∷ []) (length room);
+        whole = runRounds (e .dialect) (e .form) (statesIn 825 words) budget (firstState ∷ []) (length room);
         limit = limit;
         base = room;
       }
@@ -136,13 +136,13 @@ module _ (e : Env) (R : Ruled e) where
       }
 
       far-first : Far (journey .whole) (opening 0 (wholeAt (e .words) 0)) room
-          (byRounds everyPlace (e .form) budget limit (budget - 0) (record { first = firstState; others = [] } ∷ []) (length room - 0))
+          (byRounds (e .dialect) (e .form) budget limit (budget - 0) (record { first = firstState; others = [] } ∷ []) (length room - 0))
       unfolding Far opening runRounds branch
       far-first =
           let p : budget ≡ budget - 0 = omega arith in
           let q : length room ≡ length room - 0 = omega arith in
-          on-nothing _ ∙ ap₂ (λ n k. on 0 0 (take 0 room) (byRounds everyPlace (e .form) budget (limitOf (statesIn 825 words)) n (record { first = firstState; others = [] } ∷ []) k)) p q
-          ∙ ap (λ l. on 0 0 (take 0 room) (byRounds everyPlace (e .form) budget l (budget - 0) (record { first = firstState; others = [] } ∷ []) (length room - 0))) (sym size)
+          on-nothing _ ∙ ap₂ (λ n k. on 0 0 (take 0 room) (byRounds (e .dialect) (e .form) budget (limitOf (statesIn 825 words)) n (record { first = firstState; others = [] } ∷ []) k)) p q
+          ∙ ap (λ l. on 0 0 (take 0 room) (byRounds (e .dialect) (e .form) budget l (budget - 0) (record { first = firstState; others = [] } ∷ []) (length room - 0))) (sym size)
 
       first-rounding : Rounding e R used (used-is e R used num) (journey .whole) budget limit budget new 1 1 (opening 0 (wholeAt (e .words) 0)) room
       unfolding opening

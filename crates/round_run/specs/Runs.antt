@@ -6,7 +6,6 @@ use mathlib.Core.List.{List, [], _∷_}
 use lib.ListN.{length}
 use lib.Dec.{eqb}
 use lib.IntN.{ℤ}
-use Rattle.rules.specs.Dialects.{everyPlace}
 use Rattle.rules.specs.Search.{start}
 use Rattle.rules.specs.Services.{Matched, carriedOut}
 use Rattle.round_rules.specs.Rounds.{statesIn, runRounds}
@@ -25,4 +24,4 @@ stateWords = 825
 
 unfoldable pub ByRounds : (e : Env) (budget words : ℕ) (room : List ℤ) → Matched → Type 0
 ByRounds e budget words room out =
-    (R : Ruled e) → out ≡ carriedOut (runRounds everyPlace (e .form) (statesIn stateWords words) budget (start (R .rule .matcher) (R .rule .pattern) (R .value) ∷ []) (length room)) room
+    (R : Ruled e) → out ≡ carriedOut (runRounds (e .dialect) (e .form) (statesIn stateWords words) budget (start (R .rule .matcher) (R .rule .pattern) (R .value) ∷ []) (length room)) room

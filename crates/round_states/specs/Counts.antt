@@ -64,7 +64,7 @@ module _ (e : Env) (R : Ruled e) where
 
       by : (κ : Kind) → Left (e .words) κ h c hs → Means (e .matcher) (e .vars) (lineAt e j) (getD (e .to) j 0) (split κ) → choicesBy (getD (e .op) j 0) (h .marks) c ≡ length hs
       by (listCons m) p (means-list k z) = unfold choicesBy when Left in rw z (sym (places-count (listCons m) p))
-      by (multisetCons m) p (means-multiset k z) = unfold choicesBy when Left in rw z (sym (places-count (multisetCons m) p))
+      by (multisetCons m) p (means-multiset k z a) = unfold choicesBy when Left in rw z (sym (places-count (multisetCons m) p))
       by (joins m) p (means-join k z) = unfold choicesBy when Left in
           let w = held-64 (e .words) (h .at) (h .marks) (R .target-is) (p .held) in
           let q = ap length (p .are) ∙ length-map (map (raise c) (splits 64 (h .marks - c))) _ ∙ length-map (splits 64 (h .marks - c)) (raise c) ∙ count-splits 64 (h .marks - c) (omega arith) in
@@ -77,7 +77,7 @@ module _ (e : Env) (R : Ruled e) where
       by : (l : Line) (t u : ℕ) → Means (e .matcher) (e .vars) l t (choice u) → l .op ≡ 15
       by l t u (means-choice z) = z
 
-  chain-count : (t : Tables) {a : ℕ → Binding} {top n w : ℕ} {ss : List paper.State} → Chain (D e R) (code e R) (points e R) (slotsOf (e .form) (e .words) (R .target-is) t) a top n w ss
+  chain-count : (t : Tables) {a : ℕ → Binding} {top n w : ℕ} {ss : List paper.State} → Chain (D e R) (code e R) (points e R) (slotsOf (e .dialect) (e .form) (e .words) (R .target-is) t) a top n w ss
       → ((j : ℕ) → top ≡ suc j → Opens (code e R j) × (getD (t .lows) j 0 ≡ 0)) → choicesIn (e .op) top t ≡ length ss
   unfolding choicesIn choicesBy when slotsOf
   chain-count t shut k = refl
@@ -96,6 +96,6 @@ module _ (e : Env) (R : Ruled e) where
   unfolding confOf slotsOf
   others-count x slots b br s = go (s .rep)
     where
-      go : Rep (D e R) (code e R) (points e R) (some (confOf (e .form) (e .words) (R .target-is) x (viewOf (e .arg) slots) b)) (br .first ∷ br .others)
+      go : Rep (D e R) (code e R) (points e R) (some (confOf (e .dialect) (e .form) (e .words) (R .target-is) x (viewOf (e .arg) slots) b)) (br .first ∷ br .others)
           → choicesIn (e .op) (x .top) (viewOf (e .arg) slots) ≡ length (br .others)
       go (live l a ch) = chain-count (viewOf (e .arg) slots) ch (s .shallow .frame)

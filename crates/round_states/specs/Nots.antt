@@ -6,9 +6,9 @@ use mathlib.Core.Logic.{_⊎_, inl, inr, ⊎-elim}
 use mathlib.Core.Bool.{Bool, true, false, _||_}
 use mathlib.Core.Option.{Option, none, some}
 use mathlib.Core.List.{List, [], _∷_, _++_, map}
-use Rattle.rules.specs.Dialects.{everyPlace}
+use Rattle.rules.specs.Dialects.{Dialect}
 use Rattle.rules.specs.Origins.{Bindings}
-use Rattle.rules.specs.Search.{Halves, Atom, atom, endOfNot, State, state, leaveNot, after, afterIn, Run, stopped, step}
+use Rattle.rules.specs.Search.{Halves, Atom, atom, endOfNot, State, state, leaveNot, afterIn, Run, stopped, step}
 use Rattle.round_rules.specs.Rounds.{marked, anyMarked, searching, onFirst, unmarked, Inside, spent, left, oneMore, inside, steps, past}
 use Rattle.program_rules.specs.Points.{Kind, branch, Instr, deny, end, Item, Point, finish, resume, Follows, strips, drops, binds, tests, splits, aparts, keeps, chooses, denies, cuts, ends}
 use Rattle.program_rules.specs.Points as point
@@ -82,18 +82,18 @@ past-more n (left k ss) free next =
     let f : suc k + (next (n - k) ss free) .steps ≡ suc (k + (next (n - k) ss free) .steps) = omega arith in
     rw (e, f)
 
-pub inside-over : (n : ℕ) (ss : List State) → searching ss ≡ false → inside everyPlace n ss ≡ left 0 (map unmarked ss)
+pub inside-over : (dialect : Dialect) (n : ℕ) (ss : List State) → searching ss ≡ false → inside dialect n ss ≡ left 0 (map unmarked ss)
 unfolding inside
-inside-over zero ss h = ap (λ b. elim b as (λ _. Inside) [ true ↦ spent | false ↦ left 0 (map unmarked ss) ]) h
-inside-over (suc n) ss h = ap (λ b. elim b as (λ _. Inside) [ true ↦ oneMore (inside everyPlace n (onFirst everyPlace ss)) | false ↦ left 0 (map unmarked ss) ]) h
+inside-over dialect zero ss h = ap (λ b. elim b as (λ _. Inside) [ true ↦ spent | false ↦ left 0 (map unmarked ss) ]) h
+inside-over dialect (suc n) ss h = ap (λ b. elim b as (λ _. Inside) [ true ↦ oneMore (inside dialect n (onFirst dialect ss)) | false ↦ left 0 (map unmarked ss) ]) h
 
-pub inside-spent : (ss : List State) → searching ss ≡ true → inside everyPlace 0 ss ≡ spent
+pub inside-spent : (dialect : Dialect) (ss : List State) → searching ss ≡ true → inside dialect 0 ss ≡ spent
 unfolding inside
-inside-spent ss h = ap (λ b. elim b as (λ _. Inside) [ true ↦ spent | false ↦ left 0 (map unmarked ss) ]) h
+inside-spent dialect ss h = ap (λ b. elim b as (λ _. Inside) [ true ↦ spent | false ↦ left 0 (map unmarked ss) ]) h
 
-pub inside-more : (n : ℕ) (ss : List State) → searching ss ≡ true → inside everyPlace (suc n) ss ≡ oneMore (inside everyPlace n (onFirst everyPlace ss))
+pub inside-more : (dialect : Dialect) (n : ℕ) (ss : List State) → searching ss ≡ true → inside dialect (suc n) ss ≡ oneMore (inside dialect n (onFirst dialect ss))
 unfolding inside
-inside-more n ss h = ap (λ b. elim b as (λ _. Inside) [ true ↦ oneMore (inside everyPlace n (onFirst everyPlace ss)) | false ↦ left 0 (map unmarked ss) ]) h
+inside-more dialect n ss h = ap (λ b. elim b as (λ _. Inside) [ true ↦ oneMore (inside dialect n (onFirst dialect ss)) | false ↦ left 0 (map unmarked ss) ]) h
 
 pub past-over : (n : ℕ) (ss : List State) (free : ℕ) (next : ℕ → List State → ℕ → Run) → past n (left 0 ss) free next ≡ next n ss free
 unfolding past steps
@@ -128,27 +128,27 @@ module _ (D : Data) (code : ℕ → Instr) (points : ℕ → Point) where
   module _ (follows : (pc : ℕ) → Follows points pc (code pc) (points pc)) where
     -- One step of the search inside.
     pub inside-step : {c : Conf D} {ss : List State} → Rep D code points (some c) ss → behind ss ≡ true → (c .top ≡ 0 → ⊥)
-        → Rep D code points (settle D code (exec D (code (c .pc)) c)) (onFirst everyPlace ss) × (behind (onFirst everyPlace ss) ≡ true)
+        → Rep D code points (settle D code (exec D (code (c .pc)) c)) (onFirst (D .dialect) ss) × (behind (onFirst (D .dialect) ss) ≡ true)
     unfolding onFirst resume behind
     inside-step {c} (live {s = s} {ss = ss} l a ch) o z =
         let r = chain-some ch z in
         (subst (λ q. Rep D code points (settle D code (exec D (code (c .pc)) c)) q) (resume-is s ss) (step-rep D code points c (code (c .pc)) ss refl (follows (c .pc)) l a ch), go s (r .0) (r .1) (r .2) o)
       where
-        resume-is : (s : State) (ss : List State) → resume s ss ≡ onFirst everyPlace (s ∷ ss)
+        resume-is : (s : State) (ss : List State) → resume (D .dialect) s ss ≡ onFirst (D .dialect) (s ∷ ss)
         resume-is (state g [] e) ss = refl
         resume-is (state g (endOfNot ∷ older) e) ss = refl
         resume-is (state g (atom p m v ∷ older) e) ss = refl
 
-        go : (s : State) (t : State) (ts : List State) → ss ≡ t ∷ ts → okay ss ≡ true → behind (onFirst everyPlace (s ∷ ss)) ≡ true
+        go : (s : State) (t : State) (ts : List State) → ss ≡ t ∷ ts → okay ss ≡ true → behind (onFirst (D .dialect) (s ∷ ss)) ≡ true
         go (state g [] e) t ts q o = behind-okay ss o
         go (state g (endOfNot ∷ older) e) t ts q o = behind-okay (leaveNot ss) (okay-leave ss o)
-        go (state g (atom p m v ∷ older) e) t ts q o = rw q (behind-before (after p m v older e) t ts (rw q at o))
+        go (state g (atom p m v ∷ older) e) t ts q o = rw q (behind-before (afterIn (D .dialect) p m v older e) t ts (rw q at o))
 
     -- A not is taken up: what is inside, and behind it what follows.
-    pub not-step : {c : Conf D} {s : State} → Rep D code points (some c) (s ∷ []) → (n to : ℕ) → code (c .pc) ≡ deny n to → behind (resume s []) ≡ true
+    pub not-step : {c : Conf D} {s : State} → Rep D code points (some c) (s ∷ []) → (n to : ℕ) → code (c .pc) ≡ deny n to → behind (resume (D .dialect) s []) ≡ true
     not-step {c} (live {s = s} l a ch) n to e = go s (follows (c .pc)) a e
       where
-        go : {i : Instr} {P : Point} {f : ℕ → Slot D} {b : ℕ → D .Held} {pc : ℕ} {h : D .Held} (s : State) → Follows points (c .pc) i P → At D f b pc h P s → i ≡ deny n to → behind (resume s []) ≡ true
+        go : {i : Instr} {P : Point} {f : ℕ → Slot D} {b : ℕ → D .Held} {pc : ℕ} {h : D .Held} (s : State) → Follows points (c .pc) i P → At D f b pc h P s → i ≡ deny n to → behind (resume (D .dialect) s []) ≡ true
         go s (denies p r pt pt₂) (at x ws bs) q = unfold resume behind okay afterIn marked in refl
         go s (strips h n pt) (at x ws bs) q = let z : _≡_ {A = ℕ} 0 1 = cc in absurd (omega arith)
         go s (drops r pt) (at x ws bs) q = let z : _≡_ {A = ℕ} 0 1 = cc in absurd (omega arith)

@@ -10,7 +10,6 @@ use lib.ListN.{length, getD, take, drop}
 use lib.Seq.{drop-drop}
 use lib.Dec.{eqb}
 use lib.IntN.{ℤ}
-use Rattle.rules.specs.Dialects.{everyPlace}
 use Rattle.rules.specs.Search as paper
 use Rattle.rules.specs.Search.{stopped}
 use Rattle.round_rules.specs.Rounds.{Branch, searching, onFirst, unmarked, spent, left, inside, past, takeUp}
@@ -74,7 +73,7 @@ module _ (e : Env) (R : Ruled e) where
     far-next : Far F x room (next n (map unmarked L) (length room - x .words))
     unfolding Far
     far-next = t .far ∙ ap (on (x .rows) (x .steps) (take (x .words) room))
-        (ap (λ i. past n i (length room - x .words) next) (inside-over n L out) ∙ past-over n (map unmarked L) (length room - x .words) next)
+        (ap (λ i. past n i (length room - x .words) next) (inside-over (e .dialect) n L out) ∙ past-over n (map unmarked L) (length room - x .words) next)
 
     plain : Rep (D e R) (code e R) (points e R) (stood e R x (viewOf (e .arg) slots) b) (map unmarked L)
     plain = plain-rep (D e R) (code e R) (points e R) (t .stands) shallow .0
@@ -88,7 +87,7 @@ module _ (e : Env) (R : Ruled e) where
     then-none h = subst (λ ss. Far F x room (next n ss (length room - x .words))) (rep-none plain (rw h)) far-next
 
     abbrev c : Conf (D e R)
-    c = confOf (e .form) (e .words) (R .target-is) x (viewOf (e .arg) slots) b
+    c = confOf (e .dialect) (e .form) (e .words) (R .target-is) x (viewOf (e .arg) slots) b
 
     is-some : x .live ≡ 1 → stood e R x (viewOf (e .arg) slots) b ≡ some c
     unfolding standing when
@@ -136,7 +135,7 @@ module _ (e : Env) (R : Ruled e) where
   -- The search inside a not, at the head of its loop.
   module _ (F : paper.Run) (budget : ℕ) (next : Next) (base : List ℤ) (x : State) (slots : List ℕ) (b : List Binding) (room : List ℤ) (g : Going F budget next base x slots b room) where
     abbrev c₀ : Conf (D e R)
-    c₀ = confOf (e .form) (e .words) (R .target-is) x (viewOf (e .arg) slots) b
+    c₀ = confOf (e .dialect) (e .form) (e .words) (R .target-is) x (viewOf (e .arg) slots) b
 
     one-conf : x .live ≡ 1 → stood e R x (viewOf (e .arg) slots) b ≡ some c₀
     unfolding standing when
@@ -179,8 +178,8 @@ module _ (e : Env) (R : Ruled e) where
           kept = g .kept;
           phase = g .phase;
           over = λ y. (
-            subst (λ k. Far F x room (past k (inside everyPlace k (g .states)) (length room - x .words) next)) q (g .took .far)
-                ∙ ap (λ i. on (x .rows) (x .steps) (take (x .words) room) (past 0 i (length room - x .words) next)) (inside-spent (g .states) (inside-open (D e R) (code e R) (points e R) (rep₁ h) (g .deep) z)),
+            subst (λ k. Far F x room (past k (inside (e .dialect) k (g .states)) (length room - x .words) next)) q (g .took .far)
+                ∙ ap (λ i. on (x .rows) (x .steps) (take (x .words) room) (past 0 i (length room - x .words) next)) (inside-spent (e .dialect) (g .states) (inside-open (D e R) (code e R) (points e R) (rep₁ h) (g .deep) z)),
             (let a = g .most in omega arith),
           );
           full = λ y. let w : _≡_ {A = ℕ} 0 1 = cc in absurd (omega arith);
@@ -194,15 +193,15 @@ module _ (e : Env) (R : Ruled e) where
     goes-next h z m x′ slots′ b′ room′ q =
         let k : budget - x .steps ≡ suc (budget - suc (x .steps)) = omega arith in
         let t = inner-took e R x (viewOf (e .arg) slots) b room (g .valid) h (g .states) (rep₁ h) (g .deep) z F (budget - suc (x .steps)) next
-        (subst (λ i. Far F x room (past i (inside everyPlace i (g .states)) (length room - x .words) next)) k (g .took .far)) in
+        (subst (λ i. Far F x room (past i (inside (e .dialect) i (g .states)) (length room - x .words) next)) k (g .took .far)) in
         let s = rep-cons (rep₁ h) in
         let w = stands-kept e R x (viewOf (e .arg) slots) b room (g .valid) h (s .0) (s .1) (subst (Rep (D e R) (code e R) (points e R) (some c₀)) (s .2) (rep₁ h)) base (g .kept) in
         let a = one-step e R x (viewOf (e .arg) slots) b room (g .valid) h (s .0) (s .1) (subst (Rep (D e R) (code e R) (points e R) (some c₀)) (s .2) (rep₁ h)) in
         let y : x′ .steps ≡ suc (x .steps) = ap (λ (u : Run). u .state .steps) q ∙ a in
         let n : budget - suc (x .steps) ≡ budget - x′ .steps = omega arith in
         record {
-          states = onFirst everyPlace (g .states);
-          took = subst (λ i. Took e R F i next (onFirst everyPlace (g .states)) (run x′ (viewOf (e .arg) slots′) b′ room′)) n (subst (Took e R F (budget - suc (x .steps)) next (onFirst everyPlace (g .states))) (sym q) (t .0));
+          states = onFirst (e .dialect) (g .states);
+          took = subst (λ i. Took e R F i next (onFirst (e .dialect) (g .states)) (run x′ (viewOf (e .arg) slots′) b′ room′)) n (subst (Took e R F (budget - suc (x .steps)) next (onFirst (e .dialect) (g .states))) (sym q) (t .0));
           deep = t .1;
           valid = subst (Valid e) (sym q) (w .valid);
           phase = subst (λ (u : Run). (u .state .live ≡ 0) ⊎ ((u .state .live ≡ 1) ⊎ (u .state .live ≡ 3))) (sym q) (w .phase);
@@ -217,7 +216,7 @@ module _ (e : Env) (R : Ruled e) where
 
   module _ (F : paper.Run) (budget : ℕ) (next : Next) (base : List ℤ) (x : State) (slots : List ℕ) (b : List Binding) (room : List ℤ) (s : paper.State)
       (st : Standing e R x slots b (record { first = s; others = [] })) (top : x .top ≡ 0) (words : x .words ≤ length room) (counts : x .rows ≤ x .steps) (m : x .steps < budget)
-      (k : whole.Kept base (run x (viewOf (e .arg) slots) b room)) (far : Far F x room (takeUp everyPlace (e .form) (budget - suc (x .steps)) s (length room - x .words) next))
+      (k : whole.Kept base (run x (viewOf (e .arg) slots) b room)) (far : Far F x room (takeUp (e .dialect) (e .form) (budget - suc (x .steps)) s (length room - x .words) next))
       (x′ : State) (slots′ : List ℕ) (b′ : List Binding) (room′ : List ℤ) (q : run x′ (viewOf (e .arg) slots′) b′ room′ ≡ runOf e 1 (run x (viewOf (e .arg) slots) b room)) where
     valid₀ : Valid e (run x (viewOf (e .arg) slots) b room)
     valid₀ = standing-valid e R st room words counts
@@ -247,10 +246,10 @@ module _ (e : Env) (R : Ruled e) where
     most₁ : x′ .steps ≤ budget
     most₁ = let a = steps₁ in omega arith
 
-    took₁ : ((x′ .live ≡ 3) × Far F x′ room′ (stopped 8 0)) ⊎ Took e R F (budget - x′ .steps) next (resume s []) (run x′ (viewOf (e .arg) slots′) b′ room′)
+    took₁ : ((x′ .live ≡ 3) × Far F x′ room′ (stopped 8 0)) ⊎ Took e R F (budget - x′ .steps) next (resume (e .dialect) s []) (run x′ (viewOf (e .arg) slots′) b′ room′)
     took₁ = ⊎-elim
         (λ y. inl (subst (λ (u : Run). (u .state .live ≡ 3) × Far F (u .state) (u .room) (stopped 8 0)) (sym q) y))
-        (λ y. inr (subst (λ i. Took e R F i next (resume s []) (run x′ (viewOf (e .arg) slots′) b′ room′)) budget₁ (subst (Took e R F (budget - suc (x .steps)) next (resume s [])) (sym q) y)))
+        (λ y. inr (subst (λ i. Took e R F i next (resume (e .dialect) s []) (run x′ (viewOf (e .arg) slots′) b′ room′)) budget₁ (subst (Took e R F (budget - suc (x .steps)) next (resume (e .dialect) s [])) (sym q) y)))
         (first-took e R x (viewOf (e .arg) slots) b room valid₀ (st .live-is) F (budget - suc (x .steps)) next s (st .rep) out₀ far)
 
     pub first-outcome : (getD (e .op) (x .pc) 0 ≡ 16 → ⊥) → Outcome F budget next base false x′ slots′ b′ room′
@@ -270,11 +269,11 @@ module _ (e : Env) (R : Ruled e) where
           some = λ z h. let a = y .0 in absurd (omega arith);
         }
 
-        some₁ : Took e R F (budget - x′ .steps) next (resume s []) (run x′ (viewOf (e .arg) slots′) b′ room′) → Outcome F budget next base false x′ slots′ b′ room′
+        some₁ : Took e R F (budget - x′ .steps) next (resume (e .dialect) s []) (run x′ (viewOf (e .arg) slots′) b′ room′) → Outcome F budget next base false x′ slots′ b′ room′
         some₁ t =
             let h = subst (λ (u : Run). Shallows (D e R) (code e R) (points e R) (stood e R (u .state) (u .tables) (u .binds))) (sym q)
             (next-shallow e R x (viewOf (e .arg) slots) b room valid₀ (st .live-is) s [] (st .rep) top n (λ z. t .going (ap (λ (u : Run). u .state .live) q ∙ z)) out₀) in
-            settled-outcome F budget next base (resume s []) x′ slots′ b′ room′ valid₁ t (plain-rep (D e R) (code e R) (points e R) (t .stands) h .1) h phase₁ most₁ kept₁
+            settled-outcome F budget next base (resume (e .dialect) s []) x′ slots′ b′ room′ valid₁ t (plain-rep (D e R) (code e R) (points e R) (t .stands) h .1) h phase₁ most₁ kept₁
 
     denied : getD (e .op) (x .pc) 0 ≡ 16 → (i : ℕ) × (to : ℕ) × (code e R (x .pc) ≡ deny i to)
     unfolding confOf lineAt
@@ -286,8 +285,8 @@ module _ (e : Env) (R : Ruled e) where
         let d = denied n in
         let t = not-took e R x (viewOf (e .arg) slots) b room valid₀ (st .live-is) F (budget - suc (x .steps)) next s (st .rep) out₀ (d .0) (d .1) (d .2) far in
         record {
-          states = resume s [];
-          took = subst (λ i. Took e R F i next (resume s []) (run x′ (viewOf (e .arg) slots′) b′ room′)) budget₁ (subst (Took e R F (budget - suc (x .steps)) next (resume s [])) (sym q) t);
+          states = resume (e .dialect) s [];
+          took = subst (λ i. Took e R F i next (resume (e .dialect) s []) (run x′ (viewOf (e .arg) slots′) b′ room′)) budget₁ (subst (Took e R F (budget - suc (x .steps)) next (resume (e .dialect) s [])) (sym q) t);
           deep = not-step (D e R) (code e R) (points e R) (follows e R) (st .rep) (d .0) (d .1) (d .2);
           valid = valid₁;
           phase = phase₁;

@@ -77,7 +77,7 @@ module _ (e : Env) (R : Ruled e) (used : ℕ) (U : Used e R used) (T : ℕ → k
   below : suc j ≤ K .x .pc
   below = go (K .stands .rep)
     where
-      go : Rep (D e R) (code e R) (points e R) (some (confOf (e .form) (e .words) (R .target-is) (K .x) (viewOf (e .arg) (K .slots)) (K .b))) (br .first ∷ br .others) → suc j ≤ K .x .pc
+      go : Rep (D e R) (code e R) (points e R) (some (confOf (e .dialect) (e .form) (e .words) (R .target-is) (K .x) (viewOf (e .arg) (K .slots)) (K .b))) (br .first ∷ br .others) → suc j ≤ K .x .pc
       go (live l a ch) = unfold confOf in omega (arith, l, top)
 
   place-j : j < entries
@@ -135,9 +135,9 @@ module _ (e : Env) (R : Ruled e) (used : ℕ) (U : Used e R used) (T : ℕ → k
     }
 
     abbrev c₂ : Conf (D e R)
-    c₂ = confOf (e .form) (e .words) (R .target-is) before t₂ b
+    c₂ = confOf (e .dialect) (e .form) (e .words) (R .target-is) before t₂ b
 
-    frame-same : (i : ℕ) → suc j ≡ suc i → same.Frame (D e R) (Own e) (code e R) (points e R) (slotsOf (e .form) (e .words) (R .target-is) tk) (slotsOf (e .form) (e .words) (R .target-is) t₂) i
+    frame-same : (i : ℕ) → suc j ≡ suc i → same.Frame (D e R) (Own e) (code e R) (points e R) (slotsOf (e .dialect) (e .form) (e .words) (R .target-is) tk) (slotsOf (e .dialect) (e .form) (e .words) (R .target-is) t₂) i
     unfolding slotsOf putFrame confOf
     frame-same i h = let q : i ≡ j = omega arith in rw q (record {
       opens = opens;
@@ -147,7 +147,7 @@ module _ (e : Env) (R : Ruled e) (used : ℕ) (U : Used e R used) (T : ℕ → k
       still = low₂ j place-j;
     })
 
-    seconds₂ : same.Seconds (D e R) (Own e) (slotsOf (e .form) (e .words) (R .target-is) tk) (slotsOf (e .form) (e .words) (R .target-is) t₂) (suc j)
+    seconds₂ : same.Seconds (D e R) (Own e) (slotsOf (e .dialect) (e .form) (e .words) (R .target-is) tk) (slotsOf (e .dialect) (e .form) (e .words) (R .target-is) t₂) (suc j)
     unfolding slotsOf putFrame
     seconds₂ i h o =
         seconds e R used U T br K slots₀ slots b₀ b C L (suc j) (let a = place-j in omega arith) i h o
@@ -156,7 +156,7 @@ module _ (e : Env) (R : Ruled e) (used : ℕ) (U : Used e R used) (T : ℕ → k
     rest-rep : Rep (D e R) (code e R) (points e R) (nextChoice (D e R) (code e R) (suc j) c₂) (br .others) × ((o : paper.State) × (rest : List paper.State) × (br .others ≡ o ∷ rest))
     rest-rep = go (K .stands .rep)
       where
-        go : Rep (D e R) (code e R) (points e R) (some (confOf (e .form) (e .words) (R .target-is) (K .x) (viewOf (e .arg) (K .slots)) (K .b))) (br .first ∷ br .others)
+        go : Rep (D e R) (code e R) (points e R) (some (confOf (e .dialect) (e .form) (e .words) (R .target-is) (K .x) (viewOf (e .arg) (K .slots)) (K .b))) (br .first ∷ br .others)
             → Rep (D e R) (code e R) (points e R) (nextChoice (D e R) (code e R) (suc j) c₂) (br .others) × ((o : paper.State) × (rest : List paper.State) × (br .others ≡ o ∷ rest))
         go (live l a ch) = unfold confOf in (
           choice-rep (D e R) (code e R) (points e R) c₂
@@ -182,10 +182,10 @@ module _ (e : Env) (R : Ruled e) (used : ℕ) (U : Used e R used) (T : ℕ → k
       unfolding settleOf when
       picked = is
 
-      stood₃ : nextChoice (D e R) (code e R) (suc j) c₂ ≡ standing (e .form) (e .words) (R .target-is) z (viewOf (e .arg) slots₃) b
+      stood₃ : nextChoice (D e R) (code e R) (suc j) c₂ ≡ standing (e .dialect) (e .form) (e .words) (R .target-is) z (viewOf (e .arg) slots₃) b
       unfolding stands
       stood₃ = pick-is e (R .target-is) before t₂ b (before-valid room w c .long) (code e R) (suc j) refl divided picks
-          ∙ ap (λ (u : Turned). standing (e .form) (e .words) (R .target-is) (u .state) (u .tables) b) (sym picked)
+          ∙ ap (λ (u : Turned). standing (e .dialect) (e .form) (e .words) (R .target-is) (u .state) (u .tables) b) (sym picked)
 
       valid₃ : Valid e (run z (viewOf (e .arg) slots₃) b room)
       unfolding settled when afterTurn
@@ -195,17 +195,17 @@ module _ (e : Env) (R : Ruled e) (used : ℕ) (U : Used e R used) (T : ℕ → k
       one-or-none = subst (λ (u : Turned). (u .state .live ≡ 0) ⊎ (u .state .live ≡ 1)) (sym picked) (pick-chose (e .op) (e .from) (e .to) (e .words) before t₂ .live)
 
       abbrev c₃ : Conf (D e R)
-      c₃ = confOf (e .form) (e .words) (R .target-is) z (viewOf (e .arg) slots₃) b
+      c₃ = confOf (e .dialect) (e .form) (e .words) (R .target-is) z (viewOf (e .arg) slots₃) b
 
       -- Which of the two: some state is left.
-      some-live : (o : paper.State) (rest : List paper.State) → Rep (D e R) (code e R) (points e R) (standing (e .form) (e .words) (R .target-is) z (viewOf (e .arg) slots₃) b) (o ∷ rest) → z .live ≡ 1
+      some-live : (o : paper.State) (rest : List paper.State) → Rep (D e R) (code e R) (points e R) (standing (e .dialect) (e .form) (e .words) (R .target-is) z (viewOf (e .arg) slots₃) b) (o ∷ rest) → z .live ≡ 1
       unfolding standing when
       some-live o rest r = ⊎-elim (λ h. absurd (none-left (subst (λ n. Rep (D e R) (code e R) (points e R) (when (eqb n 0) none (some c₃)) (o ∷ rest)) h r))) (λ h. h) one-or-none
         where
           none-left : Rep (D e R) (code e R) (points e R) none (o ∷ rest) → ⊥
           none-left = elim [ ]
 
-      live-conf : z .live ≡ 1 → standing (e .form) (e .words) (R .target-is) z (viewOf (e .arg) slots₃) b ≡ some c₃
+      live-conf : z .live ≡ 1 → standing (e .dialect) (e .form) (e .words) (R .target-is) z (viewOf (e .arg) slots₃) b ≡ some c₃
       unfolding standing when
       live-conf h = rw h
 

@@ -44,7 +44,7 @@ pub record Ruled (e : Env) : Type 0 where
   pub fit : fits (rule .pattern) (rule .matcher) 0 [] ≡ ok kinds
   pub wide : Widthsᵖ (rule .pattern)
   pub closed : Closed (rule .pattern)
-  pub is : places (e .form) (e .words) target-is .Is (rule .matcher) (binding 0 (wholeAt (e .words) 0)) (target value)
+  pub is : places (e .dialect) (e .form) (e .words) target-is .Is (rule .matcher) (binding 0 (wholeAt (e .words) 0)) (target value)
 
 -- A line has a slot of its own: its number is no variable's.
 unfoldable pub Own : Env → ℕ → Type 0
@@ -90,7 +90,7 @@ module _ (e : Env) (R : Ruled e) where
     where
       split-owns : (pc : ℕ) (k : Kind) → Means (e .matcher) (e .vars) (lineAt e pc) (getD (e .to) pc 0) (split k) → Own e pc
       split-owns pc k (means-list m h) = own-at pc (omega arith) (omega arith)
-      split-owns pc k (means-multiset m h) = own-at pc (omega arith) (omega arith)
+      split-owns pc k (means-multiset m h a) = own-at pc (omega arith) (omega arith)
       split-owns pc k (means-join m h) = own-at pc (omega arith) (omega arith)
 
       keep-owns : (pc : ℕ) → Means (e .matcher) (e .vars) (lineAt e pc) (getD (e .to) pc 0) keep → Own e pc

@@ -68,8 +68,8 @@ module _ (e : Env) (R : Ruled e) where
     pub place : x .pc < entries
     pub held : Held (e .words) (x .at) (x .marks)
     pub frames : Open (e .op) (e .words) (x .top) (viewOf (e .arg) slots)
-    pub rep : Rep (D e R) (code e R) (points e R) (some (confOf (e .form) (e .words) (R .target-is) x (viewOf (e .arg) slots) b)) (br .first ∷ br .others)
-    pub shallow : Shallow (D e R) (code e R) (points e R) (confOf (e .form) (e .words) (R .target-is) x (viewOf (e .arg) slots) b)
+    pub rep : Rep (D e R) (code e R) (points e R) (some (confOf (e .dialect) (e .form) (e .words) (R .target-is) x (viewOf (e .arg) slots) b)) (br .first ∷ br .others)
+    pub shallow : Shallow (D e R) (code e R) (points e R) (confOf (e .dialect) (e .form) (e .words) (R .target-is) x (viewOf (e .arg) slots) b)
 
   -- It can be taken up.
   pub standing-valid : {x : State} {slots : List ℕ} {b : List Binding} {br : Branch} → Standing x slots b br → (room : List ℤ) → x .words ≤ length room → x .rows ≤ x .steps
@@ -179,11 +179,11 @@ module _ (e : Env) (R : Ruled e) where
         bind v h true f g = rw (L .binds v (f refl), K .binds v (f refl)) (K .stands .clean .binds .are v h)
         bind v h false f g = rw (L .old-binds v (g refl)) (C .binds .are v h)
 
-    pub seconds : (n : ℕ) → n ≤ entries → Seconds (D e R) (Own e) (slotsOf (e .form) (e .words) (R .target-is) (viewOf (e .arg) (K .slots))) (slotsOf (e .form) (e .words) (R .target-is) (viewOf (e .arg) slots)) n
+    pub seconds : (n : ℕ) → n ≤ entries → Seconds (D e R) (Own e) (slotsOf (e .dialect) (e .form) (e .words) (R .target-is) (viewOf (e .arg) (K .slots))) (slotsOf (e .dialect) (e .form) (e .words) (R .target-is) (viewOf (e .arg) slots)) n
     unfolding slotsOf Own
     seconds n h i l o = ap₂ binding (sym (at-own i (omega arith) o)) (sym (back-own i (omega arith) o))
 
-    pub binds-same : (v : ℕ) → v < e .vars → bindsOf (e .form) (e .words) (R .target-is) (K .b) v ≡ bindsOf (e .form) (e .words) (R .target-is) b v
+    pub binds-same : (v : ℕ) → v < e .vars → bindsOf (e .dialect) (e .form) (e .words) (R .target-is) (K .b) v ≡ bindsOf (e .dialect) (e .form) (e .words) (R .target-is) b v
     unfolding bindsOf
     binds-same v h = sym (L .binds v h ∙ ap (λ (q : kept.Held). binding (q .at) (q .marks)) (K .binds v h))
 
@@ -196,13 +196,13 @@ module _ (e : Env) (R : Ruled e) where
       unfolding confOf
       out = outside (D e R) (code e R) (points e R) (K .stands .rep) (K .stands .shallow)
 
-      alone-again : Rep (D e R) (code e R) (points e R) (some (confOf (e .form) (e .words) (R .target-is) firstAlone (viewOf (e .arg) slots) b)) (br .first ∷ [])
+      alone-again : Rep (D e R) (code e R) (points e R) (some (confOf (e .dialect) (e .form) (e .words) (R .target-is) firstAlone (viewOf (e .arg) slots) b)) (br .first ∷ [])
       unfolding confOf
       alone-again = go (K .stands .rep)
         where
-          go : Rep (D e R) (code e R) (points e R) (some (confOf (e .form) (e .words) (R .target-is) (K .x) (viewOf (e .arg) (K .slots)) (K .b))) (br .first ∷ br .others)
-              → Rep (D e R) (code e R) (points e R) (some (confOf (e .form) (e .words) (R .target-is) firstAlone (viewOf (e .arg) slots) b)) (br .first ∷ [])
-          go (live l a ch) = live {c = confOf (e .form) (e .words) (R .target-is) firstAlone (viewOf (e .arg) slots) b} {s = br .first} {ss = []} (omega arith)
+          go : Rep (D e R) (code e R) (points e R) (some (confOf (e .dialect) (e .form) (e .words) (R .target-is) (K .x) (viewOf (e .arg) (K .slots)) (K .b))) (br .first ∷ br .others)
+              → Rep (D e R) (code e R) (points e R) (some (confOf (e .dialect) (e .form) (e .words) (R .target-is) firstAlone (viewOf (e .arg) slots) b)) (br .first ∷ [])
+          go (live l a ch) = live {c = confOf (e .dialect) (e .form) (e .words) (R .target-is) firstAlone (viewOf (e .arg) slots) b} {s = br .first} {ss = []} (omega arith)
               (at-kept (D e R) (Own e) (code e R) (points e R) (owned e R) (owning e R .sides) (e .vars) (few e R) refl (seconds (K .x .pc) (let p = K .stands .place in omega arith)) binds-same a)
               (rw out shut)
 

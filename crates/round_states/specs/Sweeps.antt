@@ -5,7 +5,6 @@ use mathlib.Core.Path.{_≡_, refl, sym, ap, ap₂, _∙_, subst}
 use mathlib.Core.List.{List, [], _∷_, _++_, flatMap, append-nil, append-assoc}
 use lib.ListN.{length, length-append}
 use lib.IntN.{ℤ}
-use Rattle.rules.specs.Dialects.{everyPlace}
 use Rattle.rules.specs.Search as paper
 use Rattle.round_rules.specs.Rounds.{Branch, branch, remainders, states, waiting, takeUp, takeRound, byRounds}
 use Rattle.value_rows.specs.declared.Binding.{Binding}
@@ -76,13 +75,13 @@ module _ (e : Env) (R : Ruled e) (used : ℕ) (U : Used e R used) where
     pub new-lists : Lists e R used U ws 0 new
     pub rest-lists : Lists e R used U ws i rest
     pub left-lists : Lists e R used U ws many (remainders done)
-    pub far : Far F x room (takeRound everyPlace (e .form) (budget - x .steps) rest new (length room - x .words) (λ l nw free. byRounds everyPlace (e .form) rounds limit l (nw ++ remainders (done ++ rest)) free))
+    pub far : Far F x room (takeRound (e .dialect) (e .form) (budget - x .steps) rest new (length room - x .words) (λ l nw free. byRounds (e .dialect) (e .form) rounds limit l (nw ++ remainders (done ++ rest)) free))
     pub fuel : budget + i ≤ x .steps + suc rounds
 
   -- What comes after the first state of the next list.
   unfoldable pub after : (rounds limit : ℕ) (done rest new : List Branch) → Next e R
   after rounds limit done rest new l ss free =
-      takeRound everyPlace (e .form) l rest (new ++ branch ss) free (λ k nw fr. byRounds everyPlace (e .form) rounds limit k (nw ++ remainders done) fr)
+      takeRound (e .dialect) (e .form) l rest (new ++ branch ss) free (λ k nw fr. byRounds (e .dialect) (e .form) rounds limit k (nw ++ remainders done) fr)
 
   -- There is a place for its remainder.
   module _ {F : paper.Run} {rounds limit budget many : ℕ} {ws : List ℤ} {i fresh left wait : ℕ} {x : State} {room : List ℤ} (S : Sweeping F rounds limit budget many ws i fresh left wait x room)
@@ -109,10 +108,10 @@ module _ (e : Env) (R : Ruled e) (used : ℕ) (U : Used e R used) where
 
     -- The run as it stands is that of its first state taken up.
     pub next-far : (n : ℕ) → budget - x .steps ≡ suc n
-        → Far F x room (takeUp everyPlace (e .form) n (br .first) (length room - x .words) (after rounds limit (S .done ++ S .rest) bs (S .new)))
+        → Far F x room (takeUp (e .dialect) (e .form) n (br .first) (length room - x .words) (after rounds limit (S .done ++ S .rest) bs (S .new)))
     unfolding takeRound after
-    next-far n h = subst (λ (k : ℕ). Far F x room (takeRound everyPlace (e .form) k (br ∷ bs) (S .new) (length room - x .words) (λ l nw free. byRounds everyPlace (e .form) rounds limit l (nw ++ remainders (S .done ++ S .rest)) free))) h
-        (subst (λ l. Far F x room (takeRound everyPlace (e .form) (budget - x .steps) l (S .new) (length room - x .words) (λ l nw free. byRounds everyPlace (e .form) rounds limit l (nw ++ remainders (S .done ++ S .rest)) free))) is (S .far))
+    next-far n h = subst (λ (k : ℕ). Far F x room (takeRound (e .dialect) (e .form) k (br ∷ bs) (S .new) (length room - x .words) (λ l nw free. byRounds (e .dialect) (e .form) rounds limit l (nw ++ remainders (S .done ++ S .rest)) free))) h
+        (subst (λ l. Far F x room (takeRound (e .dialect) (e .form) (budget - x .steps) l (S .new) (length room - x .words) (λ l nw free. byRounds (e .dialect) (e .form) rounds limit l (nw ++ remainders (S .done ++ S .rest)) free))) is (S .far))
 
     -- ---- The list is done: its remainder stands behind the others, and what follows from its first state is new.
 
@@ -174,8 +173,8 @@ module _ (e : Env) (R : Ruled e) (used : ℕ) (U : Used e R used) where
           new-lists = new-lists₁;
           rest-lists = rest-lists₁;
           left-lists = left-lists₁;
-          far = subst (λ q. Far F x₁ room₁ (takeRound everyPlace (e .form) (budget - x₁ .steps) bs (S .new) (length room₁ - x₁ .words) (λ l nw free. byRounds everyPlace (e .form) rounds limit l (nw ++ remainders q) free))) (sym same-lists)
-              (subst (λ q. Far F x₁ room₁ (takeRound everyPlace (e .form) (budget - x₁ .steps) bs q (length room₁ - x₁ .words) (λ l nw free. byRounds everyPlace (e .form) rounds limit l (nw ++ remainders (S .done ++ S .rest)) free))) (append-nil (S .new)) far₁);
+          far = subst (λ q. Far F x₁ room₁ (takeRound (e .dialect) (e .form) (budget - x₁ .steps) bs (S .new) (length room₁ - x₁ .words) (λ l nw free. byRounds (e .dialect) (e .form) rounds limit l (nw ++ remainders q) free))) (sym same-lists)
+              (subst (λ q. Far F x₁ room₁ (takeRound (e .dialect) (e .form) (budget - x₁ .steps) bs q (length room₁ - x₁ .words) (λ l nw free. byRounds (e .dialect) (e .form) rounds limit l (nw ++ remainders (S .done ++ S .rest)) free))) (append-nil (S .new)) far₁);
           fuel = let a = S .fuel in omega arith;
         }
 
@@ -200,7 +199,7 @@ module _ (e : Env) (R : Ruled e) (used : ℕ) (U : Used e R used) where
           new-lists = lists-join e R used U ws₂ 0 (S .new) (br₁ ∷ []) (lists-same e R used U ws₁ ws₂ 0 (S .new) (λ k a b. low k (let c = S .made in omega arith)) new-lists₁) one-more;
           rest-lists = lists-same e R used U ws₁ ws₂ (suc i) bs (λ k a b. high k (let c = S .fewer in omega arith)) rest-lists₁;
           left-lists = lists-same e R used U ws₁ ws₂ many (remainders done₁) (λ k a b. high k (let c = S .fewer in let d = next-place in omega arith)) left-lists₁;
-          far = subst (λ q. Far F x₁ room₁ (takeRound everyPlace (e .form) (budget - x₁ .steps) bs (S .new ++ (br₁ ∷ [])) (length room₁ - x₁ .words) (λ l nw free. byRounds everyPlace (e .form) rounds limit l (nw ++ remainders q) free))) (sym same-lists) far₁;
+          far = subst (λ q. Far F x₁ room₁ (takeRound (e .dialect) (e .form) (budget - x₁ .steps) bs (S .new ++ (br₁ ∷ [])) (length room₁ - x₁ .words) (λ l nw free. byRounds (e .dialect) (e .form) rounds limit l (nw ++ remainders q) free))) (sym same-lists) far₁;
           fuel = let a = S .fuel in omega arith;
         }
           where

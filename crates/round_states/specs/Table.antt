@@ -38,7 +38,7 @@ module _ (e : Env) (R : Ruled e) where
   unfolding confOf
   top-place {x} {slots} {b} {br} s = go (s .rep)
     where
-      go : Rep (D e R) (code e R) (points e R) (some (confOf (e .form) (e .words) (R .target-is) x (viewOf (e .arg) slots) b)) (br .first ∷ br .others) → x .top ≤ x .pc
+      go : Rep (D e R) (code e R) (points e R) (some (confOf (e .dialect) (e .form) (e .words) (R .target-is) x (viewOf (e .arg) slots) b)) (br .first ∷ br .others) → x .top ≤ x .pc
       go (live l a ch) = l
 
   -- The r-th list of the table.

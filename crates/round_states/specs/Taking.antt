@@ -11,10 +11,9 @@ use lib.ListN.{length, getD, take, drop}
 use lib.Dec.{leb, eqb}
 use lib.IntN.{ℤ}
 use borrow.Author.Tests.{eqb-true}
-use Rattle.rules.specs.Dialects.{everyPlace}
 use Rattle.rules.specs.Rows.{Form, row}
 use Rattle.rules.specs.Search as paper
-use Rattle.rules.specs.Search.{atom, endOfNot, state, after, stopped, step, rowStep}
+use Rattle.rules.specs.Search.{atom, endOfNot, state, stopped, step, rowStep}
 use Rattle.round_rules.specs.Rounds.{searching, onFirst, unmarked, Inside, spent, left, oneMore, inside, past, takeUp}
 use Rattle.words.specs.Words.{entries}
 use Rattle.program_rules.specs.Points.{Instr, deny, cutAt, Point, resume}
@@ -74,7 +73,7 @@ Far F x room r = F ≡ on (x .rows) (x .steps) (take (x .words) room) r
 
 module _ (e : Env) (R : Ruled e) where
   abbrev pub D : Data
-  D = places (e .form) (e .words) (R .target-is)
+  D = places (e .dialect) (e .form) (e .words) (R .target-is)
 
   abbrev pub code : ℕ → Instr
   code = program (R .rule .matcher) (R .rule .pattern)
@@ -83,7 +82,7 @@ module _ (e : Env) (R : Ruled e) where
   points = pointAt (R .rule .matcher) (R .rule .pattern)
 
   abbrev pub stood : State → Tables → List Binding → Option (Conf D)
-  stood x t b = standing (e .form) (e .words) (R .target-is) x t b
+  stood x t b = standing (e .dialect) (e .form) (e .words) (R .target-is) x t b
 
   -- Nothing that it holds lies outside the target, and it can be counted.
   abbrev pub StandsIn : List ℤ → Run → Type 0
@@ -96,7 +95,7 @@ module _ (e : Env) (R : Ruled e) where
   same-fields halted = (refl, refl, refl, refl, refl)
 
   module _ (x : State) (t : Tables) (b : List Binding) (room : List ℤ) (valid : Valid e (run x t b room)) (one : x .live ≡ 1)
-      (s : paper.State) (ss : List paper.State) (rep : Rep D code points (some (confOf (e .form) (e .words) (R .target-is) x t b)) (s ∷ ss)) where
+      (s : paper.State) (ss : List paper.State) (rep : Rep D code points (some (confOf (e .dialect) (e .form) (e .words) (R .target-is) x t b)) (s ∷ ss)) where
     abbrev r : Run
     r = run x t b room
 
@@ -106,7 +105,7 @@ module _ (e : Env) (R : Ruled e) where
     abbrev k₀ : Machine
     k₀ = record { waiting = s ∷ ss; left = length room - x .words; rows = x .rows; steps = x .steps; written = take (x .words) room; full = false }
 
-    same₀ : Same D code points (follows e R) (engineOf (e .form) (e .words) (R .target-is) r) k₀
+    same₀ : Same D code points (follows e R) (engineOf (e .dialect) (e .form) (e .words) (R .target-is) r) k₀
     unfolding engineOf standing when
     same₀ = rw one (running rep)
 
@@ -138,9 +137,9 @@ module _ (e : Env) (R : Ruled e) where
 
     -- The machine then.
     abbrev k₁ : Machine
-    k₁ = once (e .form) k₀
+    k₁ = once (e .dialect) (e .form) k₀
 
-    same₁ : Same D code points (follows e R) (engineOf (e .form) (e .words) (R .target-is) r₁) k₁
+    same₁ : Same D code points (follows e R) (engineOf (e .dialect) (e .form) (e .words) (R .target-is) r₁) k₁
     unfolding turns
     same₁ = subst (λ k. Same D code points (follows e R) k k₁)
         (sym (run-is e (R .target-is) (R .fine) (R .rule .matcher) (R .rule .pattern) 0 (R .kinds) (R .fit) (R .wide) (R .closed) (means e R) (ends-after e R) 1 room r stands₀))
@@ -161,14 +160,14 @@ module _ (e : Env) (R : Ruled e) where
     pub pass : (L : List paper.State) → k₁ ≡ passing k₀ L → Passed L
     unfolding passing engineOf
     pass L h =
-        let f = same-fields (subst (λ k. Same D code points (follows e R) (engineOf (e .form) (e .words) (R .target-is) r₁) k) h same₁) in
+        let f = same-fields (subst (λ k. Same D code points (follows e R) (engineOf (e .dialect) (e .form) (e .words) (R .target-is) r₁) k) h same₁) in
         record {
           rows = f .0;
           steps = f .1;
           words = f .2;
           free = f .3;
           going = not-full (f .4);
-          stands = same-waiting D code points (follows e R) (subst (λ k. Same D code points (follows e R) (engineOf (e .form) (e .words) (R .target-is) r₁) k) h same₁) (f .4);
+          stands = same-waiting D code points (follows e R) (subst (λ k. Same D code points (follows e R) (engineOf (e .dialect) (e .form) (e .words) (R .target-is) r₁) k) h same₁) (f .4);
         }
 
     -- It has written a row.
@@ -183,14 +182,14 @@ module _ (e : Env) (R : Ruled e) where
     pub write : (ws : List ℤ) (L : List paper.State) → k₁ ≡ writing k₀ ws L → Wrote ws L
     unfolding writing engineOf
     write ws L h =
-        let f = same-fields (subst (λ k. Same D code points (follows e R) (engineOf (e .form) (e .words) (R .target-is) r₁) k) h same₁) in
+        let f = same-fields (subst (λ k. Same D code points (follows e R) (engineOf (e .dialect) (e .form) (e .words) (R .target-is) r₁) k) h same₁) in
         record {
           rows = f .0;
           steps = f .1;
           words = f .2;
           free = f .3;
           going = not-full (f .4);
-          stands = same-waiting D code points (follows e R) (subst (λ k. Same D code points (follows e R) (engineOf (e .form) (e .words) (R .target-is) r₁) k) h same₁) (f .4);
+          stands = same-waiting D code points (follows e R) (subst (λ k. Same D code points (follows e R) (engineOf (e .dialect) (e .form) (e .words) (R .target-is) r₁) k) h same₁) (f .4);
         }
 
     -- The row did not fit.
@@ -206,5 +205,5 @@ module _ (e : Env) (R : Ruled e) where
     pub fill : (L : List paper.State) → k₁ ≡ filling k₀ L → Filled
     unfolding filling engineOf
     fill L h =
-        let f = same-fields (subst (λ k. Same D code points (follows e R) (engineOf (e .form) (e .words) (R .target-is) r₁) k) h same₁) in
+        let f = same-fields (subst (λ k. Same D code points (follows e R) (engineOf (e .dialect) (e .form) (e .words) (R .target-is) r₁) k) h same₁) in
         record { rows = f .0; steps = f .1; words = f .2; full = is-three (r₁ .state .live) (f .4) }

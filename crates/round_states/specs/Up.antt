@@ -10,12 +10,11 @@ use lib.ListN.{length, getD, take}
 use lib.Dec.{leb}
 use lib.IntN.{ℤ}
 use borrow.Author.Tests.{ne-eqb}
-use Rattle.rules.specs.Dialects.{everyPlace}
 use Rattle.rules.specs.Rows.{row}
 use Rattle.rules.specs.Search as paper
 use Rattle.rules.specs.Forms.{Matcher, Pattern}
 use Rattle.rules.specs.Origins.{Valueᵒ, Bindings}
-use Rattle.rules.specs.Search.{Atom, atom, endOfNot, state, after, afterIn, leaveNot, stopped, step, rowStep}
+use Rattle.rules.specs.Search.{Atom, atom, endOfNot, state, afterIn, leaveNot, stopped, step, rowStep}
 use Rattle.round_rules.specs.Rounds.{searching, onFirst, unmarked, spent, left, oneMore, inside, past, takeUp}
 use Rattle.program_rules.specs.Points.{Instr, strip, keep, other, close, drop, bind, test, split, apart, choice, deny, cutAt, end, Point, resume}
 use Rattle.program_rules.specs.Points as point
@@ -86,7 +85,7 @@ sixteen (means-integer x) h = absurd (omega arith)
 sixteen (means-value m x y z) h = absurd (omega arith)
 sixteen (means-nil m x) h = absurd (omega arith)
 sixteen (means-list m x) h = absurd (omega arith)
-sixteen (means-multiset m x) h = absurd (omega arith)
+sixteen (means-multiset m x a) h = absurd (omega arith)
 sixteen (means-join m x) h = absurd (omega arith)
 sixteen (means-tuple n x y) h = absurd (omega arith)
 sixteen (means-keep x) h = absurd (omega arith)
@@ -99,31 +98,31 @@ sixteen (means-close x) h = absurd (omega arith)
 module _ (e : Env) (R : Ruled e) where
   -- After a state was taken up and some of the search inside it, if any: L are the states of that search, or those that follow, with the budget n.
   pub record Took (F : paper.Run) (n : ℕ) (next : ℕ → List paper.State → ℕ → paper.Run) (L : List paper.State) (q : Run) : Type 0 where
-    pub far : Far F (q .state) (q .room) (past n (inside everyPlace n L) (length (q .room) - q .state .words) next)
+    pub far : Far F (q .state) (q .room) (past n (inside (e .dialect) n L) (length (q .room) - q .state .words) next)
     pub going : q .state .live ≡ 3 → ⊥
     pub stands : Rep (D e R) (code e R) (points e R) (stood e R (q .state) (q .tables) (q .binds)) L
 
   module _ (x : State) (t : Tables) (b : List Binding) (room : List ℤ) (valid : Valid e (run x t b room)) (one : x .live ≡ 1) where
     abbrev c : Conf (D e R)
-    c = confOf (e .form) (e .words) (R .target-is) x t b
+    c = confOf (e .dialect) (e .form) (e .words) (R .target-is) x t b
 
     abbrev pub r₁ : Run
     r₁ = runOf e 1 (run x t b room)
 
     module _ (s : paper.State) (ss : List paper.State) (rep : Rep (D e R) (code e R) (points e R) (some c) (s ∷ ss)) where
-      engine₁ : engineOf (e .form) (e .words) (R .target-is) r₁ ≡ turn (D e R) (code e R) (engineOf (e .form) (e .words) (R .target-is) (run x t b room))
+      engine₁ : engineOf (e .dialect) (e .form) (e .words) (R .target-is) r₁ ≡ turn (D e R) (code e R) (engineOf (e .dialect) (e .form) (e .words) (R .target-is) (run x t b room))
       unfolding turns
       engine₁ = run-is e (R .target-is) (R .fine) (R .rule .matcher) (R .rule .pattern) 0 (R .kinds) (R .fit) (R .wide) (R .closed) (means e R) (ends-after e R) 1 room (run x t b room) (stands₀ e R x t b room valid one s ss rep)
 
-      full₀ : engineOf (e .form) (e .words) (R .target-is) (run x t b room) .full ≡ false
+      full₀ : engineOf (e .dialect) (e .form) (e .words) (R .target-is) (run x t b room) .full ≡ false
       unfolding engineOf
       full₀ = rw one
 
-      conf₀ : engineOf (e .form) (e .words) (R .target-is) (run x t b room) .conf ≡ some c
+      conf₀ : engineOf (e .dialect) (e .form) (e .words) (R .target-is) (run x t b room) .conf ≡ some c
       unfolding engineOf standing when
       conf₀ = rw one
 
-      full₁ : (r₁ .state .live ≡ 3 → ⊥) → engineOf (e .form) (e .words) (R .target-is) r₁ .full ≡ false
+      full₁ : (r₁ .state .live ≡ 3 → ⊥) → engineOf (e .dialect) (e .form) (e .words) (R .target-is) r₁ .full ≡ false
       unfolding engineOf
       full₁ h = ne-eqb (r₁ .state .live) 3 h
 
@@ -131,7 +130,7 @@ module _ (e : Env) (R : Ruled e) where
       unfolding engineOf confOf
       next-conf h =
           ap (λ (z : Engine (D e R)). z .conf) engine₁
-          ∙ turn-conf (D e R) (code e R) (engineOf (e .form) (e .words) (R .target-is) (run x t b room)) c full₀ conf₀ (sym (ap (λ (z : Engine (D e R)). z .full) engine₁) ∙ full₁ h)
+          ∙ turn-conf (D e R) (code e R) (engineOf (e .dialect) (e .form) (e .words) (R .target-is) (run x t b room)) c full₀ conf₀ (sym (ap (λ (z : Engine (D e R)). z .full) engine₁) ∙ full₁ h)
 
       -- Where a state stands that is no not's, at most one frame is open then.
       pub next-shallow : x .top ≡ 0 → (getD (e .op) (x .pc) 0 ≡ 16 → ⊥) → (r₁ .state .live ≡ 3 → ⊥) → point.inside (points e R (x .pc)) ≡ 0
@@ -148,13 +147,13 @@ module _ (e : Env) (R : Ruled e) where
 
       -- One step of a search inside a not.
       module _ (F : paper.Run) (n : ℕ) (next : ℕ → List paper.State → ℕ → paper.Run)
-          (far : Far F x room (past (suc n) (inside everyPlace (suc n) (s ∷ ss)) (length room - x .words) next)) (deep : searching (s ∷ ss) ≡ true) where
-        stepped : Far F x room (step (past n (inside everyPlace n (onFirst everyPlace (s ∷ ss))) (length room - x .words) next))
+          (far : Far F x room (past (suc n) (inside (e .dialect) (suc n) (s ∷ ss)) (length room - x .words) next)) (deep : searching (s ∷ ss) ≡ true) where
+        stepped : Far F x room (step (past n (inside (e .dialect) n (onFirst (e .dialect) (s ∷ ss))) (length room - x .words) next))
         unfolding Far
         stepped = far ∙ ap (on (x .rows) (x .steps) (take (x .words) room))
-            (ap (λ i. past (suc n) i (length room - x .words) next) (inside-more n (s ∷ ss) deep) ∙ past-more n (inside everyPlace n (onFirst everyPlace (s ∷ ss))) (length room - x .words) next)
+            (ap (λ i. past (suc n) i (length room - x .words) next) (inside-more (e .dialect) n (s ∷ ss) deep) ∙ past-more n (inside (e .dialect) n (onFirst (e .dialect) (s ∷ ss))) (length room - x .words) next)
 
-        passed-took : (L : List paper.State) → L ≡ onFirst everyPlace (s ∷ ss) → Passed e R x t b room valid one s ss rep L → Took F n next L r₁
+        passed-took : (L : List paper.State) → L ≡ onFirst (e .dialect) (s ∷ ss) → Passed e R x t b room valid one s ss rep L → Took F n next L r₁
         unfolding Far
         passed-took L q p = record {
           far = rw (p .rows, p .steps, p .words, p .free, q) (stepped ∙ on-step (x .rows) (x .steps) (take (x .words) room) _);
@@ -164,29 +163,29 @@ module _ (e : Env) (R : Ruled e) where
 
   module _ (x : State) (t : Tables) (b : List Binding) (room : List ℤ) (valid : Valid e (run x t b room)) (one : x .live ≡ 1) where
     abbrev c₀ : Conf (D e R)
-    c₀ = confOf (e .form) (e .words) (R .target-is) x t b
+    c₀ = confOf (e .dialect) (e .form) (e .words) (R .target-is) x t b
 
     inner-by : (s : paper.State) (ss : List paper.State) (rep : Rep (D e R) (code e R) (points e R) (some c₀) (s ∷ ss)) (F : paper.Run) (n : ℕ) (next : ℕ → List paper.State → ℕ → paper.Run)
-        → Far F x room (past (suc n) (inside everyPlace (suc n) (s ∷ ss)) (length room - x .words) next) → searching (s ∷ ss) ≡ true
-        → Took F n next (onFirst everyPlace (s ∷ ss)) (runOf e 1 (run x t b room))
+        → Far F x room (past (suc n) (inside (e .dialect) (suc n) (s ∷ ss)) (length room - x .words) next) → searching (s ∷ ss) ≡ true
+        → Took F n next (onFirst (e .dialect) (s ∷ ss)) (runOf e 1 (run x t b room))
     unfolding once stepOn onFirst
     inner-by (state g [] f) ss rep F n next far deep = absurd (no-row (D e R) (code e R) (points e R) rep deep)
     inner-by (state g (endOfNot ∷ older) f) ss rep F n next far deep =
         passed-took x t b room valid one (state g (endOfNot ∷ older) f) ss rep F n next far deep (leaveNot ss) refl (pass e R x t b room valid one (state g (endOfNot ∷ older) f) ss rep (leaveNot ss) refl)
     inner-by (state g (atom p m v ∷ older) f) ss rep F n next far deep =
-        passed-took x t b room valid one (state g (atom p m v ∷ older) f) ss rep F n next far deep (after p m v older f ++ ss) refl
-        (pass e R x t b room valid one (state g (atom p m v ∷ older) f) ss rep (after p m v older f ++ ss) refl)
+        passed-took x t b room valid one (state g (atom p m v ∷ older) f) ss rep F n next far deep (afterIn (e .dialect) p m v older f ++ ss) refl
+        (pass e R x t b room valid one (state g (atom p m v ∷ older) f) ss rep (afterIn (e .dialect) p m v older f ++ ss) refl)
 
     -- A search inside a not goes on by one step.
     pub inner-took : (L : List paper.State) → Rep (D e R) (code e R) (points e R) (some c₀) L → behind L ≡ true → (x .top ≡ 0 → ⊥)
-        → (F : paper.Run) (n : ℕ) (next : ℕ → List paper.State → ℕ → paper.Run) → Far F x room (past (suc n) (inside everyPlace (suc n) L) (length room - x .words) next)
-        → Took F n next (onFirst everyPlace L) (runOf e 1 (run x t b room)) × (behind (onFirst everyPlace L) ≡ true)
+        → (F : paper.Run) (n : ℕ) (next : ℕ → List paper.State → ℕ → paper.Run) → Far F x room (past (suc n) (inside (e .dialect) (suc n) L) (length room - x .words) next)
+        → Took F n next (onFirst (e .dialect) L) (runOf e 1 (run x t b room)) × (behind (onFirst (e .dialect) L) ≡ true)
     unfolding confOf
     inner-took L rep h z F n next far =
         let q = rep-some rep in (
-          subst (λ K. Took F n next (onFirst everyPlace K) (runOf e 1 (run x t b room))) (sym (q .2))
+          subst (λ K. Took F n next (onFirst (e .dialect) K) (runOf e 1 (run x t b room))) (sym (q .2))
               (inner-by (q .0) (q .1) (subst (Rep (D e R) (code e R) (points e R) (some c₀)) (q .2) rep) F n next
-              (subst (λ K. Far F x room (past (suc n) (inside everyPlace (suc n) K) (length room - x .words) next)) (q .2) far)
+              (subst (λ K. Far F x room (past (suc n) (inside (e .dialect) (suc n) K) (length room - x .words) next)) (q .2) far)
               (subst (λ K. searching K ≡ true) (q .2) (inside-open (D e R) (code e R) (points e R) rep h z))),
           inside-step (D e R) (code e R) (points e R) (follows e R) rep h z .1,
         )
@@ -200,7 +199,7 @@ module _ (e : Env) (R : Ruled e) where
       q₁ = runOf e 1 (run x t b room)
 
       row-took : (s : paper.State) (rep : Rep (D e R) (code e R) (points e R) (some c₀) (s ∷ [])) (ws : List ℤ) (fits : Bool)
-          → once (e .form) (record { waiting = s ∷ []; left = length room - x .words; rows = x .rows; steps = x .steps; written = take (x .words) room; full = false })
+          → once (e .dialect) (e .form) (record { waiting = s ∷ []; left = length room - x .words; rows = x .rows; steps = x .steps; written = take (x .words) room; full = false })
           ≡ elim fits as (λ _. Machine) [
             | true ↦ writing (record { waiting = s ∷ []; left = length room - x .words; rows = x .rows; steps = x .steps; written = take (x .words) room; full = false }) ws []
             | false ↦ filling (record { waiting = s ∷ []; left = length room - x .words; rows = x .rows; steps = x .steps; written = take (x .words) room; full = false }) []
@@ -211,7 +210,7 @@ module _ (e : Env) (R : Ruled e) where
       row-took s rep ws true k far =
           let p = write e R x t b room valid one s [] rep ws [] k in
           inr (record {
-            far = rw (p .rows, p .steps, p .words, p .free, inside-over n [] refl, past-over n [] (length room - x .words - length ws) next)
+            far = rw (p .rows, p .steps, p .words, p .free, inside-over (e .dialect) n [] refl, past-over n [] (length room - x .words - length ws) next)
                 (far ∙ on-row (x .rows) (x .steps) (take (x .words) room) ws _);
             going = p .going;
             stands = p .stands;
@@ -221,12 +220,12 @@ module _ (e : Env) (R : Ruled e) where
           inl (p .full, rw (p .rows, p .steps, p .words) (far ∙ on-full (x .rows) (x .steps) (take (x .words) room) 8))
 
       atom-took : (g : Bool) (p : Pattern) (m : Matcher) (v : Valueᵒ) (older : List Atom) (f : Bindings) → Rep (D e R) (code e R) (points e R) (some c₀) (state g (atom p m v ∷ older) f ∷ [])
-          → Far F x room (takeUp everyPlace (e .form) n (state g (atom p m v ∷ older) f) (length room - x .words) next) → Took F n next (resume (state g (atom p m v ∷ older) f) []) q₁
+          → Far F x room (takeUp (e .dialect) (e .form) n (state g (atom p m v ∷ older) f) (length room - x .words) next) → Took F n next (resume (e .dialect) (state g (atom p m v ∷ older) f) []) q₁
       unfolding takeUp resume once stepOn Far
       atom-took g p m v older f rep far =
-          let L = after p m v older f ++ [] in
+          let L = afterIn (e .dialect) p m v older f ++ [] in
           let q = pass e R x t b room valid one (state g (atom p m v ∷ older) f) [] rep L refl in
-          let z : L ≡ after p m v older f = append-nil (after p m v older f) in
+          let z : L ≡ afterIn (e .dialect) p m v older f = append-nil (afterIn (e .dialect) p m v older f) in
           record {
             far = rw (q .rows, q .steps, q .words, q .free, z) (far ∙ on-step (x .rows) (x .steps) (take (x .words) room) _);
             going = q .going;
@@ -235,7 +234,7 @@ module _ (e : Env) (R : Ruled e) where
 
       -- A not is taken up: what is inside stands.
       pub not-took : (s : paper.State) → Rep (D e R) (code e R) (points e R) (some c₀) (s ∷ []) → point.inside (points e R (x .pc)) ≡ 0 → (i to : ℕ) → code e R (x .pc) ≡ deny i to
-          → Far F x room (takeUp everyPlace (e .form) n s (length room - x .words) next) → Took F n next (resume s []) q₁
+          → Far F x room (takeUp (e .dialect) (e .form) n s (length room - x .words) next) → Took F n next (resume (e .dialect) s []) q₁
       unfolding confOf
       not-took (state g [] f) rep o i to d far = absurd (not-row (D e R) (code e R) (points e R) (follows e R) rep i to d)
       not-took (state g (endOfNot ∷ older) f) rep o i to d far = absurd (no-cut rep)
@@ -245,8 +244,8 @@ module _ (e : Env) (R : Ruled e) where
       not-took (state g (atom p m v ∷ older) f) rep o i to d far = atom-took g p m v older f rep far
 
       pub first-took : (s : paper.State) → Rep (D e R) (code e R) (points e R) (some c₀) (s ∷ []) → point.inside (points e R (x .pc)) ≡ 0
-          → Far F x room (takeUp everyPlace (e .form) n s (length room - x .words) next)
-          → ((q₁ .state .live ≡ 3) × Far F (q₁ .state) (q₁ .room) (stopped 8 0)) ⊎ Took F n next (resume s []) q₁
+          → Far F x room (takeUp (e .dialect) (e .form) n s (length room - x .words) next)
+          → ((q₁ .state .live ≡ 3) × Far F (q₁ .state) (q₁ .room) (stopped 8 0)) ⊎ Took F n next (resume (e .dialect) s []) q₁
       unfolding takeUp resume once stepOn confOf Far
       first-took (state g [] f) rep o far = row-took (state g [] f) rep (row (e .form) f) (leb (length (row (e .form) f)) (length room - x .words)) refl far
       first-took (state g (endOfNot ∷ older) f) rep o far = absurd (no-cut rep)

@@ -41,7 +41,7 @@ module _ (e : Env) (R : Ruled e) {x : State} {slots : List ℕ} {b : List Bindin
   unfolding confOf
   others-some n = go (s .rep)
     where
-      go : Rep (D e R) (code e R) (points e R) (some (confOf (e .form) (e .words) (R .target-is) x (viewOf (e .arg) slots) b)) (br .first ∷ br .others)
+      go : Rep (D e R) (code e R) (points e R) (some (confOf (e .dialect) (e .form) (e .words) (R .target-is) x (viewOf (e .arg) slots) b)) (br .first ∷ br .others)
           → (o : paper.State) × (rest : List paper.State) × (br .others ≡ o ∷ rest)
       go (live l a ch) = chain-some (D e R) (code e R) (points e R) ch n
 

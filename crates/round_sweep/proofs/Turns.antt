@@ -9,7 +9,7 @@ use mathlib.Core.List.{List, [], _∷_, _++_}
 use lib.ListN.{length, getD, take}
 use lib.Dec.{leb}
 use lib.IntN.{ℤ}
-use Rattle.rules.specs.Dialects.{everyPlace}
+use Rattle.rules.specs.Dialects.{Dialect}
 use Rattle.rules.specs.Rows.{Form, row}
 use Rattle.rules.specs.Search as paper
 use Rattle.rules.specs.Search.{atom, endOfNot, state, stopped, step, rowStep}
@@ -138,13 +138,13 @@ module _ (e : Env) (R : Ruled e) (used : ℕ) (U : Used e R used) {F : paper.Run
       go (br ∷ bs) n = (br, bs, refl)
 
 -- A state that was taken up has taken a step, whatever comes next.
-module _ (f : Form) (n : ℕ) (free : ℕ) (next : ℕ → List paper.State → ℕ → paper.Run) where
+module _ (dialect : Dialect) (f : Form) (n : ℕ) (free : ℕ) (next : ℕ → List paper.State → ℕ → paper.Run) where
   row-takes : (b : Bool) (ws : List ℤ) (r : paper.Run) → 1 ≤ (elim b as (λ _. paper.Run) [ true ↦ rowStep ws r | false ↦ stopped 8 1 ]) .steps
   unfolding rowStep stopped
   row-takes true ws r = omega arith
   row-takes false ws r = omega arith
 
-  takes : (s : paper.State) → 1 ≤ (takeUp everyPlace f n s free next) .steps
+  takes : (s : paper.State) → 1 ≤ (takeUp dialect f n s free next) .steps
   unfolding takeUp step
   takes (state g [] b) = row-takes (leb (length (row f b)) free) (row f b) _
   takes (state g (endOfNot ∷ older) b) = omega arith
@@ -155,21 +155,21 @@ took-later : (e : Env) (R : Ruled e) (used : ℕ) → Used e R used → (ws : Li
 unfolding TookBy Far on stopped
 took-later e R used U ws r budget x₀ slots₀ b₀ room₀ spent x slots b room T br K C =
     let next : Next e R = λ l ss free. stopped 0 0 in
-    let u = takeUp everyPlace (e .form) (budget - suc (x₀ .steps)) (br .first) (length room₀ - x₀ .words) next in
-    let a = takes (e .form) (budget - suc (x₀ .steps)) (length room₀ - x₀ .words) next (br .first) in
+    let u = takeUp (e .dialect) (e .form) (budget - suc (x₀ .steps)) (br .first) (length room₀ - x₀ .words) next in
+    let a = takes (e .dialect) (e .form) (budget - suc (x₀ .steps)) (length room₀ - x₀ .words) next (br .first) in
     let F = on (x₀ .rows) (x₀ .steps) (take (x₀ .words) room₀) u in
     let o = T R U br K C F next room₀ (record { long = refl; after = refl }) refl in
     go spent o a
   where
     F₀ : paper.Run
-    F₀ = on (x₀ .rows) (x₀ .steps) (take (x₀ .words) room₀) (takeUp everyPlace (e .form) (budget - suc (x₀ .steps)) (br .first) (length room₀ - x₀ .words) (λ l ss free. stopped 0 0))
+    F₀ = on (x₀ .rows) (x₀ .steps) (take (x₀ .words) room₀) (takeUp (e .dialect) (e .form) (budget - suc (x₀ .steps)) (br .first) (length room₀ - x₀ .words) (λ l ss free. stopped 0 0))
 
-    same : (a : ℕ) → F₀ ≡ on (x .rows) (x .steps) (take (x .words) room) (stopped a 0) → 1 ≤ (takeUp everyPlace (e .form) (budget - suc (x₀ .steps)) (br .first) (length room₀ - x₀ .words) (λ l ss free. stopped 0 0)) .steps
+    same : (a : ℕ) → F₀ ≡ on (x .rows) (x .steps) (take (x .words) room) (stopped a 0) → 1 ≤ (takeUp (e .dialect) (e .form) (budget - suc (x₀ .steps)) (br .first) (length room₀ - x₀ .words) (λ l ss free. stopped 0 0)) .steps
         → suc (x₀ .steps) ≤ x .steps
     same a q h = let p = ap (λ (r : paper.Run). r .steps) q in omega arith
 
     go : (spent : Bool) → Outcome e R F₀ budget (λ l ss free. stopped 0 0) room₀ spent x slots b room
-        → 1 ≤ (takeUp everyPlace (e .form) (budget - suc (x₀ .steps)) (br .first) (length room₀ - x₀ .words) (λ l ss free. stopped 0 0)) .steps → suc (x₀ .steps) ≤ x .steps
+        → 1 ≤ (takeUp (e .dialect) (e .form) (budget - suc (x₀ .steps)) (br .first) (length room₀ - x₀ .words) (λ l ss free. stopped 0 0)) .steps → suc (x₀ .steps) ≤ x .steps
     go true o h = same 7 (o .over refl .0) h
     go false o h = ⊎-elim (λ z. same 0 (o .none refl z) h) (⊎-elim (λ z. same 0 (o .some refl z .1) h) (λ z. same 8 (o .full refl z) h)) (o .phase)
 

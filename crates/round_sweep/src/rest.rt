@@ -45,15 +45,13 @@ pub fn put_rest(
             more: 0,
         };
     }
-    let n = terms.vars;
     let b = remain(
         x,
         given,
         i,
         to,
-        n,
+        terms,
         used,
-        terms.origins,
         mt,
         s,
         places,

@@ -15,8 +15,6 @@ use value_rows::Bindings;
 ghost use mathlib.Core.Path.{_≡_};
 ghost use Prim.Native.Nat.{_^_, _<_};
 ghost use Rattle.tables.specs.Line.{columnsOf};
-ghost use Rattle.value_rows.specs.Row.{formBy};
-ghost use Rattle.search.specs.Run.{envOf};
 ghost use Rattle.search.specs.Told.{envBy};
 ghost use Rattle.search.specs.Valid.{Given};
 ghost use Rattle.round_sweep.specs.Turns.{stoppedAt, Following, Followed, Turning, Turned};
@@ -137,15 +135,12 @@ pub fn turn(
         table,
     );
     let c = r.binds;
-    let n = terms.vars;
     let t = take_first(
         x,
         c,
         i,
-        terms.budget,
-        n,
+        terms,
         used,
-        terms.origins,
         mt,
         s,
         places,

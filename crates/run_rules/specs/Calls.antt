@@ -9,10 +9,9 @@ use mathlib.Core.List.{List, [], _∷_, _++_}
 use lib.ListN.{length, length-append, take, drop, take-append-drop}
 use lib.Dec.{T, eqb, eqb→eq, eqb-refl}
 use lib.IntN.{ℤ}
-use Rattle.rules.specs.Rows.{Form}
-use Rattle.rules.specs.Search.{State, Run, stopped, run, runIn}
+use Rattle.rules.specs.Search.{State, Run, stopped, runIn}
 use Rattle.forms.specs.Tests.{is-true, is-false}
-use Rattle.run_rules.specs.Lent.{Numbers, Held, ended, going, Lent, remaining, holding, allowed, since, writtenAt, told, heldAfter, roomAfter, Advanced, goOn, unlike, advanced}
+use Rattle.run_rules.specs.Lent.{Terms, run, Numbers, Held, ended, going, Lent, remaining, holding, allowed, since, writtenAt, told, heldAfter, roomAfter, Advanced, goOn, unlike, advanced}
 use Rattle.run_rules.specs.Splits.{behind, Split, over, further, split}
 
 -- ---- Which room.
@@ -46,7 +45,7 @@ unfolding since behind
 since-behind rows steps words a b = same-numbers (b .answer) (add-assoc rows (a .rows) (b .rows)) (add-assoc steps (a .steps) (b .steps))
     (add-assoc words (length (a .written)) (length (b .written)) ∙ ap (λ (i : ℕ). words + i) (sym (length-append (a .written) (b .written))))
 
-module _ (form : Form) (a b size : ℕ) (s : State) (ss : List State) (rows steps words : ℕ) where
+module _ (terms : Terms) (a b size : ℕ) (s : State) (ss : List State) (rows steps words : ℕ) where
   abbrev p : ℕ
   p = allowed a steps
 
@@ -57,29 +56,29 @@ module _ (form : Form) (a b size : ℕ) (s : State) (ss : List State) (rows step
   free = size - words
 
   abbrev first : Run
-  first = run form p (s ∷ ss) free
+  first = run terms p (s ∷ ss) free
 
   abbrev k : Numbers
   k = since rows steps words first
 
   -- What the run by both portions tells and leaves.
-  both-told : told (a + b) size (going form s ss rows steps words) ≡ since rows steps words (run form (p + q) (s ∷ ss) free)
+  both-told : told (a + b) size (going terms s ss rows steps words) ≡ since rows steps words (run terms (p + q) (s ∷ ss) free)
   unfolding told
-  both-told = ap (λ i. since rows steps words (run form i (s ∷ ss) free)) (allowed-add a b steps)
+  both-told = ap (λ i. since rows steps words (run terms i (s ∷ ss) free)) (allowed-add a b steps)
 
-  both-held : heldAfter (a + b) size (going form s ss rows steps words) ≡ holding form (since rows steps words (run form (p + q) (s ∷ ss) free)) (remaining form (p + q) (s ∷ ss) free)
+  both-held : heldAfter (a + b) size (going terms s ss rows steps words) ≡ holding terms (since rows steps words (run terms (p + q) (s ∷ ss) free)) (remaining terms (p + q) (s ∷ ss) free)
   unfolding heldAfter told
-  both-held = ap (λ i. holding form (since rows steps words (run form i (s ∷ ss) free)) (remaining form i (s ∷ ss) free)) (allowed-add a b steps)
+  both-held = ap (λ i. holding terms (since rows steps words (run terms i (s ∷ ss) free)) (remaining terms i (s ∷ ss) free)) (allowed-add a b steps)
 
   -- After the first portion it has ended, or goes on.
-  pub over-held : remaining form p (s ∷ ss) free ≡ [] → heldAfter a size (going form s ss rows steps words) ≡ ended k
+  pub over-held : remaining terms p (s ∷ ss) free ≡ [] → heldAfter a size (going terms s ss rows steps words) ≡ ended k
   unfolding heldAfter told holding
-  over-held e = ap (holding form k) e
+  over-held e = ap (holding terms k) e
 
-  pub further-held : (t : State) (ts : List State) → remaining form p (s ∷ ss) free ≡ t ∷ ts
-      → heldAfter a size (going form s ss rows steps words) ≡ going form t ts (rows + first .rows) (steps + first .steps) (words + length (first .written))
+  pub further-held : (t : State) (ts : List State) → remaining terms p (s ∷ ss) free ≡ t ∷ ts
+      → heldAfter a size (going terms s ss rows steps words) ≡ going terms t ts (rows + first .rows) (steps + first .steps) (words + length (first .written))
   unfolding heldAfter told holding since
-  further-held t ts e = ap (holding form k) e
+  further-held t ts e = ap (holding terms k) e
 
   -- The second run.
   pub second-steps : first .steps ≡ p → allowed b (steps + first .steps) ≡ q
@@ -88,21 +87,21 @@ module _ (form : Form) (a b size : ℕ) (s : State) (ss : List State) (rows step
   pub second-free : size - (words + length (first .written)) ≡ free - length (first .written)
   second-free = omega arith
 
-  two-held : Split form p q (s ∷ ss) free → heldAfter b size (heldAfter a size (going form s ss rows steps words)) ≡ heldAfter (a + b) size (going form s ss rows steps words)
+  two-held : Split terms p q (s ∷ ss) free → heldAfter b size (heldAfter a size (going terms s ss rows steps words)) ≡ heldAfter (a + b) size (going terms s ss rows steps words)
   unfolding heldAfter told holding
-  two-held (over e n f r) = ap (heldAfter b size) (over-held e) ∙ sym (both-held ∙ ap₂ (holding form) (ap (since rows steps words) r) f)
+  two-held (over e n f r) = ap (heldAfter b size) (over-held e) ∙ sym (both-held ∙ ap₂ (holding terms) (ap (since rows steps words) r) f)
   two-held (further t ts e n i f r) = ap (heldAfter b size) (further-held t ts e)
-      ∙ ap₂ (λ x y. holding form (since (rows + first .rows) (steps + first .steps) (words + length (first .written)) (run form x (t ∷ ts) y)) (remaining form x (t ∷ ts) y))
+      ∙ ap₂ (λ x y. holding terms (since (rows + first .rows) (steps + first .steps) (words + length (first .written)) (run terms x (t ∷ ts) y)) (remaining terms x (t ∷ ts) y))
       (second-steps i) second-free
-      ∙ ap (λ x. holding form x (remaining form q (t ∷ ts) (free - length (first .written)))) (since-behind rows steps words first (run form q (t ∷ ts) (free - length (first .written))))
-      ∙ sym (both-held ∙ ap₂ (holding form) (ap (since rows steps words) r) f)
+      ∙ ap (λ x. holding terms x (remaining terms q (t ∷ ts) (free - length (first .written)))) (since-behind rows steps words first (run terms q (t ∷ ts) (free - length (first .written))))
+      ∙ sym (both-held ∙ ap₂ (holding terms) (ap (since rows steps words) r) f)
 
-  two-told : Split form p q (s ∷ ss) free → told b size (heldAfter a size (going form s ss rows steps words)) ≡ told (a + b) size (going form s ss rows steps words)
+  two-told : Split terms p q (s ∷ ss) free → told b size (heldAfter a size (going terms s ss rows steps words)) ≡ told (a + b) size (going terms s ss rows steps words)
   unfolding told
   two-told (over e n f r) = ap (told b size) (over-held e) ∙ sym (both-told ∙ ap (since rows steps words) r)
   two-told (further t ts e n i f r) = ap (told b size) (further-held t ts e)
-      ∙ ap₂ (λ x y. since (rows + first .rows) (steps + first .steps) (words + length (first .written)) (run form x (t ∷ ts) y)) (second-steps i) second-free
-      ∙ since-behind rows steps words first (run form q (t ∷ ts) (free - length (first .written)))
+      ∙ ap₂ (λ x y. since (rows + first .rows) (steps + first .steps) (words + length (first .written)) (run terms x (t ∷ ts) y)) (second-steps i) second-free
+      ∙ since-behind rows steps words first (run terms q (t ∷ ts) (free - length (first .written)))
       ∙ sym (both-told ∙ ap (since rows steps words) r)
 
 pub held-add : (a b size : ℕ) (h : Held) → heldAfter b size (heldAfter a size h) ≡ heldAfter (a + b) size h

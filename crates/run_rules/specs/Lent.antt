@@ -7,9 +7,10 @@ use lib.ListN.{length, take, drop}
 use lib.Dec.{leb, eqb}
 use lib.IntN.{ℤ}
 use Rattle.rules.specs.Forms.{Value}
+use Rattle.rules.specs.Dialects.{Dialect, dialectOf}
 use Rattle.rules.specs.Rows.{Form, formOf, row}
-use Rattle.rules.specs.Search.{atom, endOfNot, State, state, after, afterIn, leaveNot, start, Run, run, runIn}
-use Rattle.rules.specs.Services.{Rule, Judged, accepted, refused, ruleOf, ruleIn, targetOf, causeIn}
+use Rattle.rules.specs.Search.{atom, endOfNot, State, state, afterIn, leaveNot, start, Run, runIn}
+use Rattle.rules.specs.Services.{Rule, Judged, accepted, refused, ruleIn, targetOf, causeIn}
 
 -- "The portions' sum, cut at 4,294,967,295."
 abbrev pub mostSteps : ℕ
@@ -27,13 +28,22 @@ pub record Numbers : Type 0 where
   pub words : ℕ
   pub cause : ℕ
 
+-- What the opening is told, and holds for the whole run: the form of its rows, and its dialect.
+pub record Terms : Type 0 where
+  pub form : Form
+  pub dialect : Dialect
+
+-- Document 01's run on these terms.
+abbrev pub run : Terms → (budget : ℕ) → List State → (free : ℕ) → Run
+run t n ss free = runIn (t .dialect) (t .form) n ss free
+
 -- ---- What a run holds between two calls.
 
--- It has ended, with the numbers that it gives again; or it goes on: the form of its rows, "the run holds its waiting states", of which there is a first one,
+-- It has ended, with the numbers that it gives again; or it goes on: its terms, "the run holds its waiting states", of which there is a first one,
 -- and how many rows, steps and words there were since the opening.
 pub data Held : Type 0 where
   ended : Numbers → Held
-  going : (form : Form) (first : State) (others : List State) (rows steps words : ℕ) → Held
+  going : (terms : Terms) (first : State) (others : List State) (rows steps words : ℕ) → Held
 
 -- The room's size that was given at the opening, and what is held.
 pub record Lent : Type 0 where
@@ -58,46 +68,49 @@ turnedAway size a i c = record {
   run = record { size = size; held = ended (record { answer = a; place = i; rows = 0; steps = 0; words = 0; cause = c }) };
 }
 
-unfoldable pub begun : Form → (size : ℕ) → Rule → Value → Opened
+unfoldable pub begun : Terms → (size : ℕ) → Rule → Value → Opened
 unfolding start
-begun f size r v =
-    record { answer = 0; place = 0; cause = 0; run = record { size = size; held = going f (start (r .matcher) (r .pattern) v) [] 0 0 0 } }
+begun t size r v =
+    record { answer = 0; place = 0; cause = 0; run = record { size = size; held = going t (start (r .matcher) (r .pattern) v) [] 0 0 0 } }
 
-unfoldable pub openTarget : Form → (size : ℕ) (ts : List ℤ) → Rule → Judged Value → Opened
+unfoldable pub openTarget : Terms → (size : ℕ) (ts : List ℤ) → Rule → Judged Value → Opened
 unfolding turnedAway begun causeIn
-openTarget f size ts r (refused a i) = turnedAway size a i (causeIn a ts)
-openTarget f size ts r (accepted v) = begun f size r v
+openTarget t size ts r (refused a i) = turnedAway size a i (causeIn a ts)
+openTarget t size ts r (accepted v) = begun t size r v
 
-unfoldable pub openRule : Form → (size : ℕ) (ts : List ℤ) → Judged Rule → Opened
+unfoldable pub openRule : Terms → (size : ℕ) (ts : List ℤ) → Judged Rule → Opened
 unfolding turnedAway openTarget targetOf
-openRule f size ts (refused a i) = turnedAway size a i 0
-openRule f size ts (accepted r) = openTarget f size ts r (targetOf (r .matcher) ts)
+openRule t size ts (refused a i) = turnedAway size a i 0
+openRule t size ts (accepted r) = openTarget t size ts r (targetOf (r .matcher) ts)
 
 -- "Opening makes the checks 1 to 6."
-unfoldable pub openedIn : Form → (ms ps ts : List ℤ) (size : ℕ) → Opened
+unfoldable pub openedIn : Terms → (ms ps ts : List ℤ) (size : ℕ) → Opened
 unfolding openRule ruleIn
-openedIn f ms ps ts size = openRule f size ts (ruleOf ms ps)
+openedIn t ms ps ts size = openRule t size ts (ruleIn (t .dialect) ms ps)
 
--- The opening is told the row form: "20, unknown row form, before 1".
-unfoldable pub opened : (form : ℕ) (ms ps ts : List ℤ) (size : ℕ) → Opened
-unfolding formOf turnedAway openedIn
-opened n ms ps ts size = elim (formOf n) [ none ↦ turnedAway size 20 0 0 | some f ↦ openedIn f ms ps ts size ]
+-- The opening is told row form and dialect: "20, unknown row form, before 1"; "22, unknown dialect, before 1 and after 20".
+unfoldable pub opened : (form dialect : ℕ) (ms ps ts : List ℤ) (size : ℕ) → Opened
+unfolding formOf dialectOf turnedAway openedIn
+opened form dialect ms ps ts size = elim (formOf form) [
+  | none ↦ turnedAway size 20 0 0
+  | some f ↦ elim (dialectOf dialect) [ none ↦ turnedAway size 22 0 0 | some d ↦ openedIn (record { form = f; dialect = d }) ms ps ts size ]
+]
 
 -- ---- An advance.
 
 -- The states that wait after a run by a budget over the waiting states, with `free` words of the room left. None where it ends with 8.
-unfoldable pub remaining : Form → (budget : ℕ) → List State → (free : ℕ) → List State
+unfoldable pub remaining : Terms → (budget : ℕ) → List State → (free : ℕ) → List State
 unfolding row afterIn leaveNot
-remaining f zero ss free = ss
-remaining f (suc n) [] free = []
-remaining f (suc n) (state g [] e ∷ ss) free = elim (leb (length (row f e)) free) [ true ↦ remaining f n ss (free - length (row f e)) | false ↦ [] ]
-remaining f (suc n) (state g (endOfNot ∷ older) e ∷ ss) free = remaining f n (leaveNot ss) free
-remaining f (suc n) (state g (atom p m v ∷ older) e ∷ ss) free = remaining f n (after p m v older e ++ ss) free
+remaining t zero ss free = ss
+remaining t (suc n) [] free = []
+remaining t (suc n) (state g [] e ∷ ss) free = elim (leb (length (row (t .form) e)) free) [ true ↦ remaining t n ss (free - length (row (t .form) e)) | false ↦ [] ]
+remaining t (suc n) (state g (endOfNot ∷ older) e ∷ ss) free = remaining t n (leaveNot ss) free
+remaining t (suc n) (state g (atom p m v ∷ older) e ∷ ss) free = remaining t n (afterIn (t .dialect) p m v older e ++ ss) free
 
 -- What is held of the states that wait: with none the run has ended.
-unfoldable pub holding : Form → Numbers → List State → Held
-holding f k [] = ended k
-holding f k (s ∷ ss) = going f s ss (k .rows) (k .steps) (k .words)
+unfoldable pub holding : Terms → Numbers → List State → Held
+holding t k [] = ended k
+holding t k (s ∷ ss) = going t s ss (k .rows) (k .steps) (k .words)
 
 -- The steps that a portion may take after those that were taken.
 unfoldable pub allowed : (portion taken : ℕ) → ℕ
@@ -117,18 +130,18 @@ writtenAt at new room = take at room ++ (new ++ drop (at + length new) room)
 unfoldable pub told : (portion size : ℕ) → Held → Numbers
 unfolding runIn allowed since
 told n size (ended k) = k
-told n size (going f s ss rows steps words) = since rows steps words (run f (allowed n steps) (s ∷ ss) (size - words))
+told n size (going t s ss rows steps words) = since rows steps words (run t (allowed n steps) (s ∷ ss) (size - words))
 
 unfoldable pub heldAfter : (portion size : ℕ) → Held → Held
 unfolding allowed remaining holding told
 heldAfter n size (ended k) = ended k
-heldAfter n size (going f s ss rows steps words) =
-    holding f (told n size (going f s ss rows steps words)) (remaining f (allowed n steps) (s ∷ ss) (size - words))
+heldAfter n size (going t s ss rows steps words) =
+    holding t (told n size (going t s ss rows steps words)) (remaining t (allowed n steps) (s ∷ ss) (size - words))
 
 unfoldable pub roomAfter : (portion size : ℕ) → Held → (room : List ℤ) → List ℤ
 unfolding runIn allowed writtenAt
 roomAfter n size (ended k) room = room
-roomAfter n size (going f s ss rows steps words) room = writtenAt words ((run f (allowed n steps) (s ∷ ss) (size - words)) .written) room
+roomAfter n size (going t s ss rows steps words) room = writtenAt words ((run t (allowed n steps) (s ∷ ss) (size - words)) .written) room
 
 -- What a call gives: the numbers, what the room then holds, and the run.
 pub record Advanced : Type 0 where

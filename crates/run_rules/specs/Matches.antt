@@ -11,13 +11,17 @@ use lib.ListN.{length, length-append, take, drop, take-append-drop, length-drop}
 use lib.Seq.{take-append-seam, drop-append-seam, drop-append-add, drop-drop}
 use lib.Dec.{leb}
 use lib.IntN.{ℤ}
-use Rattle.rules.specs.Forms.{Value}
+use Rattle.rules.specs.Forms.{Matcher, Value}
+use Rattle.rules.specs.Reading.{Verdict, ok, fault, readMatcher, readPattern, readTarget}
+use Rattle.rules.specs.Variables.{variables}
+use Rattle.rules.specs.Fit.{fitsIn, fitsValue}
+use Rattle.rules.specs.Dialects.{Dialect, everyPlace, dialectOf}
 use Rattle.rules.specs.Rows.{Form, formOf, row}
-use Rattle.rules.specs.Search.{atom, endOfNot, State, state, after, leaveNot, start, Run, stopped, rowStep, run, runIn}
-use Rattle.rules.specs.Services.{Rule, Judged, accepted, refused, ruleOf, targetOf, Matched, carriedOut, causeIn, matchIn, matchOf, matchWith, matchRule, matchRuleIn, matchTarget, matchTargetIn}
+use Rattle.rules.specs.Search.{atom, endOfNot, State, state, afterIn, leaveNot, start, Run, stopped, rowStep, runIn}
+use Rattle.rules.specs.Services.{Rule, Judged, accepted, refused, test, ruleIn, targetOf, Matched, carriedOut, causeIn, matchOf, matchPicked, matchRuleIn, matchTargetIn}
 use Rattle.rules.specs.Services
-use Rattle.forms.specs.Faults.{Fault, Sane, rule-accepted, target-accepted, refused-exactly, Judgement, match-turned, match-judged, turned, ran}
-use Rattle.run_rules.specs.Lent.{cut, Numbers, Held, ended, going, Lent, Opened, turnedAway, begun, openTarget, openRule, openedIn, opened, allowed}
+use Rattle.forms.specs.Faults.{RuleFault, notMatcher, notPattern, misnumbered, misfit, rule-accepted, rule-refused, target-refused, Fault, ofRule, ofTarget}
+use Rattle.run_rules.specs.Lent.{Terms, run, cut, Numbers, Held, ended, going, Lent, Opened, turnedAway, begun, openTarget, openRule, openedIn, opened, allowed}
 use Rattle.run_rules.specs.Lent.{since, writtenAt, told, heldAfter, roomAfter, Advanced, goOn, unlike, advanced}
 use Rattle.run_rules.specs.Splits.{behind, Split, over, further, split, written-fits}
 use Rattle.run_rules.specs.Calls.{like, other, same-numbers, held-add, told-add, held-zero, held-ended, none-written, over-held, further-held, second-steps}
@@ -39,29 +43,37 @@ matchedBy a = matched (a .numbers) (a .room)
 
 pub data Beside (size : ℕ) (o : Opened) (m : ℕ → List ℤ → Matched) : Type 0 where
   away : (a i c : ℕ) → o ≡ turnedAway size a i c → ((budget : ℕ) (room : List ℤ) → m budget room ≡ Services.turnedAway a i c room) → Beside size o m
-  fresh : (form : Form) (r : Rule) (v : Value) → o ≡ begun form size r v
-      → ((budget : ℕ) (room : List ℤ) → m budget room ≡ carriedOut (run form budget (start (r .matcher) (r .pattern) v ∷ []) (length room)) room)
+  fresh : (terms : Terms) (r : Rule) (v : Value) → o ≡ begun terms size r v
+      → ((budget : ℕ) (room : List ℤ) → m budget room ≡ carriedOut (run terms budget (start (r .matcher) (r .pattern) v ∷ []) (length room)) room)
       → Beside size o m
 
-beside-target : (form : Form) (size : ℕ) (ts : List ℤ) (r : Rule) (x : Judged Value)
-    → Beside size (openTarget form size ts r x) (λ budget room. matchTarget form budget room ts r x)
+beside-target : (terms : Terms) (size : ℕ) (ts : List ℤ) (r : Rule) (x : Judged Value)
+    → Beside size (openTarget terms size ts r x) (λ budget room. matchTargetIn (terms .dialect) (terms .form) budget room ts r x)
 unfolding openTarget matchTargetIn
-beside-target form size ts r (refused a i) = away a i (causeIn a ts) refl (λ budget room. refl)
-beside-target form size ts r (accepted v) = fresh form r v refl (λ budget room. refl)
+beside-target terms size ts r (refused a i) = away a i (causeIn a ts) refl (λ budget room. refl)
+beside-target terms size ts r (accepted v) = fresh terms r v refl (λ budget room. refl)
 
-beside-rule : (form : Form) (size : ℕ) (ts : List ℤ) (x : Judged Rule) → Beside size (openRule form size ts x) (λ budget room. matchRule form budget room ts x)
+beside-rule : (terms : Terms) (size : ℕ) (ts : List ℤ) (x : Judged Rule) → Beside size (openRule terms size ts x) (λ budget room. matchRuleIn (terms .dialect) (terms .form) budget room ts x)
 unfolding openRule matchRuleIn
-beside-rule form size ts (refused a i) = away a i 0 refl (λ budget room. refl)
-beside-rule form size ts (accepted r) = beside-target form size ts r (targetOf (r .matcher) ts)
+beside-rule terms size ts (refused a i) = away a i 0 refl (λ budget room. refl)
+beside-rule terms size ts (accepted r) = beside-target terms size ts r (targetOf (r .matcher) ts)
 
-pub beside : (n : ℕ) (ms ps ts : List ℤ) (size : ℕ) → Beside size (opened n ms ps ts size) (matchWith n ms ps ts)
-unfolding opened openedIn matchWith matchOf
-beside n ms ps ts size = go (formOf n)
+pub beside : (form dialect : ℕ) (ms ps ts : List ℤ) (size : ℕ) → Beside size (opened form dialect ms ps ts size) (matchPicked form dialect ms ps ts)
+unfolding opened openedIn matchPicked matchOf
+beside form dialect ms ps ts size = go (formOf form) (dialectOf dialect)
   where
-    go : (x : Option Form) → Beside size (elim x as (λ _. Opened) [ none ↦ turnedAway size 20 0 0 | some f ↦ openedIn f ms ps ts size ])
-        (λ budget room. elim x as (λ _. Matched) [ none ↦ Services.turnedAway 20 0 0 room | some f ↦ matchIn f ms ps ts budget room ])
-    go none = away 20 0 0 refl (λ budget room. refl)
-    go (some f) = beside-rule f size ts (ruleOf ms ps)
+    go : (x : Option Form) (y : Option Dialect)
+        → Beside size (elim x as (λ _. Opened) [
+          | none ↦ turnedAway size 20 0 0
+          | some f ↦ elim y as (λ _. Opened) [ none ↦ turnedAway size 22 0 0 | some d ↦ openedIn (record { form = f; dialect = d }) ms ps ts size ]
+        ])
+        (λ budget room. elim x as (λ _. Matched) [
+          | none ↦ Services.turnedAway 20 0 0 room
+          | some f ↦ elim y as (λ _. Matched) [ none ↦ Services.turnedAway 22 0 0 room | some d ↦ matchOf d f ms ps ts budget room ]
+        ])
+    go none y = away 20 0 0 refl (λ budget room. refl)
+    go (some f) none = away 22 0 0 refl (λ budget room. refl)
+    go (some f) (some d) = beside-rule (record { form = f; dialect = d }) size ts (ruleIn d ms ps)
 
 -- ---- What is written in the room.
 
@@ -79,14 +91,14 @@ onto-old old new room =
     (drop-append-add old (drop (length old) room) (length new) ∙ drop-drop (length new) (length old) room ∙ ap (λ i. drop i room) (sym (length-append old new)))
     ∙ sym (append-assoc old new (drop (length (old ++ new)) room))
 
-module _ (form : Form) (size : ℕ) (s : State) where
+module _ (terms : Terms) (size : ℕ) (s : State) where
   abbrev begin : Held
-  begin = going form s [] 0 0 0
+  begin = going terms s [] 0 0 0
 
   -- What a run from the beginning writes with a sum of portions.
   unfoldable wordsBy : ℕ → List ℤ
   unfolding allowed runIn
-  wordsBy n = (run form (allowed n 0) (s ∷ []) (size - 0)) .written
+  wordsBy n = (run terms (allowed n 0) (s ∷ []) (size - 0)) .written
 
   -- A further portion adds some words, and writes these.
   record Adds (a b : ℕ) : Type 0 where
@@ -94,27 +106,27 @@ module _ (form : Form) (size : ℕ) (s : State) where
     is : wordsBy (a + b) ≡ wordsBy a ++ new
     leaves : (room : List ℤ) → roomAfter b size (heldAfter a size begin) room ≡ writtenAt (length (wordsBy a)) new room
 
-  both-words : (a b : ℕ) → wordsBy (a + b) ≡ (run form (allowed a 0 + allowed b (0 + allowed a 0)) (s ∷ []) (size - 0)) .written
+  both-words : (a b : ℕ) → wordsBy (a + b) ≡ (run terms (allowed a 0 + allowed b (0 + allowed a 0)) (s ∷ []) (size - 0)) .written
   unfolding wordsBy
-  both-words a b = ap (λ i. (run form i (s ∷ []) (size - 0)) .written) (allowed-add a b 0)
+  both-words a b = ap (λ i. (run terms i (s ∷ []) (size - 0)) .written) (allowed-add a b 0)
 
-  adds-by : (a b : ℕ) → Split form (allowed a 0) (allowed b (0 + allowed a 0)) (s ∷ []) (size - 0) → Adds a b
+  adds-by : (a b : ℕ) → Split terms (allowed a 0) (allowed b (0 + allowed a 0)) (s ∷ []) (size - 0) → Adds a b
   unfolding wordsBy roomAfter behind
   adds-by a b (over e n f r) = record {
     new = [];
     is = both-words a b ∙ ap (λ (x : Run). x .written) r ∙ sym (append-nil (wordsBy a));
-    leaves = λ room. ap (λ h. roomAfter b size h room) (over-held form a b size s [] 0 0 0 e) ∙ sym (none-written (length (wordsBy a)) room);
+    leaves = λ room. ap (λ h. roomAfter b size h room) (over-held terms a b size s [] 0 0 0 e) ∙ sym (none-written (length (wordsBy a)) room);
   }
   adds-by a b (further t ts e n i f r) = record {
-    new = (run form (allowed b (0 + allowed a 0)) (t ∷ ts) (size - 0 - length (wordsBy a))) .written;
+    new = (run terms (allowed b (0 + allowed a 0)) (t ∷ ts) (size - 0 - length (wordsBy a))) .written;
     is = both-words a b ∙ ap (λ (x : Run). x .written) r;
-    leaves = λ room. ap (λ h. roomAfter b size h room) (further-held form a b size s [] 0 0 0 t ts e)
-        ∙ ap₂ (λ x y. writtenAt (0 + length (wordsBy a)) ((run form x (t ∷ ts) y) .written) room) (second-steps form a b size s [] 0 0 0 i) (second-free form a b size s [] 0 0 0)
-        ∙ ap (λ x. writtenAt x ((run form (allowed b (0 + allowed a 0)) (t ∷ ts) (size - 0 - length (wordsBy a))) .written) room) (zero-add (length (wordsBy a)));
+    leaves = λ room. ap (λ h. roomAfter b size h room) (further-held terms a b size s [] 0 0 0 t ts e)
+        ∙ ap₂ (λ x y. writtenAt (0 + length (wordsBy a)) ((run terms x (t ∷ ts) y) .written) room) (second-steps terms a b size s [] 0 0 0 i) (second-free terms a b size s [] 0 0 0)
+        ∙ ap (λ x. writtenAt x ((run terms (allowed b (0 + allowed a 0)) (t ∷ ts) (size - 0 - length (wordsBy a))) .written) room) (zero-add (length (wordsBy a)));
   }
 
   adds : (a b : ℕ) → Adds a b
-  adds a b = adds-by a b (split form (allowed a 0) (allowed b (0 + allowed a 0)) (s ∷ []) (size - 0))
+  adds a b = adds-by a b (split terms (allowed a 0) (allowed b (0 + allowed a 0)) (s ∷ []) (size - 0))
 
   -- The whole room after a sum of portions, where the game leaves it as it is.
   unfoldable roomBy : ℕ → List ℤ → List ℤ
@@ -134,7 +146,7 @@ module _ (form : Form) (size : ℕ) (s : State) where
   room-long : (n : ℕ) (room : List ℤ) → length room ≡ size → length (roomBy n room) ≡ size
   unfolding roomBy wordsBy
   room-long n room e =
-      let k = written-fits form (allowed n 0) (s ∷ []) (size - 0) in
+      let k = written-fits terms (allowed n 0) (s ∷ []) (size - 0) in
       let a = length-append (wordsBy n) (drop (length (wordsBy n)) room) in let b = length-drop (length (wordsBy n)) room in
       omega arith
 
@@ -149,20 +161,20 @@ unfoldable pub sum : List ℕ → ℕ
 sum [] = 0
 sum (n ∷ ns) = n + sum ns
 
-module _ (form : Form) (size : ℕ) (s : State) where
+module _ (terms : Terms) (size : ℕ) (s : State) where
   portioned-fresh : (g n : ℕ) (ns : List ℕ) (room : List ℤ) → length room ≡ size
-      → matchedBy (portioned n ns (roomBy form size s g room) (record { size = size; held = heldAfter g size (going form s [] 0 0 0) }))
-      ≡ matched (told (g + (n + sum ns)) size (going form s [] 0 0 0)) (roomBy form size s (g + (n + sum ns)) room)
+      → matchedBy (portioned n ns (roomBy terms size s g room) (record { size = size; held = heldAfter g size (going terms s [] 0 0 0) }))
+      ≡ matched (told (g + (n + sum ns)) size (going terms s [] 0 0 0)) (roomBy terms size s (g + (n + sum ns)) room)
   unfolding portioned sum matchedBy goOn
-  portioned-fresh g n [] room e = ap matchedBy (like n (roomBy form size s g room) (record { size = size; held = heldAfter g size (going form s [] 0 0 0) }) (room-long form size s g room e))
-      ∙ ap₂ matched (told-add g n size (going form s [] 0 0 0)) (room-onto form size s g n room)
-      ∙ ap (λ i. matched (told i size (going form s [] 0 0 0)) (roomBy form size s i room)) (ap (λ (i : ℕ). g + i) (sym (add-zero n)))
+  portioned-fresh g n [] room e = ap matchedBy (like n (roomBy terms size s g room) (record { size = size; held = heldAfter g size (going terms s [] 0 0 0) }) (room-long terms size s g room e))
+      ∙ ap₂ matched (told-add g n size (going terms s [] 0 0 0)) (room-onto terms size s g n room)
+      ∙ ap (λ i. matched (told i size (going terms s [] 0 0 0)) (roomBy terms size s i room)) (ap (λ (i : ℕ). g + i) (sym (add-zero n)))
   portioned-fresh g n (m ∷ ns) room e =
       ap (λ (a : Advanced). matchedBy (portioned m ns (a .room) (a .run)))
-      (like n (roomBy form size s g room) (record { size = size; held = heldAfter g size (going form s [] 0 0 0) }) (room-long form size s g room e))
-      ∙ ap₂ (λ x h. matchedBy (portioned m ns x (record { size = size; held = h }))) (room-onto form size s g n room) (held-add g n size (going form s [] 0 0 0))
+      (like n (roomBy terms size s g room) (record { size = size; held = heldAfter g size (going terms s [] 0 0 0) }) (room-long terms size s g room e))
+      ∙ ap₂ (λ x h. matchedBy (portioned m ns x (record { size = size; held = h }))) (room-onto terms size s g n room) (held-add g n size (going terms s [] 0 0 0))
       ∙ portioned-fresh (g + n) m ns room e
-      ∙ ap (λ i. matched (told i size (going form s [] 0 0 0)) (roomBy form size s i room)) (add-assoc g n (m + sum ns))
+      ∙ ap (λ i. matched (told i size (going terms s [] 0 0 0)) (roomBy terms size s i room)) (add-assoc g n (m + sum ns))
 
 portioned-away : (size : ℕ) (k : Numbers) (n : ℕ) (ns : List ℕ) (room : List ℤ) → length room ≡ size
     → matchedBy (portioned n ns room (record { size = size; held = ended k })) ≡ matched k room
@@ -174,45 +186,45 @@ portioned-away size k n (m ∷ ns) room e =
 -- ---- As one match.
 
 -- From the beginning with one portion.
-fresh-run : (form : Form) (n size : ℕ) (s : State) (room : List ℤ) → length room ≡ size
-    → run form (allowed n 0) (s ∷ []) (size - 0) ≡ run form (cut n) (s ∷ []) (length room)
+fresh-run : (terms : Terms) (n size : ℕ) (s : State) (room : List ℤ) → length room ≡ size
+    → run terms (allowed n 0) (s ∷ []) (size - 0) ≡ run terms (cut n) (s ∷ []) (length room)
 unfolding allowed cut
-fresh-run form n size s room e = ap (λ i. run form (cut n) (s ∷ []) i) (sub-zero size ∙ sym e)
+fresh-run terms n size s room e = ap (λ i. run terms (cut n) (s ∷ []) i) (sub-zero size ∙ sym e)
 
-fresh-told : (form : Form) (n size : ℕ) (s : State) (room : List ℤ) → length room ≡ size
-    → told n size (going form s [] 0 0 0) ≡ numbersOf (carriedOut (run form (cut n) (s ∷ []) (length room)) room)
+fresh-told : (terms : Terms) (n size : ℕ) (s : State) (room : List ℤ) → length room ≡ size
+    → told n size (going terms s [] 0 0 0) ≡ numbersOf (carriedOut (run terms (cut n) (s ∷ []) (length room)) room)
 unfolding told since numbersOf carriedOut
-fresh-told form n size s room e = ap (since 0 0 0) (fresh-run form n size s room e)
-    ∙ same-numbers ((run form (cut n) (s ∷ []) (length room)) .answer) (zero-add _) (zero-add _) (zero-add _)
+fresh-told terms n size s room e = ap (since 0 0 0) (fresh-run terms n size s room e)
+    ∙ same-numbers ((run terms (cut n) (s ∷ []) (length room)) .answer) (zero-add _) (zero-add _) (zero-add _)
 
-fresh-room : (form : Form) (n size : ℕ) (s : State) (room : List ℤ) → length room ≡ size
-    → roomBy form size s n room ≡ carriedOut (run form (cut n) (s ∷ []) (length room)) room .room
+fresh-room : (terms : Terms) (n size : ℕ) (s : State) (room : List ℤ) → length room ≡ size
+    → roomBy terms size s n room ≡ carriedOut (run terms (cut n) (s ∷ []) (length room)) room .room
 unfolding roomBy wordsBy carriedOut
-fresh-room form n size s room e = ap (λ (r : Run). r .written ++ drop (length (r .written)) room) (fresh-run form n size s room e)
+fresh-room terms n size s room e = ap (λ (r : Run). r .written ++ drop (length (r .written)) room) (fresh-run terms n size s room e)
 
-fresh-words : (form : Form) (n size : ℕ) (s : State) (room : List ℤ) → length room ≡ size
-    → length (wordsBy form size s n) ≡ carriedOut (run form (cut n) (s ∷ []) (length room)) room .words
+fresh-words : (terms : Terms) (n size : ℕ) (s : State) (room : List ℤ) → length room ≡ size
+    → length (wordsBy terms size s n) ≡ carriedOut (run terms (cut n) (s ∷ []) (length room)) room .words
 unfolding wordsBy carriedOut
-fresh-words form n size s room e = ap (λ (r : Run). length (r .written)) (fresh-run form n size s room e)
+fresh-words terms n size s room e = ap (λ (r : Run). length (r .written)) (fresh-run terms n size s room e)
 
-module _ (form : ℕ) (ms ps ts : List ℤ) (size : ℕ) where
+module _ (form dialect : ℕ) (ms ps ts : List ℤ) (size : ℕ) where
   abbrev it : Lent
-  it = opened form ms ps ts size .run
+  it = opened form dialect ms ps ts size .run
 
   pub opened-size : it ≡ record { size = size; held = it .held }
   unfolding turnedAway begun
-  opened-size = go (beside form ms ps ts size)
+  opened-size = go (beside form dialect ms ps ts size)
     where
-      go : Beside size (opened form ms ps ts size) (matchWith form ms ps ts) → it ≡ record { size = size; held = it .held }
+      go : Beside size (opened form dialect ms ps ts size) (matchPicked form dialect ms ps ts) → it ≡ record { size = size; held = it .held }
       go (away a i c e f) = subst (λ (o : Opened). o .run ≡ record { size = size; held = o .run .held }) (sym e) refl
       go (fresh g r v e f) = subst (λ (o : Opened). o .run ≡ record { size = size; held = o .run .held }) (sym e) refl
 
   -- One portion tells what the match tells.
-  one-told : (n : ℕ) (room : List ℤ) → length room ≡ size → told n size (it .held) ≡ numbersOf (matchWith form ms ps ts (cut n) room)
+  one-told : (n : ℕ) (room : List ℤ) → length room ≡ size → told n size (it .held) ≡ numbersOf (matchPicked form dialect ms ps ts (cut n) room)
   unfolding turnedAway begun told numbersOf Services.turnedAway
-  one-told n room z = go (beside form ms ps ts size)
+  one-told n room z = go (beside form dialect ms ps ts size)
     where
-      go : Beside size (opened form ms ps ts size) (matchWith form ms ps ts) → told n size (it .held) ≡ numbersOf (matchWith form ms ps ts (cut n) room)
+      go : Beside size (opened form dialect ms ps ts size) (matchPicked form dialect ms ps ts) → told n size (it .held) ≡ numbersOf (matchPicked form dialect ms ps ts (cut n) room)
       go (away a i c e f) = ap (λ (o : Opened). told n size (o .run .held)) e ∙ sym (ap numbersOf (f (cut n) room))
       go (fresh g r v e f) = ap (λ (o : Opened). told n size (o .run .held)) e ∙ fresh-told g n size (start (r .matcher) (r .pattern) v) room z
           ∙ sym (ap numbersOf (f (cut n) room))
@@ -220,12 +232,12 @@ module _ (form : ℕ) (ms ps ts : List ℤ) (size : ℕ) where
   -- A portion leaves in the room what the match leaves, behind the words of the portions before.
   one-room : (a b : ℕ) (room : List ℤ) → length room ≡ size
       → roomAfter b size (heldAfter a size (it .held)) room
-      ≡ take (matchWith form ms ps ts (cut a) room .words) room ++ drop (matchWith form ms ps ts (cut a) room .words) (matchWith form ms ps ts (cut (a + b)) room .room)
+      ≡ take (matchPicked form dialect ms ps ts (cut a) room .words) room ++ drop (matchPicked form dialect ms ps ts (cut a) room .words) (matchPicked form dialect ms ps ts (cut (a + b)) room .room)
   unfolding turnedAway begun heldAfter roomAfter Services.turnedAway
-  one-room a b room z = go (beside form ms ps ts size)
+  one-room a b room z = go (beside form dialect ms ps ts size)
     where
-      go : Beside size (opened form ms ps ts size) (matchWith form ms ps ts) → roomAfter b size (heldAfter a size (it .held)) room
-          ≡ take (matchWith form ms ps ts (cut a) room .words) room ++ drop (matchWith form ms ps ts (cut a) room .words) (matchWith form ms ps ts (cut (a + b)) room .room)
+      go : Beside size (opened form dialect ms ps ts size) (matchPicked form dialect ms ps ts) → roomAfter b size (heldAfter a size (it .held)) room
+          ≡ take (matchPicked form dialect ms ps ts (cut a) room .words) room ++ drop (matchPicked form dialect ms ps ts (cut a) room .words) (matchPicked form dialect ms ps ts (cut (a + b)) room .room)
       go (away x i c e f) = ap (λ (o : Opened). roomAfter b size (heldAfter a size (o .run .held)) room) e
           ∙ sym (ap₂ (λ (k m : Matched). take (k .words) room ++ drop (k .words) (m .room)) (f (cut a) room) (f (cut (a + b)) room))
       go (fresh g r v e f) =
@@ -235,11 +247,11 @@ module _ (form : ℕ) (ms ps ts : List ℤ) (size : ℕ) where
           ∙ sym (ap₂ (λ (k m : Matched). take (k .words) room ++ drop (k .words) (m .room)) (f (cut a) room) (f (cut (a + b)) room))
 
   -- The portions one after the other.
-  pub as-one : (n : ℕ) (ns : List ℕ) (room : List ℤ) → length room ≡ size → matchedBy (portioned n ns room it) ≡ matchWith form ms ps ts (cut (n + sum ns)) room
+  pub as-one : (n : ℕ) (ns : List ℕ) (room : List ℤ) → length room ≡ size → matchedBy (portioned n ns room it) ≡ matchPicked form dialect ms ps ts (cut (n + sum ns)) room
   unfolding turnedAway begun numbersOf matched Services.turnedAway roomBy wordsBy
-  as-one n ns room z = go (beside form ms ps ts size)
+  as-one n ns room z = go (beside form dialect ms ps ts size)
     where
-      go : Beside size (opened form ms ps ts size) (matchWith form ms ps ts) → matchedBy (portioned n ns room it) ≡ matchWith form ms ps ts (cut (n + sum ns)) room
+      go : Beside size (opened form dialect ms ps ts size) (matchPicked form dialect ms ps ts) → matchedBy (portioned n ns room it) ≡ matchPicked form dialect ms ps ts (cut (n + sum ns)) room
       go (away a i c e f) = ap (λ (o : Opened). matchedBy (portioned n ns room (o .run))) e
           ∙ portioned-away size (record { answer = a; place = i; rows = 0; steps = 0; words = 0; cause = c }) n ns room z ∙ sym (f (cut (n + sum ns)) room)
       go (fresh g r v e f) =
@@ -258,15 +270,15 @@ module _ (form : ℕ) (ms ps ts : List ℤ) (size : ℕ) where
     lent-is : lent ≡ record { size = size; held = heldAfter (given size calls) size (it .held) }
     lent-is = ap (called calls) opened-size ∙ called-held calls size (it .held)
 
-    pub calls-told : (n : ℕ) (room : List ℤ) → length room ≡ size → advanced n room lent .numbers ≡ numbersOf (matchWith form ms ps ts (cut (given size calls + n)) room)
+    pub calls-told : (n : ℕ) (room : List ℤ) → length room ≡ size → advanced n room lent .numbers ≡ numbersOf (matchPicked form dialect ms ps ts (cut (given size calls + n)) room)
     unfolding goOn
     calls-told n room z = ap (λ l. advanced n room l .numbers) lent-is
         ∙ ap (λ (a : Advanced). a .numbers) (like n room (record { size = size; held = heldAfter (given size calls) size (it .held) }) z)
         ∙ told-add (given size calls) n size (it .held) ∙ one-told (given size calls + n) room z
 
     pub calls-room : (n : ℕ) (room : List ℤ) → length room ≡ size → advanced n room lent .room
-        ≡ take (matchWith form ms ps ts (cut (given size calls)) room .words) room
-        ++ drop (matchWith form ms ps ts (cut (given size calls)) room .words) (matchWith form ms ps ts (cut (given size calls + n)) room .room)
+        ≡ take (matchPicked form dialect ms ps ts (cut (given size calls)) room .words) room
+        ++ drop (matchPicked form dialect ms ps ts (cut (given size calls)) room .words) (matchPicked form dialect ms ps ts (cut (given size calls + n)) room .room)
     unfolding goOn
     calls-room n room z = ap (λ l. advanced n room l .room) lent-is
         ∙ ap (λ (a : Advanced). a .room) (like n room (record { size = size; held = heldAfter (given size calls) size (it .held) }) z)
@@ -303,88 +315,132 @@ zero-again n x l hx y hy = ap (λ (a : Advanced). advanced 0 y (a .run) .numbers
 unfoldable pub refusal : Opened → Numbers
 refusal o = record { answer = o .answer; place = o .place; rows = 0; steps = 0; words = 0; cause = o .cause }
 
-module _ (form : ℕ) (ms ps ts : List ℤ) (size : ℕ) where
-  pub refused-ended : opened form ms ps ts size .answer ≢ 0 → (n : ℕ) (room : List ℤ) → length room ≡ size
-      → advanced n room (opened form ms ps ts size .run) ≡ record { numbers = refusal (opened form ms ps ts size); room = room; run = opened form ms ps ts size .run }
+module _ (form dialect : ℕ) (ms ps ts : List ℤ) (size : ℕ) where
+  pub refused-ended : opened form dialect ms ps ts size .answer ≢ 0 → (n : ℕ) (room : List ℤ) → length room ≡ size
+      → advanced n room (opened form dialect ms ps ts size .run) ≡ record { numbers = refusal (opened form dialect ms ps ts size); room = room; run = opened form dialect ms ps ts size .run }
   unfolding turnedAway begun goOn told heldAfter roomAfter refusal
-  refused-ended h n room z = go (beside form ms ps ts size)
+  refused-ended h n room z = go (beside form dialect ms ps ts size)
     where
-      go : Beside size (opened form ms ps ts size) (matchWith form ms ps ts) → advanced n room (opened form ms ps ts size .run)
-          ≡ record { numbers = refusal (opened form ms ps ts size); room = room; run = opened form ms ps ts size .run }
+      go : Beside size (opened form dialect ms ps ts size) (matchPicked form dialect ms ps ts) → advanced n room (opened form dialect ms ps ts size .run)
+          ≡ record { numbers = refusal (opened form dialect ms ps ts size); room = room; run = opened form dialect ms ps ts size .run }
       go (away a i c e f) = subst (λ (o : Opened). advanced n room (o .run) ≡ record { numbers = refusal o; room = room; run = o .run })
           (sym e) (like n room (turnedAway size a i c .run) z)
       go (fresh g r v e f) = absurd (h (ap (λ (o : Opened). o .answer) e))
 
-  -- "20, unknown row form, before 1."
-  pub opening-unknown : formOf form ≡ none → opened form ms ps ts size ≡ turnedAway size 20 0 0
+  abbrev picked : Option Form → Option Dialect → Opened
+  picked x y = elim x as (λ _. Opened) [
+    | none ↦ turnedAway size 20 0 0
+    | some f ↦ elim y as (λ _. Opened) [ none ↦ turnedAway size 22 0 0 | some d ↦ openedIn (record { form = f; dialect = d }) ms ps ts size ]
+  ]
+
+  -- "20, unknown row form, before 1"; "22, unknown dialect, before 1 and after 20".
+  pub opening-unknown : formOf form ≡ none → opened form dialect ms ps ts size ≡ turnedAway size 20 0 0
   unfolding opened
-  opening-unknown e = ap (λ (x : Option Form). elim x as (λ _. Opened) [ none ↦ turnedAway size 20 0 0 | some f ↦ openedIn f ms ps ts size ]) e
+  opening-unknown e = ap (λ x. picked x (dialectOf dialect)) e
 
-  module _ (g : Form) (known : formOf form ≡ some g) where
-    opened-in : opened form ms ps ts size ≡ openedIn g ms ps ts size
+  pub opening-unknown-dialect : (f : Form) → formOf form ≡ some f → dialectOf dialect ≡ none → opened form dialect ms ps ts size ≡ turnedAway size 22 0 0
+  unfolding opened
+  opening-unknown-dialect f e k = ap (λ x. picked x (dialectOf dialect)) e ∙ ap (picked (some f)) k
+
+  module _ (f : Form) (in-form : formOf form ≡ some f) (d : Dialect) (in-dialect : dialectOf dialect ≡ some d) where
+    abbrev terms : Terms
+    terms = record { form = f; dialect = d }
+
+    opened-in : opened form dialect ms ps ts size ≡ openedIn terms ms ps ts size
     unfolding opened
-    opened-in = ap (λ (x : Option Form). elim x as (λ _. Opened) [ none ↦ turnedAway size 20 0 0 | some f ↦ openedIn f ms ps ts size ]) known
-
-    matched-in : (budget : ℕ) (room : List ℤ) → matchWith form ms ps ts budget room ≡ matchIn g ms ps ts budget room
-    unfolding matchWith
-    matched-in budget room =
-        ap (λ (x : Option Form). elim x as (λ _. Matched) [ none ↦ Services.turnedAway 20 0 0 room | some f ↦ matchIn f ms ps ts budget room ]) known
+    opened-in = ap (λ x. picked x (dialectOf dialect)) in-form ∙ ap (picked (some f)) in-dialect
 
     -- "The checks 1 to 6."
-    pub opening-refused : (a i : ℕ) → Fault ms ps ts a i → opened form ms ps ts size ≡ turnedAway size a i (causeIn a ts)
-    unfolding Services.turnedAway carriedOut runIn stopped
-    opening-refused a i w = go (beside form ms ps ts size)
-      where
-        q : matchWith form ms ps ts 0 [] ≡ Services.turnedAway a i (causeIn a ts) []
-        q = matched-in 0 [] ∙ match-turned g ms ps ts 0 [] a i w
+    pub opening-rule-refused : (a i : ℕ) → ruleIn d ms ps ≡ refused a i → opened form dialect ms ps ts size ≡ turnedAway size a i 0
+    unfolding openedIn openRule
+    opening-rule-refused a i e = opened-in ∙ ap (openRule terms size ts) e
 
-        six : a ≤ 6
-        six = refused-exactly g ms ps ts 0 [] a i .0 w .1
-
-        clash : 7 ≡ a → ⊥
-        clash h = let k = six in omega arith
-
-        go : Beside size (opened form ms ps ts size) (matchWith form ms ps ts) → opened form ms ps ts size ≡ turnedAway size a i (causeIn a ts)
-        go (away b j c e f) =
-            let t = sym (f 0 []) ∙ q in
-            e ∙ ap₂ (λ x y. turnedAway size x y c) (ap (λ (m : Matched). m .answer) t) (ap (λ (m : Matched). m .place) t)
-            ∙ ap (turnedAway size a i) (ap (λ (m : Matched). m .cause) t)
-        go (fresh h r v e f) = absurd (clash (ap (λ (m : Matched). m .answer) (sym (f 0 []) ∙ q)))
-
-    pub opening-begins : (r : Rule) (v : Value) → Sane ms ps ts r v → opened form ms ps ts size ≡ begun g size r v
+    pub opening-target-refused : (r : Rule) → ruleIn d ms ps ≡ accepted r → (a i : ℕ) → targetOf (r .matcher) ts ≡ refused a i
+        → opened form dialect ms ps ts size ≡ turnedAway size a i (causeIn a ts)
     unfolding openedIn openRule openTarget
-    opening-begins r v w = opened-in ∙ ap (openRule g size ts) (rule-accepted ms ps r .1 (w .rule))
-        ∙ ap (openTarget g size ts r) (target-accepted (r .matcher) ts v .1 (w .target))
+    opening-target-refused r e a i q = opened-in ∙ ap (openRule terms size ts) e ∙ ap (openTarget terms size ts r) q
+
+    pub opening-begins : (r : Rule) (v : Value) → ruleIn d ms ps ≡ accepted r → targetOf (r .matcher) ts ≡ accepted v
+        → opened form dialect ms ps ts size ≡ begun terms size r v
+    unfolding openedIn openRule openTarget
+    opening-begins r v e q = opened-in ∙ ap (openRule terms size ts) e ∙ ap (openTarget terms size ts r) q
+
+  -- By the first fault of the whole input, in dialect 1.
+  pub opening-refused : (f : Form) → formOf form ≡ some f → dialectOf dialect ≡ some everyPlace → (a i : ℕ) → Fault ms ps ts a i
+      → opened form dialect ms ps ts size ≡ turnedAway size a i (causeIn a ts)
+  opening-refused f e k a i (ofRule w) = opening-rule-refused f e everyPlace k a i (rule-refused ms ps a i .1 w) ∙ ap (turnedAway size a i) (no-cause w)
+    where
+      no-cause : {a i : ℕ} → RuleFault ms ps a i → 0 ≡ causeIn a ts
+      no-cause (notMatcher z) = unfold causeIn in refl
+      no-cause (notPattern y z) = unfold causeIn in refl
+      no-cause (misnumbered x y z) = unfold causeIn in refl
+      no-cause (misfit w x y z) = unfold causeIn in refl
+  opening-refused f e k a i (ofTarget r w t) =
+      opening-target-refused f e everyPlace k r (rule-accepted ms ps r .1 w) a i (target-refused (r .matcher) ts a i .1 t)
 
 -- ---- 19 is no answer of a match.
 
-run-most : (form : Form) (n : ℕ) (ss : List State) (free : ℕ) → (run form n ss free) .answer ≤ 8
+run-most : (terms : Terms) (n : ℕ) (ss : List State) (free : ℕ) → (run terms n ss free) .answer ≤ 8
 unfolding runIn
-run-most form zero [] free = omega arith
-run-most form zero (s ∷ ss) free = omega arith
-run-most form (suc n) [] free = omega arith
-run-most form (suc n) (state g [] e ∷ ss) free = go (leb (length (row form e)) free) (run-most form n ss (free - length (row form e)))
+run-most terms zero [] free = omega arith
+run-most terms zero (s ∷ ss) free = omega arith
+run-most terms (suc n) [] free = omega arith
+run-most terms (suc n) (state g [] e ∷ ss) free = go (leb (length (row (terms .form) e)) free) (run-most terms n ss (free - length (row (terms .form) e)))
   where
-    go : (b : Bool) → (run form n ss (free - length (row form e))) .answer ≤ 8
-        → (elim b as (λ _. Run) [ true ↦ rowStep (row form e) (run form n ss (free - length (row form e))) | false ↦ stopped 8 1 ]) .answer ≤ 8
+    go : (b : Bool) → (run terms n ss (free - length (row (terms .form) e))) .answer ≤ 8
+        → (elim b as (λ _. Run) [ true ↦ rowStep (row (terms .form) e) (run terms n ss (free - length (row (terms .form) e))) | false ↦ stopped 8 1 ]) .answer ≤ 8
     go true h = h
     go false h = omega arith
-run-most form (suc n) (state g (endOfNot ∷ older) e ∷ ss) free = run-most form n (leaveNot ss) free
-run-most form (suc n) (state g (atom p m v ∷ older) e ∷ ss) free = run-most form n (after p m v older e ++ ss) free
+run-most terms (suc n) (state g (endOfNot ∷ older) e ∷ ss) free = run-most terms n (leaveNot ss) free
+run-most terms (suc n) (state g (atom p m v ∷ older) e ∷ ss) free = run-most terms n (afterIn (terms .dialect) p m v older e ++ ss) free
 
-match-most : (form : Form) (ms ps ts : List ℤ) (budget : ℕ) (room : List ℤ) → (matchIn form ms ps ts budget room) .answer ≤ 8
-unfolding Services.turnedAway carriedOut
-match-most form ms ps ts budget room = go (match-judged form ms ps ts budget room)
-  where
-    go : Judgement form ms ps ts budget room (matchIn form ms ps ts budget room) → (matchIn form ms ps ts budget room) .answer ≤ 8
-    go (turned a i f q) = let k = refused-exactly form ms ps ts budget room a i .0 f .1 in let e = ap (λ (m : Matched). m .answer) q in omega arith
-    go (ran r v s q) =
-        let k = run-most form budget (start (r .matcher) (r .pattern) v ∷ []) (length room) in let e = ap (λ (m : Matched). m .answer) q in omega arith
+-- A refusal of the tests has an answer from 1 to 6.
+unfoldable Tested : {A : Type 0} → Judged A → Type 0
+Tested (accepted a) = 0 ≤ 6
+Tested (refused a i) = (1 ≤ a) × (a ≤ 6)
 
-pub match-never-19 : (n : ℕ) (ms ps ts : List ℤ) (budget : ℕ) (room : List ℤ) → (matchWith n ms ps ts budget room) .answer ≢ 19
-unfolding matchWith Services.turnedAway
-match-never-19 n ms ps ts budget room = go (formOf n)
+tested : {A B : Type 0} (number : ℕ) → (1 ≤ number) × (number ≤ 6) → (x : Verdict A) (next : A → Judged B) → ((a : A) → Tested (next a)) → Tested (test number x next)
+unfolding test Tested
+tested number h (ok a) next f = f a
+tested number h (fault i) next f = h
+
+rule-tested : (d : Dialect) (ms ps : List ℤ) → Tested (ruleIn d ms ps)
+unfolding ruleIn Tested
+rule-tested d ms ps =
+    tested 1 (omega arith) (readMatcher ms) _ λ m. tested 2 (omega arith) (readPattern ps) _ λ p.
+    tested 3 (omega arith) (variables p true 0 0) _ λ n. tested 4 (omega arith) (fitsIn d p m 0 []) _ λ ks. omega arith
+
+target-tested : (m : Matcher) (ts : List ℤ) → Tested (targetOf m ts)
+unfolding targetOf Tested
+target-tested m ts = tested 5 (omega arith) (readTarget ts) _ λ v. tested 6 (omega arith) (fitsValue m v 0) _ λ z. omega arith
+
+pub rule-refusal : (d : Dialect) (ms ps : List ℤ) (a i : ℕ) → ruleIn d ms ps ≡ refused a i → (1 ≤ a) × (a ≤ 6)
+unfolding Tested
+rule-refusal d ms ps a i e = subst Tested e (rule-tested d ms ps)
+
+pub target-refusal : (m : Matcher) (ts : List ℤ) (a i : ℕ) → targetOf m ts ≡ refused a i → (1 ≤ a) × (a ≤ 6)
+unfolding Tested
+target-refusal m ts a i e = subst Tested e (target-tested m ts)
+
+module _ (t : Terms) (budget : ℕ) (room ts : List ℤ) where
+  target-most : (r : Rule) (x : Judged Value) → Tested x → (matchTargetIn (t .dialect) (t .form) budget room ts r x) .answer ≤ 8
+  unfolding matchTargetIn Tested Services.turnedAway carriedOut
+  target-most r (accepted v) h = run-most t budget (start (r .matcher) (r .pattern) v ∷ []) (length room)
+  target-most r (refused a i) h = let k = h .1 in omega arith
+
+  rule-most : (x : Judged Rule) → Tested x → (matchRuleIn (t .dialect) (t .form) budget room ts x) .answer ≤ 8
+  unfolding matchRuleIn Tested Services.turnedAway
+  rule-most (accepted r) h = target-most r (targetOf (r .matcher) ts) (target-tested (r .matcher) ts)
+  rule-most (refused a i) h = let k = h .1 in omega arith
+
+pub match-never-19 : (form dialect : ℕ) (ms ps ts : List ℤ) (budget : ℕ) (room : List ℤ) → (matchPicked form dialect ms ps ts budget room) .answer ≢ 19
+unfolding matchPicked matchOf Services.turnedAway
+match-never-19 form dialect ms ps ts budget room = go (formOf form) (dialectOf dialect)
   where
-    go : (x : Option Form) → (elim x as (λ _. Matched) [ none ↦ Services.turnedAway 20 0 0 room | some f ↦ matchIn f ms ps ts budget room ]) .answer ≢ 19
-    go none h = omega arith
-    go (some f) h = let k = match-most f ms ps ts budget room in omega arith
+    go : (x : Option Form) (y : Option Dialect) → (elim x as (λ _. Matched) [
+      | none ↦ Services.turnedAway 20 0 0 room
+      | some f ↦ elim y as (λ _. Matched) [ none ↦ Services.turnedAway 22 0 0 room | some d ↦ matchOf d f ms ps ts budget room ]
+    ]) .answer ≢ 19
+    go none y h = omega arith
+    go (some f) none h = omega arith
+    go (some f) (some d) h = let k = rule-most (record { form = f; dialect = d }) budget room ts (ruleIn d ms ps) (rule-tested d ms ps) in omega arith

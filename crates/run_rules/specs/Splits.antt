@@ -8,9 +8,9 @@ use mathlib.Core.List.{List, [], _∷_, _++_, append-assoc}
 use lib.ListN.{length, length-append}
 use lib.Dec.{T, leb, leb→le}
 use lib.IntN.{ℤ}
-use Rattle.rules.specs.Rows.{Form, row}
-use Rattle.rules.specs.Search.{atom, endOfNot, State, state, after, leaveNot, Run, stopped, step, rowStep, run, runIn}
-use Rattle.run_rules.specs.Lent.{remaining}
+use Rattle.rules.specs.Rows.{row}
+use Rattle.rules.specs.Search.{atom, endOfNot, State, state, afterIn, leaveNot, Run, stopped, step, rowStep, runIn}
+use Rattle.run_rules.specs.Lent.{Terms, run, remaining}
 
 -- A run after what another has done.
 unfoldable pub behind : Run → Run → Run
@@ -21,19 +21,19 @@ same-run : (a : ℕ) {x x′ y y′ : ℕ} {w w′ : List ℤ} → x ≡ x′ �
 same-run a p q r i = record { answer = a; rows = p i; steps = q i; written = r i }
 
 -- Everything below is of rows in one form.
-module _ (form : Form) where
+module _ (terms : Terms) where
   pub data Split (p q : ℕ) (ss : List State) (free : ℕ) : Type 0 where
     -- After p steps it has ended.
-    over : remaining form p ss free ≡ [] → ((run form p ss free) .answer ≡ 7 → ⊥) → remaining form (p + q) ss free ≡ [] → run form (p + q) ss free ≡ run form p ss free → Split p q ss free
+    over : remaining terms p ss free ≡ [] → ((run terms p ss free) .answer ≡ 7 → ⊥) → remaining terms (p + q) ss free ≡ [] → run terms (p + q) ss free ≡ run terms p ss free → Split p q ss free
     -- It has taken p steps, and states remain.
-    further : (s : State) (others : List State) → remaining form p ss free ≡ s ∷ others → (run form p ss free) .answer ≡ 7 → (run form p ss free) .steps ≡ p
-        → remaining form (p + q) ss free ≡ remaining form q (s ∷ others) (free - length ((run form p ss free) .written))
-        → run form (p + q) ss free ≡ behind (run form p ss free) (run form q (s ∷ others) (free - length ((run form p ss free) .written))) → Split p q ss free
+    further : (s : State) (others : List State) → remaining terms p ss free ≡ s ∷ others → (run terms p ss free) .answer ≡ 7 → (run terms p ss free) .steps ≡ p
+        → remaining terms (p + q) ss free ≡ remaining terms q (s ∷ others) (free - length ((run terms p ss free) .written))
+        → run terms (p + q) ss free ≡ behind (run terms p ss free) (run terms q (s ∷ others) (free - length ((run terms p ss free) .written))) → Split p q ss free
 
   -- ---- One step before what comes; one step and one row before it.
 
-  module _ (p q : ℕ) (ss next : List State) (free : ℕ) (runs : (n : ℕ) → run form (suc n) ss free ≡ step (run form n next free))
-      (waits : (n : ℕ) → remaining form (suc n) ss free ≡ remaining form n next free) where
+  module _ (p q : ℕ) (ss next : List State) (free : ℕ) (runs : (n : ℕ) → run terms (suc n) ss free ≡ step (run terms n next free))
+      (waits : (n : ℕ) → remaining terms (suc n) ss free ≡ remaining terms n next free) where
     behind-step : (a b : Run) → step (behind a b) ≡ behind (step a) b
     unfolding step behind
     behind-step a b = same-run (b .answer) refl (sym (suc-add (a .steps) (b .steps))) refl
@@ -41,18 +41,18 @@ module _ (form : Form) where
     on-step : Split p q next free → Split (suc p) q ss free
     unfolding step
     on-step (over e n f r) = over (waits p ∙ e) (λ a. n (sym (ap (λ (x : Run). x .answer) (runs p)) ∙ a))
-        (ap (λ i. remaining form i ss free) (suc-add p q) ∙ waits (p + q) ∙ f)
-        (ap (λ i. run form i ss free) (suc-add p q) ∙ runs (p + q) ∙ ap step r ∙ sym (runs p))
+        (ap (λ i. remaining terms i ss free) (suc-add p q) ∙ waits (p + q) ∙ f)
+        (ap (λ i. run terms i ss free) (suc-add p q) ∙ runs (p + q) ∙ ap step r ∙ sym (runs p))
     on-step (further s others e a k f r) =
-        let w : (run form (suc p) ss free) .written ≡ (run form p next free) .written = ap (λ (x : Run). x .written) (runs p) in
+        let w : (run terms (suc p) ss free) .written ≡ (run terms p next free) .written = ap (λ (x : Run). x .written) (runs p) in
         further s others (waits p ∙ e) (ap (λ (x : Run). x .answer) (runs p) ∙ a) (ap (λ (x : Run). x .steps) (runs p) ∙ ap suc k)
-        (ap (λ i. remaining form i ss free) (suc-add p q) ∙ waits (p + q) ∙ f ∙ ap (λ (l : List ℤ). remaining form q (s ∷ others) (free - length l)) (sym w))
-        (ap (λ i. run form i ss free) (suc-add p q) ∙ runs (p + q) ∙ ap step r ∙ behind-step (run form p next free) _
-        ∙ ap (λ x. behind x (run form q (s ∷ others) (free - length ((run form p next free) .written)))) (sym (runs p))
-        ∙ ap (λ (l : List ℤ). behind (run form (suc p) ss free) (run form q (s ∷ others) (free - length l))) (sym w))
+        (ap (λ i. remaining terms i ss free) (suc-add p q) ∙ waits (p + q) ∙ f ∙ ap (λ (l : List ℤ). remaining terms q (s ∷ others) (free - length l)) (sym w))
+        (ap (λ i. run terms i ss free) (suc-add p q) ∙ runs (p + q) ∙ ap step r ∙ behind-step (run terms p next free) _
+        ∙ ap (λ x. behind x (run terms q (s ∷ others) (free - length ((run terms p next free) .written)))) (sym (runs p))
+        ∙ ap (λ (l : List ℤ). behind (run terms (suc p) ss free) (run terms q (s ∷ others) (free - length l))) (sym w))
 
-  module _ (p q : ℕ) (ss next : List State) (free : ℕ) (ws : List ℤ) (runs : (n : ℕ) → run form (suc n) ss free ≡ rowStep ws (run form n next (free - length ws)))
-      (waits : (n : ℕ) → remaining form (suc n) ss free ≡ remaining form n next (free - length ws)) where
+  module _ (p q : ℕ) (ss next : List State) (free : ℕ) (ws : List ℤ) (runs : (n : ℕ) → run terms (suc n) ss free ≡ rowStep ws (run terms n next (free - length ws)))
+      (waits : (n : ℕ) → remaining terms (suc n) ss free ≡ remaining terms n next (free - length ws)) where
     behind-row : (a b : Run) → rowStep ws (behind a b) ≡ behind (rowStep ws a) b
     unfolding rowStep behind
     behind-row a b = same-run (b .answer) (sym (suc-add (a .rows) (b .rows))) (sym (suc-add (a .steps) (b .steps))) (sym (append-assoc ws (a .written) (b .written)))
@@ -63,26 +63,26 @@ module _ (form : Form) where
     on-row : Split p q next (free - length ws) → Split (suc p) q ss free
     unfolding rowStep
     on-row (over e n f r) = over (waits p ∙ e) (λ a. n (sym (ap (λ (x : Run). x .answer) (runs p)) ∙ a))
-        (ap (λ i. remaining form i ss free) (suc-add p q) ∙ waits (p + q) ∙ f)
-        (ap (λ i. run form i ss free) (suc-add p q) ∙ runs (p + q) ∙ ap (rowStep ws) r ∙ sym (runs p))
+        (ap (λ i. remaining terms i ss free) (suc-add p q) ∙ waits (p + q) ∙ f)
+        (ap (λ i. run terms i ss free) (suc-add p q) ∙ runs (p + q) ∙ ap (rowStep ws) r ∙ sym (runs p))
     on-row (further s others e a k f r) =
-        let w : (run form (suc p) ss free) .written ≡ ws ++ (run form p next (free - length ws)) .written = ap (λ (x : Run). x .written) (runs p) in
-        let z : free - length ws - length ((run form p next (free - length ws)) .written) ≡ free - length ((run form (suc p) ss free) .written) =
-        left-over ((run form p next (free - length ws)) .written) ∙ ap (λ (l : List ℤ). free - length l) (sym w) in
+        let w : (run terms (suc p) ss free) .written ≡ ws ++ (run terms p next (free - length ws)) .written = ap (λ (x : Run). x .written) (runs p) in
+        let z : free - length ws - length ((run terms p next (free - length ws)) .written) ≡ free - length ((run terms (suc p) ss free) .written) =
+        left-over ((run terms p next (free - length ws)) .written) ∙ ap (λ (l : List ℤ). free - length l) (sym w) in
         further s others (waits p ∙ e) (ap (λ (x : Run). x .answer) (runs p) ∙ a) (ap (λ (x : Run). x .steps) (runs p) ∙ ap suc k)
-        (ap (λ i. remaining form i ss free) (suc-add p q) ∙ waits (p + q) ∙ f ∙ ap (λ i. remaining form q (s ∷ others) i) z)
-        (ap (λ i. run form i ss free) (suc-add p q) ∙ runs (p + q) ∙ ap (rowStep ws) r ∙ behind-row (run form p next (free - length ws)) _
-        ∙ ap (λ x. behind x (run form q (s ∷ others) (free - length ws - length ((run form p next (free - length ws)) .written)))) (sym (runs p))
-        ∙ ap (λ i. behind (run form (suc p) ss free) (run form q (s ∷ others) i)) z)
+        (ap (λ i. remaining terms i ss free) (suc-add p q) ∙ waits (p + q) ∙ f ∙ ap (λ i. remaining terms q (s ∷ others) i) z)
+        (ap (λ i. run terms i ss free) (suc-add p q) ∙ runs (p + q) ∙ ap (rowStep ws) r ∙ behind-row (run terms p next (free - length ws)) _
+        ∙ ap (λ x. behind x (run terms q (s ∷ others) (free - length ws - length ((run terms p next (free - length ws)) .written)))) (sym (runs p))
+        ∙ ap (λ i. behind (run terms (suc p) ss free) (run terms q (s ∷ others) i)) z)
 
   -- ---- No step.
 
-  none-run : (n free : ℕ) → run form n [] free ≡ stopped 0 0
+  none-run : (n free : ℕ) → run terms n [] free ≡ stopped 0 0
   unfolding runIn
   none-run zero free = refl
   none-run (suc n) free = refl
 
-  none-remain : (n free : ℕ) → remaining form n [] free ≡ []
+  none-remain : (n free : ℕ) → remaining terms n [] free ≡ []
   unfolding remaining
   none-remain zero free = refl
   none-remain (suc n) free = refl
@@ -98,9 +98,9 @@ module _ (form : Form) where
   first-split : (q : ℕ) (s : State) (ss : List State) (free : ℕ) → Split 0 q (s ∷ ss) free
   unfolding runIn remaining stopped behind
   first-split q s ss free = further s ss refl refl refl
-      (ap (λ i. remaining form i (s ∷ ss) free) (zero-add q) ∙ ap (λ i. remaining form q (s ∷ ss) i) (sym (sub-zero free)))
-      (ap (λ i. run form i (s ∷ ss) free) (zero-add q) ∙ ap (λ i. run form q (s ∷ ss) i) (sym (sub-zero free))
-      ∙ same-run ((run form q (s ∷ ss) (free - 0)) .answer) (sym (zero-add _)) (sym (zero-add _)) refl)
+      (ap (λ i. remaining terms i (s ∷ ss) free) (zero-add q) ∙ ap (λ i. remaining terms q (s ∷ ss) i) (sym (sub-zero free)))
+      (ap (λ i. run terms i (s ∷ ss) free) (zero-add q) ∙ ap (λ i. run terms q (s ∷ ss) i) (sym (sub-zero free))
+      ∙ same-run ((run terms q (s ∷ ss) (free - 0)) .answer) (sym (zero-add _)) (sym (zero-add _)) refl)
 
   -- ---- Every run is so divided.
 
@@ -109,41 +109,41 @@ module _ (form : Form) where
   split zero q [] free = none-split 0 q free
   split zero q (s ∷ ss) free = first-split q s ss free
   split (suc p) q [] free = none-split (suc p) q free
-  split (suc p) q (state g [] e ∷ ss) free = go (leb (length (row form e)) free) refl (split p q ss (free - length (row form e)))
+  split (suc p) q (state g [] e ∷ ss) free = go (leb (length (row (terms .form) e)) free) refl (split p q ss (free - length (row (terms .form) e)))
     where
-      go : (b : Bool) → leb (length (row form e)) free ≡ b → Split p q ss (free - length (row form e)) → Split (suc p) q (state g [] e ∷ ss) free
-      go true t h = on-row p q (state g [] e ∷ ss) ss free (row form e)
-          (λ n. ap (λ b. elim b as (λ _. Run) [ true ↦ rowStep (row form e) (run form n ss (free - length (row form e))) | false ↦ stopped 8 1 ]) t)
-          (λ n. ap (λ b. elim b as (λ _. List State) [ true ↦ remaining form n ss (free - length (row form e)) | false ↦ [] ]) t) h
+      go : (b : Bool) → leb (length (row (terms .form) e)) free ≡ b → Split p q ss (free - length (row (terms .form) e)) → Split (suc p) q (state g [] e ∷ ss) free
+      go true t h = on-row p q (state g [] e ∷ ss) ss free (row (terms .form) e)
+          (λ n. ap (λ b. elim b as (λ _. Run) [ true ↦ rowStep (row (terms .form) e) (run terms n ss (free - length (row (terms .form) e))) | false ↦ stopped 8 1 ]) t)
+          (λ n. ap (λ b. elim b as (λ _. List State) [ true ↦ remaining terms n ss (free - length (row (terms .form) e)) | false ↦ [] ]) t) h
       go false t h = over (none p) (λ a. clash (sym (ap (λ (x : Run). x .answer) (full p)) ∙ a))
-          (ap (λ i. remaining form i (state g [] e ∷ ss) free) (suc-add p q) ∙ none (p + q)) (ap (λ i. run form i (state g [] e ∷ ss) free) (suc-add p q) ∙ full (p + q) ∙ sym (full p))
+          (ap (λ i. remaining terms i (state g [] e ∷ ss) free) (suc-add p q) ∙ none (p + q)) (ap (λ i. run terms i (state g [] e ∷ ss) free) (suc-add p q) ∙ full (p + q) ∙ sym (full p))
         where
-          full : (n : ℕ) → run form (suc n) (state g [] e ∷ ss) free ≡ stopped 8 1
-          full n = ap (λ b. elim b as (λ _. Run) [ true ↦ rowStep (row form e) (run form n ss (free - length (row form e))) | false ↦ stopped 8 1 ]) t
+          full : (n : ℕ) → run terms (suc n) (state g [] e ∷ ss) free ≡ stopped 8 1
+          full n = ap (λ b. elim b as (λ _. Run) [ true ↦ rowStep (row (terms .form) e) (run terms n ss (free - length (row (terms .form) e))) | false ↦ stopped 8 1 ]) t
 
-          none : (n : ℕ) → remaining form (suc n) (state g [] e ∷ ss) free ≡ []
-          none n = ap (λ b. elim b as (λ _. List State) [ true ↦ remaining form n ss (free - length (row form e)) | false ↦ [] ]) t
+          none : (n : ℕ) → remaining terms (suc n) (state g [] e ∷ ss) free ≡ []
+          none n = ap (λ b. elim b as (λ _. List State) [ true ↦ remaining terms n ss (free - length (row (terms .form) e)) | false ↦ [] ]) t
 
           clash : _≡_ {A = ℕ} 8 7 → ⊥
           clash h = omega arith
   split (suc p) q (state g (endOfNot ∷ older) e ∷ ss) free =
       on-step p q (state g (endOfNot ∷ older) e ∷ ss) (leaveNot ss) free (λ n. refl) (λ n. refl) (split p q (leaveNot ss) free)
   split (suc p) q (state g (atom x m v ∷ older) e ∷ ss) free =
-      on-step p q (state g (atom x m v ∷ older) e ∷ ss) (after x m v older e ++ ss) free (λ n. refl) (λ n. refl) (split p q (after x m v older e ++ ss) free)
+      on-step p q (state g (atom x m v ∷ older) e ∷ ss) (afterIn (terms .dialect) x m v older e ++ ss) free (λ n. refl) (λ n. refl) (split p q (afterIn (terms .dialect) x m v older e ++ ss) free)
 
   -- ---- What is written has its place in the room.
 
-  pub written-fits : (n : ℕ) (ss : List State) (free : ℕ) → length ((run form n ss free) .written) ≤ free
+  pub written-fits : (n : ℕ) (ss : List State) (free : ℕ) → length ((run terms n ss free) .written) ≤ free
   unfolding runIn
   written-fits zero [] free = zero-le
   written-fits zero (s ∷ ss) free = zero-le
   written-fits (suc n) [] free = zero-le
   written-fits (suc n) (state g [] e ∷ ss) free =
-      go (leb (length (row form e)) free) (leb→le (length (row form e)) free) (written-fits n ss (free - length (row form e)))
+      go (leb (length (row (terms .form) e)) free) (leb→le (length (row (terms .form) e)) free) (written-fits n ss (free - length (row (terms .form) e)))
     where
-      go : (b : Bool) → (T b → length (row form e) ≤ free) → length ((run form n ss (free - length (row form e))) .written) ≤ free - length (row form e)
-          → length ((elim b as (λ _. Run) [ true ↦ rowStep (row form e) (run form n ss (free - length (row form e))) | false ↦ stopped 8 1 ]) .written) ≤ free
-      go true f h = let k = f tt in omega (arith, length-append (row form e) ((run form n ss (free - length (row form e))) .written))
+      go : (b : Bool) → (T b → length (row (terms .form) e) ≤ free) → length ((run terms n ss (free - length (row (terms .form) e))) .written) ≤ free - length (row (terms .form) e)
+          → length ((elim b as (λ _. Run) [ true ↦ rowStep (row (terms .form) e) (run terms n ss (free - length (row (terms .form) e))) | false ↦ stopped 8 1 ]) .written) ≤ free
+      go true f h = let k = f tt in omega (arith, length-append (row (terms .form) e) ((run terms n ss (free - length (row (terms .form) e))) .written))
       go false f h = zero-le
   written-fits (suc n) (state g (endOfNot ∷ older) e ∷ ss) free = written-fits n (leaveNot ss) free
-  written-fits (suc n) (state g (atom p m v ∷ older) e ∷ ss) free = written-fits n (after p m v older e ++ ss) free
+  written-fits (suc n) (state g (atom p m v ∷ older) e ∷ ss) free = written-fits n (afterIn (terms .dialect) p m v older e ++ ss) free

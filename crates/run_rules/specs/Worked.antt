@@ -13,9 +13,10 @@ pub data Line : Type 0 where
   advances : (portion lent : ℕ) (numbers : List ℕ) (at : ℕ) (written : List ℤ) → Line
   fills : ℤ → Line
 
--- Row form, matcher, pattern, target, room size; what the opening must answer; the lines.
+-- Row form, dialect, matcher, pattern, target, room size; what the opening must answer; the lines.
 pub record Script : Type 0 where
   pub form : ℕ
+  pub dialect : ℕ
   pub matcher : List ℤ
   pub pattern : List ℤ
   pub target : List ℤ
@@ -59,7 +60,7 @@ gameRoom = held 9
 unfoldable pub computed : Script → List Seen
 unfolding played opened held
 computed s =
-    let o = opened (s .form) (s .matcher) (s .pattern) (s .target) (s .size) in
+    let o = opened (s .form) (s .dialect) (s .matcher) (s .pattern) (s .target) (s .size) in
     record { numbers = o .answer ∷ o .place ∷ o .cause ∷ []; room = gameRoom } ∷ played (o .run) gameRoom (s .lines)
 
 unfoldable pub stated : Script → List Seen
@@ -68,13 +69,13 @@ stated s = record { numbers = s .answer; room = gameRoom } ∷ said gameRoom (s 
 
 -- ---- The scripts.
 
-unfoldable pub scriptIn : (form : ℕ) (ms ps ts : List ℤ) (size : ℕ) → List ℕ → List Line → Script
-scriptIn form ms ps ts size ns ls = record { form = form; matcher = ms; pattern = ps; target = ts; size = size; answer = ns; lines = ls }
+unfoldable pub scriptIn : (form dialect : ℕ) (ms ps ts : List ℤ) (size : ℕ) → List ℕ → List Line → Script
+scriptIn form dialect ms ps ts size ns ls = record { form = form; dialect = dialect; matcher = ms; pattern = ps; target = ts; size = size; answer = ns; lines = ls }
 
--- Rows in form 1.
+-- Rows in form 1, dialect 1.
 unfoldable pub script : (ms ps ts : List ℤ) (size : ℕ) → List ℕ → List Line → Script
 unfolding scriptIn
-script ms ps ts size ns ls = scriptIn 1 ms ps ts size ns ls
+script ms ps ts size ns ls = scriptIn 1 1 ms ps ts size ns ls
 
 -- P1: two of a rank on {2 8 2}; the rows, of two words each, are at the steps 9 and 21 of 22.
 unfoldable pub pair : (size : ℕ) → List Line → Script
@@ -164,18 +165,40 @@ scripts =
     ∷ []
     )
     -- In form 2, a pair's row is where its unit stands; the room of five words holds one.
-    ∷ scriptIn 2 (nums (3 ∷ 1 ∷ [])) (nums (5 ∷ 1 ∷ 0 ∷ 5 ∷ 3 ∷ 0 ∷ 0 ∷ 0 ∷ [])) (braces (nums (2 ∷ 8 ∷ 2 ∷ []))) 5 (0 ∷ 0 ∷ 0 ∷ []) (
+    ∷ scriptIn 2 1 (nums (3 ∷ 1 ∷ [])) (nums (5 ∷ 1 ∷ 0 ∷ 5 ∷ 3 ∷ 0 ∷ 0 ∷ 0 ∷ [])) (braces (nums (2 ∷ 8 ∷ 2 ∷ []))) 5 (0 ∷ 0 ∷ 0 ∷ []) (
     advances 9 5 (7 ∷ 0 ∷ 1 ∷ 9 ∷ 3 ∷ 0 ∷ []) 0 (nums (2 ∷ 0 ∷ 0 ∷ []))
     ∷ advances 11 5 (7 ∷ 0 ∷ 1 ∷ 20 ∷ 3 ∷ 0 ∷ []) 3 []
     ∷ advances 11 5 (8 ∷ 0 ∷ 1 ∷ 21 ∷ 3 ∷ 0 ∷ []) 3 []
     ∷ []
     )
     -- An unknown row form, before 1.
-    ∷ scriptIn 3 [] [] [] 2 (20 ∷ 0 ∷ 0 ∷ []) (
+    ∷ scriptIn 3 1 [] [] [] 2 (20 ∷ 0 ∷ 0 ∷ []) (
     advances 9 2 (20 ∷ 0 ∷ 0 ∷ 0 ∷ 0 ∷ 0 ∷ []) 0 []
     ∷ advances 9 1 other 0 []
     ∷ []
     )
+    -- An unknown dialect, before 1; an unknown form comes first, and a room of another size before either.
+    ∷ scriptIn 2 3 (nums (9 ∷ [])) (nums (0 ∷ [])) (nums (1 ∷ 0 ∷ [])) 8 (22 ∷ 0 ∷ 0 ∷ []) (
+    advances 1 8 (22 ∷ 0 ∷ 0 ∷ 0 ∷ 0 ∷ 0 ∷ []) 0 []
+    ∷ advances 1 7 other 0 []
+    ∷ []
+    )
+    ∷ scriptIn 1 0 [] [] [] 2 (22 ∷ 0 ∷ 0 ∷ []) []
+    ∷ scriptIn 3 3 (nums (9 ∷ [])) (nums (0 ∷ [])) (nums (1 ∷ 0 ∷ [])) 8 (20 ∷ 0 ∷ 0 ∷ []) (
+    advances 1 8 (20 ∷ 0 ∷ 0 ∷ 0 ∷ 0 ∷ 0 ∷ []) 0 []
+    ∷ advances 1 9 other 0 []
+    ∷ []
+    )
+    -- In dialect 2 the second unit of rank 2 is no choice of its own, but the pair is still there: one row, at step 9 of 13.
+    ∷ scriptIn 1 2 (nums (3 ∷ 1 ∷ [])) (nums (5 ∷ 1 ∷ 0 ∷ 5 ∷ 3 ∷ 0 ∷ 0 ∷ 0 ∷ [])) (braces (nums (2 ∷ 8 ∷ 2 ∷ []))) 8 (0 ∷ 0 ∷ 0 ∷ []) (
+    advances 8 8 (7 ∷ 0 ∷ 0 ∷ 8 ∷ 0 ∷ 0 ∷ []) 0 []
+    ∷ advances 1 8 (7 ∷ 0 ∷ 1 ∷ 9 ∷ 2 ∷ 0 ∷ []) 0 two
+    ∷ advances 4 8 (0 ∷ 0 ∷ 1 ∷ 13 ∷ 2 ∷ 0 ∷ []) 2 []
+    ∷ []
+    )
+    -- Something in the element matcher: the cons is 4 in dialect 2; in dialect 1 the join inside is.
+    ∷ scriptIn 1 2 (nums (3 ∷ 0 ∷ [])) (nums (5 ∷ 6 ∷ 0 ∷ 0 ∷ 0 ∷ [])) (braces []) 2 (4 ∷ 0 ∷ 0 ∷ []) (advances 9 2 (4 ∷ 0 ∷ 0 ∷ 0 ∷ 0 ∷ 0 ∷ []) 0 [] ∷ [])
+    ∷ scriptIn 1 1 (nums (3 ∷ 0 ∷ [])) (nums (5 ∷ 6 ∷ 0 ∷ 0 ∷ 0 ∷ [])) (braces []) 2 (4 ∷ 1 ∷ 0 ∷ []) (advances 9 2 (4 ∷ 1 ∷ 0 ∷ 0 ∷ 0 ∷ 0 ∷ []) 0 [] ∷ [])
     ∷ []
 
 -- THE CLAIM: each line's numbers and the whole room after it are what the definitions compute.

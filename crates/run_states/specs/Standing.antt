@@ -15,7 +15,7 @@ use Rattle.rules.specs.Fit.{fits, fitsValue}
 use Rattle.rules.specs.Search as paper
 use Rattle.rules.specs.Search.{start}
 use Rattle.forms.specs.Written.{Widthsᵖ}
-use Rattle.run_rules.specs.Lent.{Numbers, Held, ended, going, remaining, holding, allowed, since, writtenAt, told, heldAfter, roomAfter}
+use Rattle.run_rules.specs.Lent.{Terms, Numbers, Held, ended, going, remaining, holding, allowed, since, writtenAt, told, heldAfter, roomAfter}
 use Rattle.program_rules.specs.Program.{program, pointAt}
 use Rattle.program_rules.specs.Fitted.{program-follows}
 use Rattle.program_rules.specs.Closed.{Closed}
@@ -50,6 +50,10 @@ unfoldable pub numbersOf : State → Numbers
 unfolding answerOf
 numbersOf x = record { answer = answerOf (x .live); place = 0; rows = x .rows; steps = x .steps; words = x .words; cause = 0 }
 
+-- What the run's opening was told.
+abbrev pub termsOf : Env → Terms
+termsOf e = record { form = e .form; dialect = e .dialect }
+
 -- ---- What an engine and the states that it stands for have in common.
 
 module _ (D : Data) (code : ℕ → Instr) (points : ℕ → Point) where
@@ -68,16 +72,16 @@ module _ (D : Data) (code : ℕ → Instr) (points : ℕ → Point) where
 module _ (e : Env) (g : Target (e .words)) (fine : Fine e) (m : Matcher) (p : Pattern) (at₀ : ℕ) (ks : List Matcher) (fit : fits p m at₀ [] ≡ ok ks) (wide : Widthsᵖ p) (closed : Closed p)
     (means : (pc : ℕ) → pc ≤ instrs p m → Means (e .matcher) (e .vars) (lineAt e pc) (getD (e .to) pc 0) (program m p pc))
     (after : (pc : ℕ) → instrs p m < pc → getD (e .op) pc 0 ≡ 0) where
-  same-turns : (n : ℕ) {k : Engine (places (e .form) (e .words) g)} {K : Machine}
-      → Same (places (e .form) (e .words) g) (program m p) (pointAt m p) (program-follows m p at₀ ks fit wide closed) k K
-      → Same (places (e .form) (e .words) g) (program m p) (pointAt m p) (program-follows m p at₀ ks fit wide closed) (turns (places (e .form) (e .words) g) (program m p) n k)
-      (times (e .form) n K)
+  same-turns : (n : ℕ) {k : Engine (places (e .dialect) (e .form) (e .words) g)} {K : Machine}
+      → Same (places (e .dialect) (e .form) (e .words) g) (program m p) (pointAt m p) (program-follows m p at₀ ks fit wide closed) k K
+      → Same (places (e .dialect) (e .form) (e .words) g) (program m p) (pointAt m p) (program-follows m p at₀ ks fit wide closed) (turns (places (e .dialect) (e .form) (e .words) g) (program m p) n k)
+      (times (e .dialect) (e .form) n K)
   unfolding turns times
   same-turns zero q = q
-  same-turns (suc n) q = same-turns n (drive.same-turn (places (e .form) (e .words) g) (program m p) (pointAt m p) (program-follows m p at₀ ks fit wide closed) q)
+  same-turns (suc n) q = same-turns n (drive.same-turn (places (e .dialect) (e .form) (e .words) g) (program m p) (pointAt m p) (program-follows m p at₀ ks fit wide closed) q)
 
   verdict-is : (q : Run) → (q .state .live ≡ 0) ⊎ ((q .state .live ≡ 1) ⊎ (q .state .live ≡ 3))
-      → verdict (places (e .form) (e .words) g) (engineOf (e .form) (e .words) g q .full) (engineOf (e .form) (e .words) g q .conf) ≡ answerOf (q .state .live)
+      → verdict (places (e .dialect) (e .form) (e .words) g) (engineOf (e .dialect) (e .form) (e .words) g q .full) (engineOf (e .dialect) (e .form) (e .words) g q .conf) ≡ answerOf (q .state .live)
   unfolding engineOf standing answerOf verdict when
   verdict-is q (inl h) = rw h
   verdict-is q (inr (inl h)) = rw h
@@ -87,12 +91,12 @@ module _ (e : Env) (g : Target (e .words)) (fine : Fine e) (m : Matcher) (p : Pa
   pub record Going (size : ℕ) (x : State) (t : Tables) (b : List Binding) (s : paper.State) (ss : List paper.State) : Type 0 where
     pub live-is : x .live ≡ 1
     pub valid : (room : List ℤ) → length room ≡ size → Valid e (run x t b room)
-    pub rep : Rep (places (e .form) (e .words) g) (program m p) (pointAt m p) (some (confOf (e .form) (e .words) g x t b)) (s ∷ ss)
+    pub rep : Rep (places (e .dialect) (e .form) (e .words) g) (program m p) (pointAt m p) (some (confOf (e .dialect) (e .form) (e .words) g x t b)) (s ∷ ss)
 
   -- What a run holds: it has ended, or it goes on.
   pub data Stood (size : ℕ) (x : State) (t : Tables) (b : List Binding) (h : Held) : Type 0 where
     over : (x .live ≡ 1 → ⊥) → h ≡ ended (numbersOf x) → Stood size x t b h
-    goes-on : (s : paper.State) (ss : List paper.State) → h ≡ going (e .form) s ss (x .rows) (x .steps) (x .words) → Going size x t b s ss → Stood size x t b h
+    goes-on : (s : paper.State) (ss : List paper.State) → h ≡ going (termsOf e) s ss (x .rows) (x .steps) (x .words) → Going size x t b s ss → Stood size x t b h
 
   module _ (size : ℕ) (x : State) (t : Tables) (b : List Binding) (s : paper.State) (ss : List paper.State) (w : Going size x t b s ss) (room : List ℤ) (l : length room ≡ size) where
     abbrev r : Run
@@ -101,7 +105,7 @@ module _ (e : Env) (g : Target (e .words)) (fine : Fine e) (m : Matcher) (p : Pa
     abbrev k₀ : Machine
     k₀ = machine (s ∷ ss) (length room - x .words) (x .rows) (x .steps) (take (x .words) room) false
 
-    same₀ : Same (places (e .form) (e .words) g) (program m p) (pointAt m p) (program-follows m p at₀ ks fit wide closed) (engineOf (e .form) (e .words) g r) k₀
+    same₀ : Same (places (e .dialect) (e .form) (e .words) g) (program m p) (pointAt m p) (program-follows m p at₀ ks fit wide closed) (engineOf (e .dialect) (e .form) (e .words) g r) k₀
     unfolding engineOf standing when
     same₀ = rw (w .live-is) (running (w .rep))
 
@@ -120,29 +124,29 @@ module _ (e : Env) (g : Target (e .words)) (fine : Fine e) (m : Matcher) (p : Pa
       r₁ = runOf e n r
 
       abbrev k₁ : Machine
-      k₁ = times (e .form) n k₀
+      k₁ = times (e .dialect) (e .form) n k₀
 
       stands₁ : Stands e g fine m p at₀ ks fit wide closed means after room r₁
       stands₁ = run-stands e g fine m p at₀ ks fit wide closed means after n room r stands₀
 
-      same₁ : Same (places (e .form) (e .words) g) (program m p) (pointAt m p) (program-follows m p at₀ ks fit wide closed) (engineOf (e .form) (e .words) g r₁) k₁
-      same₁ = subst (λ k. Same (places (e .form) (e .words) g) (program m p) (pointAt m p) (program-follows m p at₀ ks fit wide closed) k k₁)
+      same₁ : Same (places (e .dialect) (e .form) (e .words) g) (program m p) (pointAt m p) (program-follows m p at₀ ks fit wide closed) (engineOf (e .dialect) (e .form) (e .words) g r₁) k₁
+      same₁ = subst (λ k. Same (places (e .dialect) (e .form) (e .words) g) (program m p) (pointAt m p) (program-follows m p at₀ ks fit wide closed) k k₁)
           (sym (run-is e g fine m p at₀ ks fit wide closed means after n room r stands₀)) (same-turns n same₀)
 
-      after₁ : After (x .rows) (x .steps) (take (x .words) room) (paper.run (e .form) n (s ∷ ss) (length room - x .words)) (remaining (e .form) n (s ∷ ss) (length room - x .words)) k₁
-      after₁ = goes (e .form) n (s ∷ ss) (length room - x .words) (x .rows) (x .steps) (take (x .words) room)
+      after₁ : After (x .rows) (x .steps) (take (x .words) room) (paper.runIn (e .dialect) (e .form) n (s ∷ ss) (length room - x .words)) (remaining (termsOf e) n (s ∷ ss) (length room - x .words)) k₁
+      after₁ = goes (termsOf e) n (s ∷ ss) (length room - x .words) (x .rows) (x .steps) (take (x .words) room)
 
-      told₁ : reports (places (e .form) (e .words) g) (engineOf (e .form) (e .words) g r₁) ≡ machines.told k₁
-      told₁ = same-result (places (e .form) (e .words) g) (program m p) (pointAt m p) (program-follows m p at₀ ks fit wide closed) same₁
+      told₁ : reports (places (e .dialect) (e .form) (e .words) g) (engineOf (e .dialect) (e .form) (e .words) g r₁) ≡ machines.told k₁
+      told₁ = same-result (places (e .dialect) (e .form) (e .words) g) (program m p) (pointAt m p) (program-follows m p at₀ ks fit wide closed) same₁
 
       abbrev new : List ℤ
-      new = (paper.run (e .form) n (s ∷ ss) (length room - x .words)) .written
+      new = (paper.runIn (e .dialect) (e .form) n (s ∷ ss) (length room - x .words)) .written
 
-      rows₁ : r₁ .state .rows ≡ x .rows + (paper.run (e .form) n (s ∷ ss) (length room - x .words)) .rows
+      rows₁ : r₁ .state .rows ≡ x .rows + (paper.runIn (e .dialect) (e .form) n (s ∷ ss) (length room - x .words)) .rows
       unfolding reports machines.told engineOf
       rows₁ = ap (λ (q : paper.Run). q .rows) told₁ ∙ after₁ .rows-are
 
-      steps₁ : r₁ .state .steps ≡ x .steps + (paper.run (e .form) n (s ∷ ss) (length room - x .words)) .steps
+      steps₁ : r₁ .state .steps ≡ x .steps + (paper.runIn (e .dialect) (e .form) n (s ∷ ss) (length room - x .words)) .steps
       unfolding reports machines.told engineOf
       steps₁ = ap (λ (q : paper.Run). q .steps) told₁ ∙ after₁ .steps-are
 
@@ -162,27 +166,27 @@ module _ (e : Env) (g : Target (e .words)) (fine : Fine e) (m : Matcher) (p : Pa
           ∙ ap₂ (λ a c. a ++ c) written₁ (stands₁ .kept .after ∙ ap (λ i. drop i room) words₁)
           ∙ append-assoc (take (x .words) room) new (drop (x .words + length new) room)
 
-      answer₁ : answerOf (r₁ .state .live) ≡ (paper.run (e .form) n (s ∷ ss) (length room - x .words)) .answer
+      answer₁ : answerOf (r₁ .state .live) ≡ (paper.runIn (e .dialect) (e .form) n (s ∷ ss) (length room - x .words)) .answer
       unfolding reports machines.told
       answer₁ = sym (verdict-is r₁ (stands₁ .phase)) ∙ ap (λ (q : paper.Run). q .answer) told₁ ∙ after₁ .answer
 
-      numbers₁ : numbersOf (r₁ .state) ≡ since (x .rows) (x .steps) (x .words) (paper.run (e .form) n (s ∷ ss) (length room - x .words))
+      numbers₁ : numbersOf (r₁ .state) ≡ since (x .rows) (x .steps) (x .words) (paper.runIn (e .dialect) (e .form) n (s ∷ ss) (length room - x .words))
       unfolding numbersOf since
       numbers₁ i = record { answer = answer₁ i; place = 0; rows = rows₁ i; steps = steps₁ i; words = words₁ i; cause = 0 }
 
       abbrev rest : List paper.State
-      rest = remaining (e .form) n (s ∷ ss) (length room - x .words)
+      rest = remaining (termsOf e) n (s ∷ ss) (length room - x .words)
 
-      full₁ : engineOf (e .form) (e .words) g r₁ .full ≡ k₁ .full
-      full₁ = same-full (places (e .form) (e .words) g) (program m p) (pointAt m p) same₁
+      full₁ : engineOf (e .dialect) (e .form) (e .words) g r₁ .full ≡ k₁ .full
+      full₁ = same-full (places (e .dialect) (e .form) (e .words) g) (program m p) (pointAt m p) same₁
 
-      rep₁ : engineOf (e .form) (e .words) g r₁ .full ≡ false → Rep (places (e .form) (e .words) g) (program m p) (pointAt m p) (engineOf (e .form) (e .words) g r₁ .conf) rest
-      rep₁ f = subst (λ q. Rep (places (e .form) (e .words) g) (program m p) (pointAt m p) (engineOf (e .form) (e .words) g r₁ .conf) q) (after₁ .waits (sym full₁ ∙ f))
-          (same-waiting (places (e .form) (e .words) g) (program m p) (pointAt m p) (program-follows m p at₀ ks fit wide closed) same₁ f)
+      rep₁ : engineOf (e .dialect) (e .form) (e .words) g r₁ .full ≡ false → Rep (places (e .dialect) (e .form) (e .words) g) (program m p) (pointAt m p) (engineOf (e .dialect) (e .form) (e .words) g r₁ .conf) rest
+      rep₁ f = subst (λ q. Rep (places (e .dialect) (e .form) (e .words) g) (program m p) (pointAt m p) (engineOf (e .dialect) (e .form) (e .words) g r₁ .conf) q) (after₁ .waits (sym full₁ ∙ f))
+          (same-waiting (places (e .dialect) (e .form) (e .words) g) (program m p) (pointAt m p) (program-follows m p at₀ ks fit wide closed) same₁ f)
 
       none-left : r₁ .state .live ≡ 0 → rest ≡ []
       unfolding engineOf standing when
-      none-left h = rep-none (places (e .form) (e .words) g) (program m p) (pointAt m p) (rep₁ (rw h)) (rw h)
+      none-left h = rep-none (places (e .dialect) (e .form) (e .words) g) (program m p) (pointAt m p) (rep₁ (rw h)) (rw h)
 
       full-left : r₁ .state .live ≡ 3 → rest ≡ []
       unfolding engineOf
@@ -200,27 +204,27 @@ module _ (e : Env) (g : Target (e .words)) (fine : Fine e) (m : Matcher) (p : Pa
         long = v .long;
       }
 
-      held₁ : Stood size (r₁ .state) (r₁ .tables) (r₁ .binds) (holding (e .form) (numbersOf (r₁ .state)) rest)
+      held₁ : Stood size (r₁ .state) (r₁ .tables) (r₁ .binds) (holding (termsOf e) (numbersOf (r₁ .state)) rest)
       unfolding holding numbersOf
       held₁ = ⊎-elim
-          (λ h. over (λ z. omega arith) (ap (holding (e .form) (numbersOf (r₁ .state))) (none-left h)))
+          (λ h. over (λ z. omega arith) (ap (holding (termsOf e) (numbersOf (r₁ .state))) (none-left h)))
           (⊎-elim
           (λ h.
-          let q = rep-some (places (e .form) (e .words) g) (program m p) (pointAt m p) (rep₁ (not-full h)) (confOf (e .form) (e .words) g (r₁ .state) (r₁ .tables) (r₁ .binds)) (stood h) in
-          goes-on (q .0) (q .1) (ap (holding (e .form) (numbersOf (r₁ .state))) (q .2))
+          let q = rep-some (places (e .dialect) (e .form) (e .words) g) (program m p) (pointAt m p) (rep₁ (not-full h)) (confOf (e .dialect) (e .form) (e .words) g (r₁ .state) (r₁ .tables) (r₁ .binds)) (stood h) in
+          goes-on (q .0) (q .1) (ap (holding (termsOf e) (numbersOf (r₁ .state))) (q .2))
           (record {
             live-is = h;
             valid = again (stands₁ .valid);
-            rep = subst (λ y. Rep (places (e .form) (e .words) g) (program m p) (pointAt m p) (some (confOf (e .form) (e .words) g (r₁ .state) (r₁ .tables) (r₁ .binds))) y) (q .2)
-                (subst (λ y. Rep (places (e .form) (e .words) g) (program m p) (pointAt m p) y rest) (stood h) (rep₁ (not-full h)));
+            rep = subst (λ y. Rep (places (e .dialect) (e .form) (e .words) g) (program m p) (pointAt m p) (some (confOf (e .dialect) (e .form) (e .words) g (r₁ .state) (r₁ .tables) (r₁ .binds))) y) (q .2)
+                (subst (λ y. Rep (places (e .dialect) (e .form) (e .words) g) (program m p) (pointAt m p) y rest) (stood h) (rep₁ (not-full h)));
           }))
-          (λ h. over (λ z. omega arith) (ap (holding (e .form) (numbersOf (r₁ .state))) (full-left h))))
+          (λ h. over (λ z. omega arith) (ap (holding (termsOf e) (numbersOf (r₁ .state))) (full-left h))))
           (stands₁ .phase)
         where
-          not-full : r₁ .state .live ≡ 1 → engineOf (e .form) (e .words) g r₁ .full ≡ false
+          not-full : r₁ .state .live ≡ 1 → engineOf (e .dialect) (e .form) (e .words) g r₁ .full ≡ false
           not-full h = unfold engineOf in rw h
 
-          stood : r₁ .state .live ≡ 1 → engineOf (e .form) (e .words) g r₁ .conf ≡ some (confOf (e .form) (e .words) g (r₁ .state) (r₁ .tables) (r₁ .binds))
+          stood : r₁ .state .live ≡ 1 → engineOf (e .dialect) (e .form) (e .words) g r₁ .conf ≡ some (confOf (e .dialect) (e .form) (e .words) g (r₁ .state) (r₁ .tables) (r₁ .binds))
           stood h = unfold engineOf standing when in rw h
 
   -- An advance by n steps: what it tells, what it leaves in the room, and what is held then.
@@ -232,13 +236,13 @@ module _ (e : Env) (g : Target (e .words)) (fine : Fine e) (m : Matcher) (p : Pa
     unfolding told
     advance-told h (over f q) = ap (λ (y : Run). numbersOf (y .state)) (run-over e (allowed n (x .steps)) (run x t b room) f) ∙ ap (told n size) (sym q)
     advance-told h (goes-on s ss q w) = numbers₁ size x t b s ss w room l (allowed n (x .steps))
-        ∙ ap (λ (i : ℕ). since (x .rows) (x .steps) (x .words) (paper.run (e .form) (allowed n (x .steps)) (s ∷ ss) (i - x .words))) l ∙ ap (told n size) (sym q)
+        ∙ ap (λ (i : ℕ). since (x .rows) (x .steps) (x .words) (paper.runIn (e .dialect) (e .form) (allowed n (x .steps)) (s ∷ ss) (i - x .words))) l ∙ ap (told n size) (sym q)
 
     pub advance-room : (h : Held) → Stood size x t b h → next .room ≡ roomAfter n size h room
     unfolding roomAfter
     advance-room h (over f q) = ap (λ (y : Run). y .room) (run-over e (allowed n (x .steps)) (run x t b room) f) ∙ ap (λ y. roomAfter n size y room) (sym q)
     advance-room h (goes-on s ss q w) = room₁ size x t b s ss w room l (allowed n (x .steps))
-        ∙ ap (λ (i : ℕ). writtenAt (x .words) ((paper.run (e .form) (allowed n (x .steps)) (s ∷ ss) (i - x .words)) .written) room) l ∙ ap (λ y. roomAfter n size y room) (sym q)
+        ∙ ap (λ (i : ℕ). writtenAt (x .words) ((paper.runIn (e .dialect) (e .form) (allowed n (x .steps)) (s ∷ ss) (i - x .words)) .written) room) l ∙ ap (λ y. roomAfter n size y room) (sym q)
 
     pub advance-held : (h : Held) → Stood size x t b h → Stood size (next .state) (next .tables) (next .binds) (heldAfter n size h)
     unfolding heldAfter
@@ -247,19 +251,19 @@ module _ (e : Env) (g : Target (e .words)) (fine : Fine e) (m : Matcher) (p : Pa
         (over f (ap (heldAfter n size) q))
     advance-held h (goes-on s ss q w) =
         subst (λ y. Stood size (next .state) (next .tables) (next .binds) y)
-        (ap₂ (λ k i. holding (e .form) k (remaining (e .form) (allowed n (x .steps)) (s ∷ ss) (i - x .words)))
+        (ap₂ (λ k i. holding (termsOf e) k (remaining (termsOf e) (allowed n (x .steps)) (s ∷ ss) (i - x .words)))
         (advance-told h (goes-on s ss q w) ∙ ap (told n size) q) l ∙ ap (heldAfter n size) (sym q))
         (held₁ size x t b s ss w room l (allowed n (x .steps)))
 
   -- A run before its first state, whatever its tables and bindings hold.
   module _ (v : Value) (read : readTarget (e .words) ≡ ok v) (fit-value : fitsValue m v 0 ≡ ok tt) (size : ℕ) (t : Tables) (b : List Binding)
       (valid : (room : List ℤ) → length room ≡ size → Valid e (run (opening 0 (wholeAt (e .words) 0)) t b room)) where
-    pub begins : Stood size (opening 0 (wholeAt (e .words) 0)) t b (going (e .form) (start m p v) [] 0 0 0)
+    pub begins : Stood size (opening 0 (wholeAt (e .words) 0)) t b (going (termsOf e) (start m p v) [] 0 0 0)
     unfolding opening fresh confOf machines.opened
     begins = goes-on (start m p v) [] refl (record {
       live-is = refl;
       valid = valid;
-      rep = same-waiting (places (e .form) (e .words) g) (program m p) (pointAt m p) (program-follows m p at₀ ks fit wide closed)
-          (fresh-same (places (e .form) (e .words) g) m p v (binding 0 (wholeAt (e .words) 0)) (target-is (e .words) v read m fit-value) at₀ ks fit wide closed
-          (slotsOf (e .form) (e .words) g t) (bindsOf (e .form) (e .words) g b) size) refl;
+      rep = same-waiting (places (e .dialect) (e .form) (e .words) g) (program m p) (pointAt m p) (program-follows m p at₀ ks fit wide closed)
+          (fresh-same (places (e .dialect) (e .form) (e .words) g) m p v (binding 0 (wholeAt (e .words) 0)) (target-is (e .words) v read m fit-value) at₀ ks fit wide closed
+          (slotsOf (e .dialect) (e .form) (e .words) g t) (bindsOf (e .dialect) (e .form) (e .words) g b) size) refl;
     })

@@ -8,9 +8,9 @@ use mathlib.Core.List.{List, [], _∷_, _++_, append-nil, append-assoc}
 use lib.ListN.{length}
 use lib.Dec.{leb}
 use lib.IntN.{ℤ}
-use Rattle.rules.specs.Rows.{Form, row}
-use Rattle.rules.specs.Search.{atom, endOfNot, State, state, after, leaveNot, Run, stopped, step, rowStep, run, runIn}
-use Rattle.run_rules.specs.Lent.{remaining}
+use Rattle.rules.specs.Rows.{row}
+use Rattle.rules.specs.Search.{atom, endOfNot, State, state, afterIn, leaveNot, Run, stopped, step, rowStep, runIn}
+use Rattle.run_rules.specs.Lent.{Terms, run, remaining}
 use Rattle.search_machine.specs.Machine.{Machine, passing, writing, filling, stepOn, once, times, answerBy}
 
 abbrev pub machine : (ss : List State) (left rows steps : ℕ) (written : List ℤ) (full : Bool) → Machine
@@ -28,11 +28,11 @@ pub record After (rows steps : ℕ) (written : List ℤ) (r : Run) (rest : List 
 clash : {A : Type 0} → _≡_ {A = Bool} true false → A
 clash h = let z : _≡_ {A = ℕ} 0 1 = cc in absurd (omega arith)
 
-module _ (form : Form) where
-  still : (n : ℕ) (k : Machine) → once form k ≡ k → times form n k ≡ k
+module _ (t : Terms) where
+  still : (n : ℕ) (k : Machine) → once (t .dialect) (t .form) k ≡ k → times (t .dialect) (t .form) n k ≡ k
   unfolding times
   still zero k h = refl
-  still (suc n) k h = ap (times form n) h ∙ still n k h
+  still (suc n) k h = ap (times (t .dialect) (t .form) n) h ∙ still n k h
 
   -- No step is taken.
   rests : (a rows steps : ℕ) (written : List ℤ) (rest : List State) (k : Machine) → answerBy (k .full) (k .waiting) ≡ a → k .rows ≡ rows → k .steps ≡ steps
@@ -44,7 +44,7 @@ module _ (form : Form) where
     steps-are = omega (arith, s);
     words-are = w ∙ sym (append-nil written);
     waits = λ z. h;
-    none = λ t. clash (sym t ∙ f);
+    none = λ z. clash (sym z ∙ f);
   }
 
   -- One step before what comes; one step and one row before it.
@@ -72,24 +72,24 @@ module _ (form : Form) where
   }
 
   pub goes : (n : ℕ) (ss : List State) (left rows steps : ℕ) (written : List ℤ)
-      → After rows steps written (run form n ss left) (remaining form n ss left) (times form n (machine ss left rows steps written false))
+      → After rows steps written (run t n ss left) (remaining t n ss left) (times (t .dialect) (t .form) n (machine ss left rows steps written false))
   unfolding times runIn remaining answerBy stopped filling
   goes zero [] left rows steps written = rests 0 rows steps written [] _ refl refl refl refl refl refl
   goes zero (s ∷ ss) left rows steps written = rests 7 rows steps written (s ∷ ss) _ refl refl refl refl refl refl
   goes (suc n) [] left rows steps written =
       rw (still n (machine [] left rows steps written false) refl) (rests 0 rows steps written [] (machine [] left rows steps written false) refl refl refl refl refl refl)
   goes (suc n) (state g [] e ∷ ss) left rows steps written =
-      go (leb (length (row form e)) left) (goes n ss (left - length (row form e)) (suc rows) (suc steps) (written ++ row form e))
+      go (leb (length (row (t .form) e)) left) (goes n ss (left - length (row (t .form) e)) (suc rows) (suc steps) (written ++ row (t .form) e))
     where
       k : Machine
       k = machine (state g [] e ∷ ss) left rows steps written false
 
-      go : (b : Bool) → After (suc rows) (suc steps) (written ++ row form e) (run form n ss (left - length (row form e))) (remaining form n ss (left - length (row form e)))
-          (times form n (writing k (row form e) ss))
-          → After rows steps written (elim b as (λ _. Run) [ true ↦ rowStep (row form e) (run form n ss (left - length (row form e))) | false ↦ stopped 8 1 ])
-          (elim b as (λ _. List State) [ true ↦ remaining form n ss (left - length (row form e)) | false ↦ [] ])
-          (times form n (elim b as (λ _. Machine) [ true ↦ writing k (row form e) ss | false ↦ filling k ss ]))
-      go true h = a-row rows steps written (row form e) _ _ _ h
+      go : (b : Bool) → After (suc rows) (suc steps) (written ++ row (t .form) e) (run t n ss (left - length (row (t .form) e))) (remaining t n ss (left - length (row (t .form) e)))
+          (times (t .dialect) (t .form) n (writing k (row (t .form) e) ss))
+          → After rows steps written (elim b as (λ _. Run) [ true ↦ rowStep (row (t .form) e) (run t n ss (left - length (row (t .form) e))) | false ↦ stopped 8 1 ])
+          (elim b as (λ _. List State) [ true ↦ remaining t n ss (left - length (row (t .form) e)) | false ↦ [] ])
+          (times (t .dialect) (t .form) n (elim b as (λ _. Machine) [ true ↦ writing k (row (t .form) e) ss | false ↦ filling k ss ]))
+      go true h = a-row rows steps written (row (t .form) e) _ _ _ h
       go false h = rw (still n (filling k ss) refl) (record {
         answer = refl;
         rows-are = omega arith;
@@ -99,4 +99,4 @@ module _ (form : Form) where
         none = λ z. refl;
       })
   goes (suc n) (state g (endOfNot ∷ older) e ∷ ss) left rows steps written = a-step rows steps written _ _ _ (goes n (leaveNot ss) left rows (suc steps) written)
-  goes (suc n) (state g (atom p m v ∷ older) e ∷ ss) left rows steps written = a-step rows steps written _ _ _ (goes n (after p m v older e ++ ss) left rows (suc steps) written)
+  goes (suc n) (state g (atom p m v ∷ older) e ∷ ss) left rows steps written = a-step rows steps written _ _ _ (goes n (afterIn (t .dialect) p m v older e ++ ss) left rows (suc steps) written)

@@ -9,10 +9,11 @@ use lib.Dec.{ltb}
 use lib.ListN.{length, getD}
 use lib.IntN.{ℤ}
 use Rattle.rules.specs.Forms.{Value}
-use Rattle.rules.specs.Services.{Rule, Matched, matchIn}
+use Rattle.rules.specs.Services.{accepted, Rule, ruleIn, Matched, matchOf, matchRuleIn, matchTargetIn}
+use Rattle.rules.specs.Dialects.{Dialect, everyPlace}
 use Rattle.rules.specs.Rows.{Form}
 use Rattle.forms.specs.ReadPattern.{pattern-read}
-use Rattle.forms.specs.Faults.{Sane, match-ran}
+use Rattle.forms.specs.Faults.{Sane, target-accepted}
 use Rattle.words.specs.Words.{entries}
 use Rattle.program_rules.specs.Closed.{closed-is}
 use Rattle.program_rules.specs.Length.{instrs}
@@ -21,7 +22,7 @@ use Rattle.tables.specs.Line.{Columns}
 use Rattle.program_rules.specs.Columns.{lineIn, Holds}
 use Rattle.value_places.specs.Places.{Target}
 use Rattle.value_places.proofs.Accepted.{read-target, read-tag}
-use Rattle.search.specs.Run.{envOf}
+use Rattle.search.specs.Run.{envWith, envOf}
 use Rattle.search.specs.Valid.{Fine}
 use Rattle.search.specs.Searched.{Searched}
 
@@ -50,9 +51,9 @@ module _ (ms ts : List ℤ) (r : Rule) (n : ℕ) (t : Columns) (form : Form) (ho
   parts-fit i zero b e = let h = among i (λ z. omega arith) in omega arith
   parts-fit i (suc k) b e = among (i + suc k) (λ z. let h : getD op (i + suc k) 0 ≡ 1 = holds .reserved i (suc k) (omega arith) (omega arith) (omega arith) in omega arith)
 
-  pub accepted-fine : Fine (envOf t ms ts n form)
+  pub fine-in : (dialect : Dialect) → Fine (envWith dialect t ms ts n form)
   unfolding lineIn
-  accepted-fine = record {
+  fine-in dialect = record {
     last = ap (λ (l : Line). l .op) (holds .after (entries - 1) (let h = holds .last in omega arith));
     slots = λ i h. let f = holds .from i in omega arith;
     places = λ i h. let l = holds .low i in omega arith;
@@ -66,7 +67,12 @@ module _ (ms ts : List ℤ) (r : Rule) (n : ℕ) (t : Columns) (form : Form) (ho
     each = λ i h a b k c. record { only = (holds .part i k (omega arith) (omega arith)) .only };
   }
 
-  pub accepted-match : (ps : List ℤ) (v : Value) → Sane ms ps ts r v → (budget : ℕ) (room : List ℤ) (out : Matched)
-      → Searched (envOf t ms ts n form) budget room out → out ≡ matchIn form ms ps ts budget room
-  accepted-match ps v sane budget room out s =
-      s .as-defined r v (sane .rule .fitting .0) holds (sane .rule .fitting .1) (pattern-read ps (r .pattern) .0 (sane .rule .pattern) .2) (closed-is (r .pattern) true 0 0 (sane .rule .numbered .0) (sane .rule .numbered .1)) (sane .target .target) (sane .target .fit) ∙ sym (match-ran form ms ps ts budget room r v sane)
+  pub accepted-fine : Fine (envOf t ms ts n form)
+  accepted-fine = fine-in everyPlace
+
+  pub accepted-match : (dialect : Dialect) (ps : List ℤ) (v : Value) → Sane ms ps ts r v → ruleIn dialect ms ps ≡ accepted r → (budget : ℕ) (room : List ℤ) (out : Matched)
+      → Searched (envWith dialect t ms ts n form) budget room out → out ≡ matchOf dialect form ms ps ts budget room
+  unfolding matchOf matchRuleIn
+  accepted-match dialect ps v sane i budget room out s =
+      s .as-defined r v (sane .rule .fitting .0) holds (sane .rule .fitting .1) (pattern-read ps (r .pattern) .0 (sane .rule .pattern) .2) (closed-is (r .pattern) true 0 0 (sane .rule .numbered .0) (sane .rule .numbered .1)) (sane .target .target) (sane .target .fit)
+      ∙ sym (ap (matchRuleIn dialect form budget room ts) i ∙ ap (matchTargetIn dialect form budget room ts r) (target-accepted (r .matcher) ts v .1 (sane .target)))

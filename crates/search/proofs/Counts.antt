@@ -16,12 +16,13 @@ use Rattle.value_places.specs.Places.{elementAt}
 use Rattle.value_places.specs.Held.{wholeAt, put}
 use Rattle.value_rows.specs.Row.{bound}
 use Rattle.search_step.specs.declared.State.{State}
-use Rattle.search_atom.specs.Leaves.{when, passesOf, noneOf, opensOf, isWide, longerOf}
+use Rattle.search_atom.specs.Leaves.{when, passesOf, noneOf, isWide, longerOf}
 use Rattle.tables.specs.Slot.{Tables}
-use Rattle.search_step.specs.Steps.{Turned, turned, counted, moved, lived, topped, dropped, pushed, pushedIn, splitOf, apartAt, apartOf, keptAt, keptIn, framedAt, framedIn, cutTo, sidesOf}
-use Rattle.search.specs.Plain.{divideOf, stepBy, stepOf}
+use Rattle.search_step.specs.Steps.{Turned, turned, counted, moved, lived, topped, dropped, pushed, pushedIn, apartAt, apartOf, keptAt, keptIn, framedAt, framedIn, cutTo, sidesOf}
+use Rattle.search_machine.specs.Operations.{opensWith}
+use Rattle.search.specs.Plain.{splitOf, divideOf, stepBy, stepOf}
 use Rattle.search_choice.specs.Choices.{topLeft, joinOf, joinBy, consOf, consBy, resumedAt, resumedBy, resumeOf, choiceOf, pickOf}
-use Rattle.search.specs.Run.{Env, Run, run, Ended, ended, filled, wrote, endBy, endOf, afterTurn, afterEnd, takeEnd, takeBind, takeStep, takeOf, asked, settled, runOf}
+use Rattle.search.specs.Run.{Env, Run, run, Ended, ended, filled, wrote, endBy, endOf, afterTurn, afterEnd, takeEnd, takeBind, takeStep, takeOf, asked, choicesOf, settled, runOf}
 use Rattle.value_rows.proofs.Room.{length-put}
 use Rattle.search.proofs.Room.{put-after}
 use Rattle.search.proofs.Frames.{when-if}
@@ -56,24 +57,24 @@ sides-took o from x t =
     others : Turned
     others = when (ltb o 17) (turned (framedAt (counted x)) (framedIn (counted x) t)) ends
 
-divide-took : (s : List ℤ) (o : ℕ) (from : List ℕ) (x : State) (t : Tables) → Took x (divideOf s o from (counted x) t .state)
+divide-took : (s : List ℤ) (o c : ℕ) (from : List ℕ) (x : State) (t : Tables) → Took x (divideOf s o c from (counted x) t .state)
 unfolding divideOf splitOf apartOf apartAt counted moved lived pushed
-divide-took s o from x t =
-    when-if at-turn (ltb 10 o) (when (ltb o 14) (apartOf s (o - 10) (counted x) t) (sidesOf o from (counted x) t)) (splitOf o (counted x) t)
+divide-took s o c from x t =
+    when-if at-turn (ltb 10 o) (when (ltb o 14) (apartOf s (o - 10) (counted x) t) (sidesOf o from (counted x) t)) (splitOf o c (counted x) t)
     (λ k. when-if at-turn (ltb o 14) (apartOf s (o - 10) (counted x) t) (sidesOf o from (counted x) t)
     (λ y. when-if (Took x) (isWide s (x .at) (o - 10)) _ (lived (counted x) 2) (λ u. took-1 x _ refl refl refl refl) (λ u. took-2 x _ refl refl refl refl))
     (λ y. sides-took o from x t))
-    (λ w. when-if at-turn (noneOf o (x .marks)) (turned (lived (counted x) 2) t) (turned (pushed (counted x)) (pushedIn (opensOf o (x .marks)) (counted x) t))
+    (λ w. when-if at-turn (noneOf o (x .marks)) (turned (lived (counted x) 2) t) (turned (pushed (counted x)) (pushedIn (opensWith o (x .marks) c) (counted x) t))
     (λ y. took-2 x _ refl refl refl refl) (λ y. took-2 x _ refl refl refl refl))
   where
     at-turn : Turned → Type 0
     at-turn u = Took x (u .state)
 
-pub step-took : (op from to : List ℕ) (con s : List ℤ) (q : Bool) (x : State) (t : Tables) → Took x (stepOf op from to con s q x t .state)
+pub step-took : (op from to : List ℕ) (con s : List ℤ) (q : Bool) (c : ℕ) (x : State) (t : Tables) → Took x (stepOf op from to con s q c x t .state)
 unfolding stepOf stepBy counted moved lived dropped
-step-took op from to con s q x t =
+step-took op from to con s q c x t =
     when-if at-turn (eqb o 1) (turned (moved (counted x) (x .pc + 1) (x .at) (x .marks)) t) rest (λ z. took-1 x _ refl refl refl refl)
-    (λ z. when-if at-turn (ltb 7 o) (divideOf s o from (counted x) t) tests (λ k. divide-took s o from x t)
+    (λ z. when-if at-turn (ltb 7 o) (divideOf s o c from (counted x) t) tests (λ k. divide-took s o c from x t)
     (λ k. when-if at-turn passes (turned (dropped from to (t .ats) (t .backs) (counted x)) t) (turned (lived (counted x) 2) t)
     (λ y. took-1 x _ refl refl refl refl) (λ y. took-2 x _ refl refl refl refl)))
   where
@@ -90,7 +91,7 @@ step-took op from to con s q x t =
     tests = when passes (turned (dropped from to (t .ats) (t .backs) (counted x)) t) (turned (lived (counted x) 2) t)
 
     rest : Turned
-    rest = when (ltb 7 o) (divideOf s o from (counted x) t) tests
+    rest = when (ltb 7 o) (divideOf s o c from (counted x) t) tests
 
 pub bind-took : (e : Env) (r : Run) → Took (r .state) (takeBind e r .state)
 unfolding takeBind dropped moved counted
@@ -216,7 +217,7 @@ takes-is e r h = when-if (Takes r) (eqb (getD (e .op) (r .state .pc) 0) 0) (take
     (λ z. end-takes r (row (e .form) (bound (e .words) (r .binds) (e .vars))) h)
     (λ z. when-if (Takes r) (eqb (getD (e .op) (r .state .pc) 0) 3) (takeBind e r) (takeStep e r)
     (λ k. took-takes r (takeBind e r) (bind-took e r) (bind-room e r))
-    (λ k. took-takes r (takeStep e r) (step-took (e .op) (e .from) (e .to) (e .con) (e .words) (asked e r) (r .state) (r .tables)) refl))
+    (λ k. took-takes r (takeStep e r) (step-took (e .op) (e .from) (e .to) (e .con) (e .words) (asked e r) (choicesOf e r) (r .state) (r .tables)) refl))
   where
     bind-room : (e : Env) (r : Run) → takeBind e r .room ≡ r .room
     bind-room e r = refl

@@ -18,9 +18,11 @@ use Rattle.tables.specs.Slot.{Tables, tables}
 use Rattle.value_places.specs.Places.{elementAt}
 use Rattle.value_places.specs.Held.{wholeAt}
 use Rattle.value_rows.specs.declared.Binding.{Binding}
-use Rattle.search_atom.specs.Leaves.{when, noneOf, opensOf, nowLeft}
+use Rattle.search_atom.specs.Leaves.{when, noneOf, nowLeft}
 use Rattle.search_step.specs.declared.State.{State}
-use Rattle.search_step.specs.Steps.{Turned, turned, moved, lived, topped, pushed, pushedIn, splitOf, headIn, headBy, headOf}
+use Rattle.search_step.specs.Steps.{Turned, turned, moved, lived, topped, pushed, pushedIn, headIn, headBy, headOf}
+use Rattle.search_machine.specs.Operations.{opensWith}
+use Rattle.search.specs.Plain.{splitOf}
 use Rattle.search_choice.specs.Choices.{topLeft, consOf, consBy, choiceOf, pickOf, Picks, PicksIf}
 use Rattle.search.specs.Run.{Env, Run, run, afterTurn, settled}
 use Rattle.search.specs.Valid.{Long}
@@ -56,10 +58,10 @@ module _ (s : List ℤ) (x : State) (t : Tables) (l : Long t) (p : x .pc < entri
       rw (ne-eqb (x .pc + 1) 0 (λ y. omega arith), a, z) (cons-head k e h)
 
 module _ (e : Env) (x : State) (t : Tables) (b : List Binding) (room : List ℤ) (l : Long t) (p : x .pc < entries) where
-  head-settles : getD (e .op) (x .pc) 0 ≡ 8 → x .marks < 2 ^ 64
-      → settled e (afterTurn (headOf (e .words) x t) b room) ≡ settled e (afterTurn (splitOf 8 x t) b room)
-  unfolding headOf splitOf noneOf opensOf when settled afterTurn headBy moved pushed
-  head-settles z w = go (eqb (x .marks) 0) refl
+  head-settles : (c : ℕ) → getD (e .op) (x .pc) 0 ≡ 8 → x .marks < 2 ^ 64
+      → settled e (afterTurn (headOf (e .words) x t) b room) ≡ settled e (afterTurn (splitOf 8 c x t) b room)
+  unfolding headOf splitOf noneOf opensWith when settled afterTurn headBy moved pushed
+  head-settles c z w = go (eqb (x .marks) 0) refl
     where
       go : (d : Bool) → eqb (x .marks) 0 ≡ d
           → settled e (afterTurn (when d (turned (lived x 2) t) (headBy (e .words) (elementAt (e .words) (x .at) (trailingZeros 64 (x .marks))) x t)) b room)
@@ -87,10 +89,10 @@ module _ (e : Env) (x : State) (t : Tables) (b : List Binding) (room : List ℤ)
       go true i = ap (λ (w : Turned). length (w .tables .backs)) i ∙ l .backs
       go false i = ap (λ (w : Turned). length (w .tables .backs)) i ∙ length-set (t .backs) (x .pc) _ ∙ l .backs
 
-  pub head-next : (y : State) (u : Tables) → turned y u ≡ headOf (e .words) x t → getD (e .op) (x .pc) 0 ≡ 8 → x .marks < 2 ^ 64
-      → settled e (run y u b room) ≡ settled e (afterTurn (splitOf 8 x t) b room)
+  pub head-next : (c : ℕ) (y : State) (u : Tables) → turned y u ≡ headOf (e .words) x t → getD (e .op) (x .pc) 0 ≡ 8 → x .marks < 2 ^ 64
+      → settled e (run y u b room) ≡ settled e (afterTurn (splitOf 8 c x t) b room)
   unfolding afterTurn
-  head-next y u h z w = ap (λ (k : Turned). settled e (run (k .state) (k .tables) b room)) h ∙ head-settles z w
+  head-next c y u h z w = ap (λ (k : Turned). settled e (run (k .state) (k .tables) b room)) h ∙ head-settles c z w
 
   pub head-picks : (y : State) (u : Tables) → turned y u ≡ headOf (e .words) x t → Picks (e .op) (e .words) (x .top) (t .ats) (t .wholes) (t .lefts)
       → PicksIf (y .live) (e .op) (e .words) (y .top) (u .ats) (u .wholes) (u .lefts)

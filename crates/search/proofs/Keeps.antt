@@ -4,34 +4,65 @@ use native.Mathlib.Omega.{arith}
 use lib.Pow.{pow-pos}
 use mathlib.Core.Path.{_≡_, refl, _∙_}
 use mathlib.Core.Bool.{Bool, true, false}
-use mathlib.Core.List.{List}
+use mathlib.Core.List.{List, []}
 use lib.ListN.{length, getD, set, length-set}
 use lib.Seq.{getD-set-same, getD-set-other}
 use lib.Dec.{eqb, ltb}
 use lib.Count.{trailingZeros}
 use lib.IntN.{ℤ, pos}
 use borrow.Author.Tests.{eqb-true, eqb-false, ltb-true, ltb-false, ne-eqb}
+use Rattle.rules.specs.Equality.{equal}
+use Rattle.rules.specs.Dialects.{Dialect, everyPlace, firstPlaces}
 use Rattle.rules.specs.Rows.{row}
 use Rattle.words.specs.Words.{entries}
-use Rattle.value_places.specs.Places.{Target, Tag, countAt, elementAt}
+use Rattle.value_places.specs.Places.{Target, Tag, countAt, elementAt, valueAt, elements}
 use Rattle.value_places.specs.Held.{Held}
-use Rattle.value_places.proofs.Held.{held-64}
+use Rattle.value_places.proofs.Held.{held-64, held-some}
 use Rattle.value_places.proofs.Elements.{element-tag}
+use Rattle.matchers.specs.Places.{matcherAt}
+use Rattle.value_firsts.specs.Firsts.{firstsOf, firstsAt}
+use Rattle.value_firsts.proofs.Differing.{firsts-le, firsts-some}
 use Rattle.value_rows.proofs.Room.{length-put}
 use Rattle.value_rows.specs.Row.{bound, Bound, nothing}
 use Rattle.value_rows.specs.declared.Binding.{Binding}
 use Rattle.search_step.specs.declared.State.{State}
-use Rattle.search_atom.specs.Leaves.{when, passesOf, noneOf, opensOf, stored, isWide, partMarks}
+use Rattle.search_atom.specs.Leaves.{when, passesOf, noneOf, stored, isWide, partMarks}
 use Rattle.tables.specs.Slot.{Tables, tables}
-use Rattle.search_step.specs.Steps.{Turned, counted, moved, lived, dropped, pushed, pushedIn, splitOf, apartAt, apartAts, apartBacks, apartOf, keptAt, keptIn, framedAt, framedIn, cutTo, sidesOf}
-use Rattle.search.specs.Plain.{divideOf, stepBy, stepOf}
+use Rattle.search_step.specs.Steps.{Turned, counted, moved, lived, dropped, pushed, pushedIn, apartAt, apartAts, apartBacks, apartOf, keptAt, keptIn, framedAt, framedIn, cutTo, sidesOf}
+use Rattle.search_machine.specs.Operations.{opensWith}
+use Rattle.search.specs.Plain.{splitOf, divideOf, stepBy, stepOf}
 use Rattle.search_choice.specs.Choices.{Frame, Picks}
-use Rattle.search.specs.Run.{Env, Run, run, Ended, filled, wrote, endBy, endOf, asked, afterTurn, afterEnd, takeEnd, takeBind, takeStep, takeOf}
+use Rattle.search.specs.Run.{Env, Run, run, Ended, filled, wrote, endBy, endOf, asked, choicesIn, choicesOf, afterTurn, afterEnd, takeEnd, takeBind, takeStep, takeOf}
 use Rattle.search.specs.Valid.{Fine, Valid}
 use Rattle.search.proofs.Parts.{by-range, stored-length, stored-before, stored-after, stored-at}
 use Rattle.search.proofs.Frames.{when-if, by-place, next-place, held-whole, low-le, frame-beyond, frame-waits, frame-pushed}
 
 -- ---- A state taken up.
+
+-- The choices of a cons under a multiset are among its marks, and there is one where there are marks.
+record Chosen (m c : ℕ) : Type 0 where
+  some : 0 < m → 0 < c
+  among : c ≤ m
+
+chosen-are : (e : Env) → Target (e .words) → (r : Run) → Held (e .words) (r .state .at) (r .state .marks) → Chosen (r .state .marks) (choicesOf e r)
+unfolding choicesOf choicesIn firstsAt firstsOf when
+chosen-are e g r w = go (e .dialect)
+  where
+    m : ℕ
+    m = r .state .marks
+
+    every : Chosen m m
+    every = record { some = λ h. h; among = omega arith }
+
+    go : (d : Dialect) → Chosen m (choicesIn d (getD (e .op) (r .state .pc) 0) (e .matcher) (getD (e .mat) (r .state .pc) 0) (e .words) (r .state .at) m)
+    go everyPlace = every
+    go firstPlaces = when-if (Chosen m) (eqb (getD (e .op) (r .state .pc) 0) 9) _ _
+        (λ z. when-if (Chosen m) (ltb (getD (e .mat) (r .state .pc) 0) (length (e .matcher))) _ _
+        (λ k. record {
+          some = λ h. firsts-some (equal (matcherAt (e .matcher) (getD (e .mat) (r .state .pc) 0 + 1))) (elements (valueAt (e .words) (r .state .at))) m h (held-some (e .words) (r .state .at) m g w);
+          among = firsts-le (equal (matcherAt (e .matcher) (getD (e .mat) (r .state .pc) 0 + 1))) [] (elements (valueAt (e .words) (r .state .at))) m;
+        }) (λ k. every))
+        (λ z. every)
 
 module _ (e : Env) (fine : Fine e) (g : Target (e .words)) where
   module _ (x : State) (t : Tables) (b : List Binding) (room : List ℤ) (v : Valid e (run x t b room)) (l : x .live ≡ 1) where
@@ -109,10 +140,10 @@ module _ (e : Env) (fine : Fine e) (g : Target (e .words)) where
         kept top p = record { frame = λ n. frame-pushed (e .op) (e .words) t (v .long) (x .pc) (v .place) (x .at) (x .marks) c (top - 1) f (p .frame n) }
 
     -- The choices that a frame is opened with.
-    opened : 7 < getD (e .op) (x .pc) 0 → getD (e .op) (x .pc) 0 < 11 → noneOf (getD (e .op) (x .pc) 0) (x .marks) ≡ false
-        → Frame (getD (e .op) (x .pc) 0) (e .words) (x .pc) (x .at) (x .marks) (opensOf (getD (e .op) (x .pc) 0) (x .marks))
-    unfolding noneOf opensOf when
-    opened o u f = when-if (λ (c : ℕ). Frame (getD (e .op) (x .pc) 0) (e .words) (x .pc) (x .at) (x .marks) c) (eqb (getD (e .op) (x .pc) 0) 10) 0 _
+    opened : (c : ℕ) → Chosen (x .marks) c → 7 < getD (e .op) (x .pc) 0 → getD (e .op) (x .pc) 0 < 11 → noneOf (getD (e .op) (x .pc) 0) (x .marks) ≡ false
+        → Frame (getD (e .op) (x .pc) 0) (e .words) (x .pc) (x .at) (x .marks) (opensWith (getD (e .op) (x .pc) 0) (x .marks) c)
+    unfolding noneOf opensWith when
+    opened c i o u f = when-if (λ (c : ℕ). Frame (getD (e .op) (x .pc) 0) (e .words) (x .pc) (x .at) (x .marks) c) (eqb (getD (e .op) (x .pc) 0) 10) 0 _
         (λ z. let y = eqb-true (getD (e .op) (x .pc) 0) 10 z in record {
           place = v .place;
           splits = o;
@@ -142,17 +173,18 @@ module _ (e : Env) (fine : Fine e) (g : Target (e .words)) where
           whole = λ n. absurd (omega arith);
           held = λ n. v .held;
           within = λ n. absurd (y n);
-          some = λ n. p;
-          there = λ n. v .held .marks;
+          some = λ n. i .some p;
+          there = λ n. let h = v .held .marks in let k = i .among in omega arith;
         }))
       where
         marked : (getD (e .op) (x .pc) 0 ≡ 10 → ⊥) → 0 < x .marks
         marked n = let k : eqb (x .marks) 0 ≡ false = rw (ne-eqb (getD (e .op) (x .pc) 0) 10 n) at f in let d = eqb-false (x .marks) 0 k in omega arith
 
-    split-keeps : 7 < getD (e .op) (x .pc) 0 → getD (e .op) (x .pc) 0 < 11 → Valid e (afterTurn (splitOf (getD (e .op) (x .pc) 0) (counted x) t) b room)
+    split-keeps : (c : ℕ) → Chosen (x .marks) c → 7 < getD (e .op) (x .pc) 0 → getD (e .op) (x .pc) 0 < 11
+        → Valid e (afterTurn (splitOf (getD (e .op) (x .pc) 0) c (counted x) t) b room)
     unfolding splitOf counted afterTurn
-    split-keeps o u = when-if (λ (u : Turned). Valid e (run (u .state) (u .tables) b room)) (noneOf (getD (e .op) (x .pc) 0) (x .marks)) _ _
-        (λ z. back-keeps) (λ z. push-keeps _ u (opened o u z))
+    split-keeps c i o u = when-if (λ (u : Turned). Valid e (run (u .state) (u .tables) b room)) (noneOf (getD (e .op) (x .pc) 0) (x .marks)) _ _
+        (λ z. back-keeps) (λ z. push-keeps _ u (opened c i o u z))
 
     -- A tuple: no frame is open at its place or at those reserved, where its parts wait.
     module _ (n : ℕ) (o : getD (e .op) (x .pc) 0 ≡ 10 + n) (z : 0 < n) (few : n < 4) (w : countAt (e .words) (x .at) ≡ n + 1) where
@@ -298,20 +330,20 @@ module _ (e : Env) (fine : Fine e) (g : Target (e .words)) where
         at-turn : Turned → Type 0
         at-turn u = Valid e (run (u .state) (u .tables) b room)
 
-    divide-keeps : 7 < getD (e .op) (x .pc) 0 → Valid e (afterTurn (divideOf (e .words) (getD (e .op) (x .pc) 0) (e .from) (counted x) t) b room)
+    divide-keeps : (c : ℕ) → Chosen (x .marks) c → 7 < getD (e .op) (x .pc) 0 → Valid e (afterTurn (divideOf (e .words) (getD (e .op) (x .pc) 0) c (e .from) (counted x) t) b room)
     unfolding divideOf afterTurn
-    divide-keeps o = when-if (λ (u : Turned). Valid e (run (u .state) (u .tables) b room)) (ltb 10 (getD (e .op) (x .pc) 0)) _ _
+    divide-keeps c i o = when-if (λ (u : Turned). Valid e (run (u .state) (u .tables) b room)) (ltb 10 (getD (e .op) (x .pc) 0)) _ _
         (λ z. let h : 10 < getD (e .op) (x .pc) 0 = ltb-true 10 _ z in
         when-if (λ (u : Turned). Valid e (run (u .state) (u .tables) b room)) (ltb (getD (e .op) (x .pc) 0) 14) _ _
         (λ y. let k : getD (e .op) (x .pc) 0 < 14 = ltb-true _ 14 y in apart-keeps (getD (e .op) (x .pc) 0 - 10) (omega arith) (omega arith) (omega arith))
         (λ y. let k : 14 ≤ getD (e .op) (x .pc) 0 = ltb-false _ 14 y in sides-keep (omega arith)))
-        (λ z. let h : getD (e .op) (x .pc) 0 ≤ 10 = ltb-false 10 _ z in split-keeps o (omega arith))
+        (λ z. let h : getD (e .op) (x .pc) 0 ≤ 10 = ltb-false 10 _ z in split-keeps c i o (omega arith))
 
-    step-keeps : (q : Bool) → (getD (e .op) (x .pc) 0 ≡ 0 → ⊥) → Valid e (afterTurn (stepOf (e .op) (e .from) (e .to) (e .con) (e .words) q x t) b room)
+    step-keeps : (q : Bool) (c : ℕ) → Chosen (x .marks) c → (getD (e .op) (x .pc) 0 ≡ 0 → ⊥) → Valid e (afterTurn (stepOf (e .op) (e .from) (e .to) (e .con) (e .words) q c x t) b room)
     unfolding stepOf stepBy afterTurn counted
-    step-keeps q n =
+    step-keeps q c i n =
         when-if at-turn (eqb (getD (e .op) (x .pc) 0) 1) _ _ (λ z. strip-keeps n)
-        (λ z. when-if at-turn (ltb 7 (getD (e .op) (x .pc) 0)) _ _ (λ k. divide-keeps (ltb-true 7 _ k))
+        (λ z. when-if at-turn (ltb 7 (getD (e .op) (x .pc) 0)) _ _ (λ k. divide-keeps c i (ltb-true 7 _ k))
         (λ k. when-if at-turn (passesOf (getD (e .op) (x .pc) 0) q (e .words) (x .at) (x .marks) (getD (e .con) (x .pc) (pos 0))) _ _
         (λ y. drop-keeps b (v .binds)) (λ y. back-keeps)))
       where
@@ -363,4 +395,4 @@ module _ (e : Env) (fine : Fine e) (g : Target (e .words)) where
   take-keeps r v l =
       when-if (Valid e) (eqb (getD (e .op) (r .state .pc) 0) 0) _ _ (λ z. end-keeps (r .state) (r .tables) (r .binds) (r .room) v l (row (e .form) (bound (e .words) (r .binds) (e .vars))))
       (λ z. when-if (Valid e) (eqb (getD (e .op) (r .state .pc) 0) 3) _ _ (λ k. bind-keeps (r .state) (r .tables) (r .binds) (r .room) v l (eqb-true _ _ k))
-      (λ k. step-keeps (r .state) (r .tables) (r .binds) (r .room) v l (asked e r) (eqb-false _ _ z)))
+      (λ k. step-keeps (r .state) (r .tables) (r .binds) (r .room) v l (asked e r) (choicesOf e r) (chosen-are e g r (v .held)) (eqb-false _ _ z)))

@@ -10,6 +10,7 @@ use lib.Dec.{eqb, ltb}
 use lib.IntN.{ℤ, pos}
 use mir.Syntax.{w64}
 use mir.Val.{Fits}
+use Rattle.rules.specs.Dialects.{Dialect, everyPlace, firstPlaces}
 use Rattle.rules.specs.Rows.{Form, row}
 use Rattle.words.specs.Words.{entries}
 use Rattle.value_places.specs.Places.{Target}
@@ -21,13 +22,14 @@ use Rattle.value_places.proofs.Elements.{second}
 use Rattle.value_places.proofs.Held.{held-64}
 use Rattle.value_rows.proofs.Row.{row-within}
 use Rattle.search_step.specs.declared.State.{State}
-use Rattle.search_atom.specs.Leaves.{when, passesOf}
+use Rattle.search_atom.specs.Leaves.{when, passesOf, opensOf}
 use Rattle.tables.specs.Slot.{Tables, viewOf}
 use Rattle.search_step.specs.Steps as steps
-use Rattle.search_step.specs.Steps.{Turned, turned, counted, dropped, splitOf, headOf, Steps}
-use Rattle.search.specs.Plain.{divideOf, stepBy, stepOf}
+use Rattle.search_step.specs.Steps.{Turned, turned, counted, dropped, headOf, Steps}
+use Rattle.search_machine.specs.Operations.{opensWith}
+use Rattle.search.specs.Plain.{splitOf, divideOf, stepBy, stepOf}
 use Rattle.search_choice.specs.Choices.{pickOf, settleOf, Named, PicksIf}
-use Rattle.search.specs.Run.{Env, Run, run, goesOn, valueOf, filled, wroteTo, wrote, endBy, endOf, askOf, boundAt, asked, afterTurn, afterEnd, takeEnd, takeBind, takeStep, takeOf, settled, runOf, answerOf}
+use Rattle.search.specs.Run.{Env, Run, run, goesOn, valueOf, filled, wroteTo, wrote, endBy, endOf, askOf, boundAt, asked, choicesIn, choicesOf, afterTurn, afterEnd, takeEnd, takeBind, takeStep, takeOf, settled, runOf, answerOf}
 use Rattle.search.specs.declared.Report.{Report}
 use Rattle.search.specs.Told.{reported}
 use Rattle.search.specs.Valid.{Fine, Valid, Rows}
@@ -148,28 +150,37 @@ module _ (e : Env) (x : State) (t : Tables) (b : List Binding) (room : List ℤ)
 
 -- ---- A turn.
 
-step-3 : (from to : List ℕ) (con s : List ℤ) (q : Bool) (x : State) (t : Tables) → stepBy 3 from to con s q x t ≡ turned (dropped from to (t .ats) (t .backs) x) t
+step-3 : (from to : List ℕ) (con s : List ℤ) (q : Bool) (c : ℕ) (x : State) (t : Tables) → stepBy 3 from to con s q c x t ≡ turned (dropped from to (t .ats) (t .backs) x) t
 unfolding stepBy when passesOf
-step-3 from to con s q x t = refl
+step-3 from to con s q c x t = refl
 
-step-bind : (op from to : List ℕ) (con s : List ℤ) (q : Bool) (x : State) (t : Tables) → getD op (x .pc) 0 ≡ 3
-    → stepOf op from to con s q x t ≡ turned (dropped from to (t .ats) (t .backs) (counted x)) t
+step-bind : (op from to : List ℕ) (con s : List ℤ) (q : Bool) (c : ℕ) (x : State) (t : Tables) → getD op (x .pc) 0 ≡ 3
+    → stepOf op from to con s q c x t ≡ turned (dropped from to (t .ats) (t .backs) (counted x)) t
 unfolding stepOf
-step-bind op from to con s q x t z = ap (λ (o : ℕ). stepBy o from to con s q (counted x) t) z ∙ step-3 from to con s q (counted x) t
+step-bind op from to con s q c x t z = ap (λ (o : ℕ). stepBy o from to con s q c (counted x) t) z ∙ step-3 from to con s q c (counted x) t
 
 -- The code's step: of a list's cons, and of any other line.
 head-code : (op from to : List ℕ) (con s : List ℤ) (q : Bool) (x : State) (t : Tables) → getD op (x .pc) 0 ≡ 8 → steps.stepOf op from to con s q x t ≡ headOf s (counted x) t
 unfolding steps.stepOf steps.stepBy steps.divideOf when
 head-code op from to con s q x t z = ap (λ (o : ℕ). steps.stepBy o from to con s q (counted x) t) z
 
-head-plain : (op from to : List ℕ) (con s : List ℤ) (q : Bool) (x : State) (t : Tables) → getD op (x .pc) 0 ≡ 8 → stepOf op from to con s q x t ≡ splitOf 8 (counted x) t
+head-plain : (op from to : List ℕ) (con s : List ℤ) (q : Bool) (c : ℕ) (x : State) (t : Tables) → getD op (x .pc) 0 ≡ 8 → stepOf op from to con s q c x t ≡ splitOf 8 c (counted x) t
 unfolding stepOf stepBy divideOf when
-head-plain op from to con s q x t z = ap (λ (o : ℕ). stepBy o from to con s q (counted x) t) z
+head-plain op from to con s q c x t z = ap (λ (o : ℕ). stepBy o from to con s q c (counted x) t) z
 
-other-code : (op from to : List ℕ) (con s : List ℤ) (q : Bool) (x : State) (t : Tables) → (getD op (x .pc) 0 ≡ 8 → ⊥)
-    → steps.stepOf op from to con s q x t ≡ stepOf op from to con s q x t
-unfolding steps.stepOf steps.stepBy steps.divideOf stepOf stepBy divideOf when
-other-code op from to con s q x t n = rw (ne-eqb (getD op (x .pc) 0) 8 n)
+other-code : (op from to : List ℕ) (con s : List ℤ) (q : Bool) (c : ℕ) (x : State) (t : Tables) → (getD op (x .pc) 0 ≡ 8 → ⊥) → c ≡ x .marks
+    → steps.stepOf op from to con s q x t ≡ stepOf op from to con s q c x t
+unfolding steps.stepOf steps.stepBy steps.divideOf steps.splitOf stepOf stepBy divideOf splitOf opensOf opensWith when counted
+other-code op from to con s q c x t n e = rw (e, ne-eqb (getD op (x .pc) 0) 8 n)
+
+-- No cons under a multiset stands here.
+not-chosen : (e : Env) (r : Run) → (getD (e .op) (r .state .pc) 0 ≡ 9 → ⊥) → choicesOf e r ≡ r .state .marks
+unfolding choicesOf choicesIn when
+not-chosen e r n = go (e .dialect)
+  where
+    go : (d : Dialect) → choicesIn d (getD (e .op) (r .state .pc) 0) (e .matcher) (getD (e .mat) (r .state .pc) 0) (e .words) (r .state .at) (r .state .marks) ≡ r .state .marks
+    go everyPlace = refl
+    go firstPlaces = rw (ne-eqb (getD (e .op) (r .state .pc) 0) 9 n)
 
 -- A state taken up, by a row or a step.
 pub record Taken (e : Env) (r : Run) (y : State) (u : Tables) (b : List Binding) (room : List ℤ) : Type 0 where
@@ -205,14 +216,14 @@ module _ (e : Env) (x : State) (t : Tables) (b : List Binding) (room : List ℤ)
       rw (p, i, d, k, s, eq-eqb _ _ z, le-ltb _ _ m)
 
   stepped : Turned
-  stepped = stepOf (e .op) (e .from) (e .to) (e .con) (e .words) q x t
+  stepped = stepOf (e .op) (e .from) (e .to) (e .con) (e .words) q (choicesOf e (run x t b room)) x t
 
   took-3 : getD (e .op) (x .pc) 0 ≡ 3 → run (stepped .state) (stepped .tables) b′ room ≡ takeOf e (run x t b room)
   unfolding stepped takeOf takeBind when
   took-3 z =
       rw (ne-eqb _ 0 (λ (y : getD (e .op) (x .pc) 0 ≡ 0). omega arith), eq-eqb _ 3 z, new-binds z)
       (ap (λ (u : Turned). run (u .state) (u .tables) (set b (getD (e .arg) (x .pc) 0) (record { at = x .at; marks = x .marks })) room)
-      (step-bind (e .op) (e .from) (e .to) (e .con) (e .words) q x t z))
+      (step-bind (e .op) (e .from) (e .to) (e .con) (e .words) q (choicesOf e (run x t b room)) x t z))
 
   took-n : (getD (e .op) (x .pc) 0 ≡ 0 → ⊥) → (getD (e .op) (x .pc) 0 ≡ 3 → ⊥) → run (stepped .state) (stepped .tables) b′ room ≡ takeOf e (run x t b room)
   unfolding stepped takeOf takeStep afterTurn when
@@ -271,22 +282,26 @@ module _ (e : Env) (x : State) (t : Tables) (b : List Binding) (room : List ℤ)
     unfolding stepped afterTurn counted
     taken-head y u z p =
         let h = p ∙ head-code (e .op) (e .from) (e .to) (e .con) (e .words) q x t z in
-        let c = ap (λ (w : Turned). run (w .state) (w .tables) b′ room) (head-plain (e .op) (e .from) (e .to) (e .con) (e .words) q x t z) in
+        let c = ap (λ (w : Turned). run (w .state) (w .tables) b′ room) (head-plain (e .op) (e .from) (e .to) (e .con) (e .words) q (choicesOf e (run x t b room)) x t z) in
         record {
-          next = head-next e (counted x) t b′ room (v .long) (v .place) y u h z (held-64 (e .words) (x .at) (x .marks) g (v .held)) ∙ ap (settled e) (sym c ∙ took-plain (λ w. omega arith));
+          next = head-next e (counted x) t b′ room (v .long) (v .place) (choicesOf e (run x t b room)) y u h z (held-64 (e .words) (x .at) (x .marks) g (v .held)) ∙ ap (settled e) (sym c ∙ took-plain (λ w. omega arith));
           picks = head-picks e (counted x) t b′ room (v .long) (v .place) y u h (v .frames .last);
           long = head-backs e (counted x) t b′ room (v .long) (v .place) y u h;
         }
 
-    pub taken-step : x .live ≡ 1 → (y : State) (u : Tables) (room′ : List ℤ) → (getD (e .op) (x .pc) 0 ≡ 0 → ⊥)
-        → turned y u ≡ steps.stepOf (e .op) (e .from) (e .to) (e .con) (e .words) q x t → room′ ≡ room → Taken e (run x t b room) y u b′ room′
+    -- A step with the choices that there are.
+    pub taken-chosen : x .live ≡ 1 → (y : State) (u : Tables) (room′ : List ℤ) → (getD (e .op) (x .pc) 0 ≡ 0 → ⊥)
+        → turned y u ≡ stepOf (e .op) (e .from) (e .to) (e .con) (e .words) q (choicesOf e (run x t b room)) x t → room′ ≡ room → Taken e (run x t b room) y u b′ room′
     unfolding stepped
-    taken-step o y u room′ n p k = go (eqb (getD (e .op) (x .pc) 0) 8) refl
+    taken-chosen o y u room′ n p k = taken-is o y u room′ (rw k (ap (λ (w : Turned). run (w .state) (w .tables) b′ room) p ∙ took-plain n))
+
+    pub taken-step : x .live ≡ 1 → (y : State) (u : Tables) (room′ : List ℤ) → (getD (e .op) (x .pc) 0 ≡ 0 → ⊥) → (getD (e .op) (x .pc) 0 ≡ 9 → ⊥)
+        → turned y u ≡ steps.stepOf (e .op) (e .from) (e .to) (e .con) (e .words) q x t → room′ ≡ room → Taken e (run x t b room) y u b′ room′
+    taken-step o y u room′ n m p k = go (eqb (getD (e .op) (x .pc) 0) 8) refl
       where
         go : (d : Bool) → eqb (getD (e .op) (x .pc) 0) 8 ≡ d → Taken e (run x t b room) y u b′ room′
         go true j = rw k (taken-head y u (eqb-true _ _ j) p)
-        go false j = taken-is o y u room′
-            (rw k (ap (λ (w : Turned). run (w .state) (w .tables) b′ room) (p ∙ other-code (e .op) (e .from) (e .to) (e .con) (e .words) q x t (eqb-false _ _ j)) ∙ took-plain n))
+        go false j = taken-chosen o y u room′ n (p ∙ other-code (e .op) (e .from) (e .to) (e .con) (e .words) q (choicesOf e (run x t b room)) x t (eqb-false _ _ j) (not-chosen e (run x t b room) m)) k
 
 settle-by : (e : Env) (r : Run) (c : Bool)
     → afterTurn (when c (pickOf (e .op) (e .from) (e .to) (e .words) (r .state) (r .tables)) (turned (r .state) (r .tables))) (r .binds) (r .room)

@@ -11,6 +11,7 @@ pub mod Whole
 pub mod Heads
 pub mod Sweeps
 pub mod Laws
+pub mod Narrows
 pub mod Swept
 pub mod Begun
 pub mod Accepted

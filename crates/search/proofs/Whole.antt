@@ -116,17 +116,17 @@ module _ (e : Env) (g : Target (e .words)) (fine : Fine e) (m : Matcher) (p : Pa
     pub phase : Phase (r .state .live)
     pub kept : Kept room r
     pub machine : Machine
-    pub same : Same (places (e .form) (e .words) g) (program m p) (pointAt m p) (program-follows m p at₀ ks fit wide closed) (engineOf (e .form) (e .words) g r) machine
+    pub same : Same (places (e .dialect) (e .form) (e .words) g) (program m p) (pointAt m p) (program-follows m p at₀ ks fit wide closed) (engineOf (e .dialect) (e .form) (e .words) g r) machine
 
   one-turn : (room : List ℤ) (r : Run) → Stands room r → r .state .live ≡ 1
-      → turn (places (e .form) (e .words) g) (program m p) (engineOf (e .form) (e .words) g r) ≡ engineOf (e .form) (e .words) g (settled e (takeOf e r))
+      → turn (places (e .dialect) (e .form) (e .words) g) (program m p) (engineOf (e .dialect) (e .form) (e .words) g r) ≡ engineOf (e .dialect) (e .form) (e .words) g (settled e (takeOf e r))
   unfolding engineOf standing when confOf
   one-turn room r s l =
-      let w = same-waiting (places (e .form) (e .words) g) (program m p) (pointAt m p) (program-follows m p at₀ ks fit wide closed) (s .same) (rw l) in
-      let b = place-bound (places (e .form) (e .words) g) m p (subst (λ o. Rep (places (e .form) (e .words) g) (program m p) (pointAt m p) o (s .machine .waiting)) stood w) in
+      let w = same-waiting (places (e .dialect) (e .form) (e .words) g) (program m p) (pointAt m p) (program-follows m p at₀ ks fit wide closed) (s .same) (rw l) in
+      let b = place-bound (places (e .dialect) (e .form) (e .words) g) m p (subst (λ o. Rep (places (e .dialect) (e .form) (e .words) g) (program m p) (pointAt m p) o (s .machine .waiting)) stood w) in
       turn-is e g fine (program m p) (r .state) (r .tables) (r .binds) (r .room) (s .valid) l (means (r .state .pc) (b .0)) divides
     where
-      stood : standing (e .form) (e .words) g (r .state) (r .tables) (r .binds) ≡ some (confOf (e .form) (e .words) g (r .state) (r .tables) (r .binds))
+      stood : standing (e .dialect) (e .form) (e .words) g (r .state) (r .tables) (r .binds) ≡ some (confOf (e .dialect) (e .form) (e .words) g (r .state) (r .tables) (r .binds))
       stood = rw l
 
   -- A state taken up: the run stands for what follows it, and then the rest.
@@ -135,16 +135,16 @@ module _ (e : Env) (g : Target (e .words)) (fine : Fine e) (m : Matcher) (p : Pa
     valid = settle-keeps e fine g (takeOf e r) (take-keeps e fine g r (s .valid) l);
     phase = phase-next e r (s .valid .room);
     kept = kept-next e room r (s .valid .room) (s .kept);
-    machine = once (e .form) (s .machine);
-    same = subst (λ k. Same (places (e .form) (e .words) g) (program m p) (pointAt m p) (program-follows m p at₀ ks fit wide closed) k (once (e .form) (s .machine))) (one-turn room r s l)
-        (drive.same-turn (places (e .form) (e .words) g) (program m p) (pointAt m p) (program-follows m p at₀ ks fit wide closed) (s .same));
+    machine = once (e .dialect) (e .form) (s .machine);
+    same = subst (λ k. Same (places (e .dialect) (e .form) (e .words) g) (program m p) (pointAt m p) (program-follows m p at₀ ks fit wide closed) k (once (e .dialect) (e .form) (s .machine))) (one-turn room r s l)
+        (drive.same-turn (places (e .dialect) (e .form) (e .words) g) (program m p) (pointAt m p) (program-follows m p at₀ ks fit wide closed) (s .same));
   }
 
   ended-stays : (r : Run) → (r .state .live ≡ 0) ⊎ (r .state .live ≡ 3)
-      → turn (places (e .form) (e .words) g) (program m p) (engineOf (e .form) (e .words) g r) ≡ engineOf (e .form) (e .words) g r
+      → turn (places (e .dialect) (e .form) (e .words) g) (program m p) (engineOf (e .dialect) (e .form) (e .words) g r) ≡ engineOf (e .dialect) (e .form) (e .words) g r
   unfolding engineOf standing when
-  ended-stays r (inl l) = turn-none (places (e .form) (e .words) g) (program m p) (engineOf (e .form) (e .words) g r) (rw l) (rw l)
-  ended-stays r (inr l) = turn-full (places (e .form) (e .words) g) (program m p) (engineOf (e .form) (e .words) g r) (rw l)
+  ended-stays r (inl l) = turn-none (places (e .dialect) (e .form) (e .words) g) (program m p) (engineOf (e .dialect) (e .form) (e .words) g r) (rw l) (rw l)
+  ended-stays r (inr l) = turn-full (places (e .dialect) (e .form) (e .words) g) (program m p) (engineOf (e .dialect) (e .form) (e .words) g r) (rw l)
 
   pub run-stands : (n : ℕ) (room : List ℤ) (r : Run) → Stands room r → Stands room (runOf e n r)
   unfolding runOf
@@ -157,36 +157,36 @@ module _ (e : Env) (g : Target (e .words)) (fine : Fine e) (m : Matcher) (p : Pa
       (s .phase)
 
   stays : (n : ℕ) (r : Run) → (r .state .live ≡ 0) ⊎ (r .state .live ≡ 3)
-      → engineOf (e .form) (e .words) g (runOf e n r) ≡ turns (places (e .form) (e .words) g) (program m p) n (engineOf (e .form) (e .words) g r)
-  stays n r l = ap (engineOf (e .form) (e .words) g) (run-over e n r (not-one l)) ∙ sym (still (places (e .form) (e .words) g) (program m p) n (engineOf (e .form) (e .words) g r) (ended-stays r l))
+      → engineOf (e .dialect) (e .form) (e .words) g (runOf e n r) ≡ turns (places (e .dialect) (e .form) (e .words) g) (program m p) n (engineOf (e .dialect) (e .form) (e .words) g r)
+  stays n r l = ap (engineOf (e .dialect) (e .form) (e .words) g) (run-over e n r (not-one l)) ∙ sym (still (places (e .dialect) (e .form) (e .words) g) (program m p) n (engineOf (e .dialect) (e .form) (e .words) g r) (ended-stays r l))
     where
       not-one : (r .state .live ≡ 0) ⊎ (r .state .live ≡ 3) → r .state .live ≡ 1 → ⊥
       not-one (inl a) z = omega arith
       not-one (inr a) z = omega arith
 
   pub run-is : (n : ℕ) (room : List ℤ) (r : Run) → Stands room r
-      → engineOf (e .form) (e .words) g (runOf e n r) ≡ turns (places (e .form) (e .words) g) (program m p) n (engineOf (e .form) (e .words) g r)
+      → engineOf (e .dialect) (e .form) (e .words) g (runOf e n r) ≡ turns (places (e .dialect) (e .form) (e .words) g) (program m p) n (engineOf (e .dialect) (e .form) (e .words) g r)
   unfolding runOf turns
   run-is zero room r s = refl
   run-is (suc n) room r s = ⊎-elim
       (λ l. stays (suc n) r (inl l))
       (⊎-elim
       (λ l.
-      ap (engineOf (e .form) (e .words) g) (run-more e n r l) ∙ run-is n room (settled e (takeOf e r)) (stands-next room r s l)
-      ∙ ap (turns (places (e .form) (e .words) g) (program m p) n) (sym (one-turn room r s l)))
+      ap (engineOf (e .dialect) (e .form) (e .words) g) (run-more e n r l) ∙ run-is n room (settled e (takeOf e r)) (stands-next room r s l)
+      ∙ ap (turns (places (e .dialect) (e .form) (e .words) g) (program m p) n) (sym (one-turn room r s l)))
       (λ l. stays (suc n) r (inr l)))
       (s .phase)
 
   -- ---- What is told.
 
   answer-is : (r : Run) → Phase (r .state .live)
-      → verdict (places (e .form) (e .words) g) (engineOf (e .form) (e .words) g r .full) (engineOf (e .form) (e .words) g r .conf) ≡ answerOf (r .state .live)
+      → verdict (places (e .dialect) (e .form) (e .words) g) (engineOf (e .dialect) (e .form) (e .words) g r .full) (engineOf (e .dialect) (e .form) (e .words) g r .conf) ≡ answerOf (r .state .live)
   unfolding engineOf standing answerOf verdict when
   answer-is r (inl l) = rw l
   answer-is r (inr (inl l)) = rw l
   answer-is r (inr (inr l)) = rw l
 
-  told-is : (room : List ℤ) (r : Run) → Stands room r → told r ≡ carriedOut (reports (places (e .form) (e .words) g) (engineOf (e .form) (e .words) g r)) room
+  told-is : (room : List ℤ) (r : Run) → Stands room r → told r ≡ carriedOut (reports (places (e .dialect) (e .form) (e .words) g) (engineOf (e .dialect) (e .form) (e .words) g r)) room
   unfolding told matched carriedOut reports engineOf
   told-is room r s k = record {
     answer = sym (answer-is r (s .phase)) k;
@@ -205,9 +205,9 @@ module _ (e : Env) (g : Target (e .words)) (fine : Fine e) (m : Matcher) (p : Pa
       whole = rw long (sym (take-append-drop (r .state .words) (r .room)) ∙ ap (λ l. take (r .state .words) (r .room) ++ l) (s .kept .after))
 
   -- The run from its first state, whatever the tables and the bindings binding.
-  module _ (v : Value) (at₁ marks : ℕ) (is : places (e .form) (e .words) g .Is m (binding at₁ marks) (target v)) (t : Tables) (b : List Binding) (room : List ℤ)
+  module _ (v : Value) (at₁ marks : ℕ) (is : places (e .dialect) (e .form) (e .words) g .Is m (binding at₁ marks) (target v)) (t : Tables) (b : List Binding) (room : List ℤ)
       (valid : Valid e (run (opening at₁ marks) t b room)) where
-    first-engine : fresh (places (e .form) (e .words) g) (binding at₁ marks) (slotsOf (e .form) (e .words) g t) (bindsOf (e .form) (e .words) g b) (length room) ≡ engineOf (e .form) (e .words) g (run (opening at₁ marks) t b room)
+    first-engine : fresh (places (e .dialect) (e .form) (e .words) g) (binding at₁ marks) (slotsOf (e .dialect) (e .form) (e .words) g t) (bindsOf (e .dialect) (e .form) (e .words) g b) (length room) ≡ engineOf (e .dialect) (e .form) (e .words) g (run (opening at₁ marks) t b room)
     unfolding opening engineOf standing confOf when fresh
     first-engine = rw (sub-zero (length room))
 
@@ -218,15 +218,15 @@ module _ (e : Env) (g : Target (e .words)) (fine : Fine e) (m : Matcher) (p : Pa
       phase = inr (inl refl);
       kept = record { long = refl; after = refl };
       machine = opened (start m p v) (length room);
-      same = subst (λ k. Same (places (e .form) (e .words) g) (program m p) (pointAt m p) (program-follows m p at₀ ks fit wide closed) k (opened (start m p v) (length room))) first-engine
-          (fresh-same (places (e .form) (e .words) g) m p v (binding at₁ marks) is at₀ ks fit wide closed (slotsOf (e .form) (e .words) g t) (bindsOf (e .form) (e .words) g b) (length room));
+      same = subst (λ k. Same (places (e .dialect) (e .form) (e .words) g) (program m p) (pointAt m p) (program-follows m p at₀ ks fit wide closed) k (opened (start m p v) (length room))) first-engine
+          (fresh-same (places (e .dialect) (e .form) (e .words) g) m p v (binding at₁ marks) is at₀ ks fit wide closed (slotsOf (e .dialect) (e .form) (e .words) g t) (bindsOf (e .dialect) (e .form) (e .words) g b) (length room));
     }
 
     pub search-runs : (budget : ℕ)
-        → told (runOf e budget (run (opening at₁ marks) t b room)) ≡ carriedOut (search.run (e .form) budget (start m p v ∷ []) (length room)) room
+        → told (runOf e budget (run (opening at₁ marks) t b room)) ≡ carriedOut (search.runIn (e .dialect) (e .form) budget (start m p v ∷ []) (length room)) room
     search-runs budget =
         told-is room (runOf e budget (run (opening at₁ marks) t b room)) (run-stands budget room (run (opening at₁ marks) t b room) first-stands)
-        ∙ ap (λ k. carriedOut (reports (places (e .form) (e .words) g) k) room)
-        (run-is budget room (run (opening at₁ marks) t b room) first-stands ∙ ap (turns (places (e .form) (e .words) g) (program m p) budget) (sym first-engine))
+        ∙ ap (λ k. carriedOut (reports (places (e .dialect) (e .form) (e .words) g) k) room)
+        (run-is budget room (run (opening at₁ marks) t b room) first-stands ∙ ap (turns (places (e .dialect) (e .form) (e .words) g) (program m p) budget) (sym first-engine))
         ∙ ap (λ r. carriedOut r room)
-        (machine-runs (places (e .form) (e .words) g) m p v (binding at₁ marks) is at₀ ks fit wide closed (slotsOf (e .form) (e .words) g t) (bindsOf (e .form) (e .words) g b) budget (length room))
+        (machine-runs (places (e .dialect) (e .form) (e .words) g) m p v (binding at₁ marks) is at₀ ks fit wide closed (slotsOf (e .dialect) (e .form) (e .words) g t) (bindsOf (e .dialect) (e .form) (e .words) g b) budget (length room))

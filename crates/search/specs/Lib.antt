@@ -1,5 +1,6 @@
 -- The definitions that this layer cites.
 pub mod Plain
+pub mod Narrow
 pub mod Run
 pub mod Told
 pub mod Valid

@@ -5,6 +5,7 @@ use mathlib.Core.List.{List}
 use lib.ListN.{length, getD, take}
 use lib.Dec.{eqb}
 use lib.IntN.{ℤ}
+use Rattle.rules.specs.Dialects.{Dialect}
 use Rattle.rules.specs.Rows.{Form}
 use Rattle.search_machine.specs.Engine.{Slot, Conf}
 use Rattle.search_machine.specs.Drive.{Engine}
@@ -18,8 +19,8 @@ use Rattle.search_machine.specs.Operations.{binding}
 use Rattle.search_machine.proofs.Instance.{places}
 use Rattle.search.specs.Run.{Run}
 
-module _ (form : Form) (s : List ℤ) (g : Target s) where
-  unfoldable pub slotsOf : Tables → ℕ → Slot (places form s g)
+module _ (dialect : Dialect) (form : Form) (s : List ℤ) (g : Target s) where
+  unfoldable pub slotsOf : Tables → ℕ → Slot (places dialect form s g)
   slotsOf t j = record {
     held = binding (getD (t .ats) j 0) (getD (t .wholes) j 0);
     rem = getD (t .lefts) j 0;
@@ -30,16 +31,16 @@ module _ (form : Form) (s : List ℤ) (g : Target s) where
   unfoldable pub bindsOf : List Binding → ℕ → Binding
   bindsOf b v = getD b v nothing
 
-  unfoldable pub confOf : State → Tables → List Binding → Conf (places form s g)
+  unfoldable pub confOf : State → Tables → List Binding → Conf (places dialect form s g)
   unfolding slotsOf bindsOf
   confOf x t b = record { pc = x .pc; cur = binding (x .at) (x .marks); top = x .top; slots = slotsOf t; binds = bindsOf b }
 
   -- None where no state is left.
-  unfoldable pub standing : State → Tables → List Binding → Option (Conf (places form s g))
+  unfoldable pub standing : State → Tables → List Binding → Option (Conf (places dialect form s g))
   unfolding when confOf
   standing x t b = when (eqb (x .live) 0) none (some (confOf x t b))
 
-  unfoldable pub engineOf : Run → Engine (places form s g)
+  unfoldable pub engineOf : Run → Engine (places dialect form s g)
   unfolding standing
   engineOf r = record {
     conf = standing (r .state) (r .tables) (r .binds);

@@ -6,11 +6,13 @@ use mathlib.Core.List.{List}
 use lib.ListN.{length, getD, set}
 use lib.Dec.{eqb, ltb}
 use lib.IntN.{ℤ, pos}
+use Rattle.rules.specs.Dialects.{Dialect, everyPlace, firstPlaces}
 use Rattle.rules.specs.Rows.{Form, row}
 use Rattle.rules.specs.Services.{Matched}
 use Rattle.value_places.specs.Held.{put}
 use Rattle.value_rows.specs.Row.{bound, nothing}
 use Rattle.value_equality.specs.Equality.{equalAt, isSum}
+use Rattle.value_firsts.specs.Firsts.{firstsAt}
 use Rattle.value_rows.specs.declared.Binding.{Binding}
 use Rattle.tables.specs.declared.line.Line.{Line}
 use Rattle.tables.specs.Line.{Columns}
@@ -22,8 +24,9 @@ use Rattle.search_step.specs.Steps.{Turned, counted, dropped}
 use Rattle.search.specs.Plain.{stepOf}
 use Rattle.search_choice.specs.Choices.{pickOf}
 
--- What does not change: the program, the matcher's words, the target's words, how many variables there are, the form of a row.
+-- What does not change: the dialect, the program, the matcher's words, the target's words, how many variables there are, the form of a row.
 pub record Env : Type 0 where
+  pub dialect : Dialect
   pub op : List ℕ
   pub from : List ℕ
   pub to : List ℕ
@@ -35,12 +38,16 @@ pub record Env : Type 0 where
   pub vars : ℕ
   pub form : Form
 
-abbrev pub env : (op from to arg mat : List ℕ) → (con matcher words : List ℤ) → (vars : ℕ) → Form → Env
-env op from to arg mat con mt s n form = record { op = op; from = from; to = to; arg = arg; mat = mat; con = con; matcher = mt; words = s; vars = n; form = form }
+abbrev pub env : Dialect → (op from to arg mat : List ℕ) → (con matcher words : List ℤ) → (vars : ℕ) → Form → Env
+env dialect op from to arg mat con mt s n form = record { dialect = dialect; op = op; from = from; to = to; arg = arg; mat = mat; con = con; matcher = mt; words = s; vars = n; form = form }
 
 -- The program as the table of lines has it.
+abbrev pub envWith : Dialect → Columns → (matcher words : List ℤ) → (vars : ℕ) → Form → Env
+envWith dialect t mt s n form = env dialect (t .op) (t .from) (t .to) (t .arg) (t .mat) (t .con) mt s n form
+
+-- Dialect 1.
 abbrev pub envOf : Columns → (matcher words : List ℤ) → (vars : ℕ) → Form → Env
-envOf t mt s n form = env (t .op) (t .from) (t .to) (t .arg) (t .mat) (t .con) mt s n form
+envOf t mt s n form = envWith everyPlace t mt s n form
 
 pub record Run : Type 0 where
   pub state : State
@@ -93,6 +100,13 @@ unfolding when
 askOf o mt i c s g at m =
     when (eqb o 5) (isSum s (g .at) c at) (when (eqb o 6) (equalAt mt i s (g .at) (g .marks) at m) false)
 
+-- ---- The places that a cons under a multiset, 9, chooses from: the element matcher stands after the multiset's tag.
+
+unfoldable pub choicesIn : Dialect → (o : ℕ) → List ℤ → (i : ℕ) → List ℤ → (at m : ℕ) → ℕ
+unfolding when firstsAt
+choicesIn everyPlace o mt i s at m = m
+choicesIn firstPlaces o mt i s at m = when (eqb o 9) (when (ltb i (length mt)) (firstsAt mt (i + 1) s at m) m) m
+
 -- ---- One state taken up.
 
 -- The program's line at a place.
@@ -107,6 +121,10 @@ unfolding askOf boundAt
 asked e r =
     askOf (getD (e .op) (r .state .pc) 0) (e .matcher) (getD (e .mat) (r .state .pc) 0) (getD (e .con) (r .state .pc) (pos 0)) (e .words)
     (boundAt e (r .state .pc) (r .binds)) (r .state .at) (r .state .marks)
+
+unfoldable pub choicesOf : Env → Run → ℕ
+unfolding choicesIn
+choicesOf e r = choicesIn (e .dialect) (getD (e .op) (r .state .pc) 0) (e .matcher) (getD (e .mat) (r .state .pc) 0) (e .words) (r .state .at) (r .state .marks)
 
 -- After a step; after the row.
 unfoldable pub afterTurn : Turned → List Binding → List ℤ → Run
@@ -125,8 +143,8 @@ takeBind e r =
     (set (r .binds) (getD (e .arg) (r .state .pc) 0) (record { at = r .state .at; marks = r .state .marks })) (r .room)
 
 unfoldable pub takeStep : Env → Run → Run
-unfolding asked afterTurn
-takeStep e r = afterTurn (stepOf (e .op) (e .from) (e .to) (e .con) (e .words) (asked e r) (r .state) (r .tables)) (r .binds) (r .room)
+unfolding asked choicesOf afterTurn
+takeStep e r = afterTurn (stepOf (e .op) (e .from) (e .to) (e .con) (e .words) (asked e r) (choicesOf e r) (r .state) (r .tables)) (r .binds) (r .room)
 
 unfoldable pub takeOf : Env → Run → Run
 unfolding when takeEnd takeBind takeStep

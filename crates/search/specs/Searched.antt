@@ -36,4 +36,4 @@ pub record Searched (e : Env) (budget : ℕ) (room : List ℤ) (out : Matched) :
   pub is : out ≡ told (runOf e budget (begun e room))
   pub as-defined : (r : Rule) (v : Value) (ks : List Matcher) → Holds (e .matcher) r (e .vars) (columns (e .op) (e .from) (e .arg) (e .mat) (e .con) (e .to))
       → fits (r .pattern) (r .matcher) 0 [] ≡ ok ks → Widthsᵖ (r .pattern) → Closed (r .pattern) → readTarget (e .words) ≡ ok v → fitsValue (r .matcher) v 0 ≡ ok tt
-      → out ≡ carriedOut (search.run (e .form) budget (start (r .matcher) (r .pattern) v ∷ []) (length room)) room
+      → out ≡ carriedOut (search.runIn (e .dialect) (e .form) budget (start (r .matcher) (r .pattern) v ∷ []) (length room)) room

@@ -1,10 +1,12 @@
 // Document 01, section 4: "a run takes up states until none remain or the budget is used". The bindings are sixteen structs by value, beside the state.
 pub mod asking;
+pub mod narrowing;
 pub mod taking;
 
 use asking::is_equal_at;
 use asking::is_sum_at;
 use asking::value_of;
+use narrowing::narrow;
 use search_choice::settle;
 use search_seek::asks;
 use search_seek::pass_over;
@@ -48,11 +50,13 @@ ghost use Rattle.search.specs.Told.{envBy, reported};
 ghost use Rattle.search.specs.Valid.{Given, Fine, Valid};
 ghost use Rattle.search.specs.Searched.{unbound, Searched};
 
-// What a run keeps to, beside its rule and its target: the most steps, how many variables there are, whether a row tells origins.
+// What a run keeps to, beside its rule and its target: the most steps, how many variables there are, whether a row tells origins, whether a
+// cons under a multiset takes first places only.
 pub struct Terms {
     pub budget: u64,
     pub vars: usize,
     pub origins: bool,
+    pub firsts: bool,
 }
 
 // How far a run is: its state and its bindings. What waits stands in its slots.
@@ -110,6 +114,7 @@ pub fn advance(
         } else {
             x = x.step(Asked { same: same }, s, places, lines, slots);
             if o == MULTISET_CONS {
+                narrow(terms.firsts, x, mt, s, places, lines, slots);
                 let sought = asks(x, lines);
                 if sought {
                     let v = arg_at(lines, x.top);

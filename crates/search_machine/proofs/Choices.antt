@@ -1,5 +1,5 @@
 -- The choices of cons and join by marks are the definitions' choices, one by one in their order. Assumes nothing.
-use Prim.Native.Nat.{ℕ, zero, suc, _+_, _-_, _^_, _<_}
+use Prim.Native.Nat.{ℕ, zero, suc, _+_, _-_, _^_, _≤_, _<_}
 use mathlib.Core.Path.{_≡_, refl, sym, _∙_, ap, ap₂, subst}
 use mathlib.Core.Option.{Option, none, some}
 use mathlib.Core.List.{List, [], _∷_, map}
@@ -9,11 +9,14 @@ use borrow.Author.Tests.{eq-eqb, ne-eqb}
 use lib.Pow.{pow-pos, pow-lt}
 use lib.Count.{trailingZeros}
 use lib.IntN.{ℤ}
-use Rattle.rules.specs.Forms.{Matcher, list, multiset, count}
-use Rattle.rules.specs.Origins.{Origin, Valueᵒ, collectionᵒ, Valuesᵒ, plain, plainAll}
-use Rattle.rules.specs.Fit.{takes, tagsOf, among}
-use Rattle.rules.specs.Search.{Halves, consHalves, joinHalves}
+use Rattle.rules.specs.Forms.{Matcher, list, multiset, Values, count}
+use Rattle.rules.specs.Origins.{Origin, Valueᵒ, collectionᵒ, Valuesᵒ, emptyᵒ, _▸ᵒ_, plain, plainAll}
+use Rattle.rules.specs.Fit.{takes, tagsOf, among, element}
+use Rattle.rules.specs.Equality.{equal}
+use Rattle.rules.specs.Dialects.{Dialect, everyPlace, firstPlaces}
+use Rattle.rules.specs.Search.{Halves, consHalves, differing, consHalvesIn, isMultiset, joinHalves}
 use Rattle.words.specs.Words.{tagAt}
+use Rattle.words.specs.Marked.{nth}
 use Rattle.words.specs.Marks.{clear, positions, raise, splits, Longer}
 use Rattle.words.proofs.marks.Places.{low-digit, clear-add, positions-one, positions-low, positions-none}
 use Rattle.words.proofs.marks.Fronts.{raise-none, splits-next, splits-last}
@@ -21,15 +24,17 @@ use Rattle.value_places.specs.Places.{valueAt, elements, countAt, Target, eleme
 use Rattle.value_places.specs.Held.{Held}
 use Rattle.value_places.specs.Origins.{nthᵒ, markedᵒ, originAt, elementsᵒ}
 use Rattle.forms.specs.Origins.{plain-placedAll}
+use Rattle.value_firsts.specs.Firsts.{firstsOf}
+use Rattle.value_firsts.proofs.Differing.{firsts-le, firsts-some, firsts-are}
 use Rattle.value_rows.specs.declared.Binding.{Binding}
 use Rattle.value_places.proofs.Held.{marks-all, held-64, held-less, held-clear, held-some, whole-held, next-in, next-64, next-tag}
 use Rattle.value_places.proofs.Origins.{origin-collection, origin-whole, element-origin}
 use Rattle.program_rules.specs.Points.{Kind, listCons, multisetCons, joins, over, firstBy, halves}
 use Rattle.search_machine.specs.Held.{Picked, Opened}
-use Rattle.search_atom.specs.Leaves.{when, opensOf, noneOf, longerOf}
+use Rattle.search_atom.specs.Leaves.{when, noneOf, longerOf}
 use Rattle.search_machine.specs.Fitting.{Fine}
-use Rattle.search_machine.specs.Operations.{Is, code, someOf, opensBy, opens, partOf, takePlace, takeFront, pick, originBy, choiceAt, partsAt, elementsAt, LeftPlaces, LeftFronts, Left}
-use Rattle.search_machine.proofs.Fitting.{halves-fine}
+use Rattle.search_machine.specs.Operations.{Is, code, someOf, opensBy, choicesBy, opensWith, opens, partOf, takePlace, takeFront, pick, originBy, choiceAt, partsAt, elementsAt, LeftPlaces, LeftFronts, Left}
+use Rattle.search_machine.proofs.Fitting.{halves-fine, firsts-fine}
 use Rattle.search_machine.proofs.Marked.{cons-multiset, cons-list, cons-list-none, join-splits}
 use Rattle.search_machine.proofs.Tests.{is-many}
 
@@ -48,6 +53,12 @@ some-some c h = rw (ne-eqb c 0 (λ z. omega arith))
 minus-none : (m : ℕ) → m ≡ m - 0
 minus-none m = omega arith
 
+plain-nth : (vs : Valuesᵒ) (j : ℕ) → plain (nthᵒ vs j) ≡ nth (plainAll vs) j
+unfolding nthᵒ nth plain plainAll
+plain-nth emptyᵒ j = refl
+plain-nth (v ▸ᵒ vs) zero = refl
+plain-nth (v ▸ᵒ vs) (suc j) = plain-nth vs j
+
 by-zero : (P : Type 0) (c : ℕ) → (c ≡ 0 → P) → (0 < c → P) → P
 by-zero P zero f h = f refl
 by-zero P (suc c) f h = h (omega arith)
@@ -60,6 +71,10 @@ module _ (s : List ℤ) (g : Target s) where
   some-of : (at m : ℕ) → Held s at m → m < 2 ^ count (plainAll (elementsᵒ s at))
   unfolding elementsᵒ
   some-of at m w = rw (plain-placedAll (at + 2) 0 (elements (valueAt s at))) (held-some s at m g w)
+
+  plain-element : (at j : ℕ) → plain (nthᵒ (elementsᵒ s at) j) ≡ nth (elements (valueAt s at)) j
+  unfolding elementsᵒ
+  plain-element at j = plain-nth (elementsᵒ s at) j ∙ ap (λ (us : Values). nth us j) (plain-placedAll (at + 2) 0 (elements (valueAt s at)))
 
   -- ---- Cons: places.
 
@@ -174,9 +189,10 @@ module _ (s : List ℤ) (g : Target s) where
   pick-ok (multisetCons m) h c hs l = place-taken (multisetCons m) h c hs (λ d us u. u) l
   pick-ok (joins m) h f hs l = front-taken m h f hs l
 
-  pub opens-ok : (k : Kind) (h : Binding) (v : Valueᵒ) → Is s (over k) h v → Opened (Left s k h) (opens k h) (halves k v)
-  unfolding opens code opensBy noneOf opensOf when Opened Left halves over takes tagsOf among
-  opens-ok (listCons m) h v i =
+  opens-list : (m : Matcher) (h : Binding) (v : Valueᵒ) (c : ℕ) → Is s (list m) h v
+      → Opened (Left s (listCons m) h) (opensBy (noneOf 8 (h .marks)) (opensWith 8 (h .marks) c)) (consHalves (list m) v)
+  unfolding opensBy noneOf opensWith when Opened Left halves over takes tagsOf among
+  opens-list m h v c i =
       let f = is-many s g (list m) h v refl i in
       let e = sym (i .is) ∙ of-elements h (i .place) (h .marks) (i .held) f in
       by-zero _ (h .marks)
@@ -194,22 +210,11 @@ module _ (s : List ℤ) (g : Target s) where
             ∙ ap (map (choiceAt (originBy h (i .place)) (elementsAt s h) (h .marks))) (sym (positions-one 64 t (next-64 s (h .at) (h .marks) t g (i .held) refl z)));
         fine = halves-fine (listCons m) v (i .fits);
       }))
-  opens-ok (multisetCons m) h v i =
-      let f = is-many s g (multiset m) h v refl i in
-      let e = ap (consHalves (multiset m)) (sym (i .is) ∙ of-elements h (i .place) (h .marks) (i .held) f)
-      ∙ cons-multiset (originBy h (i .place)) (elementsAt s h) (h .marks) (some-of (h .at) (h .marks) (i .held)) (held-64 s (h .at) (h .marks) g (i .held)) m in
-      by-zero _ (h .marks)
-      (λ z. rw (eq-eqb (h .marks) 0 z) (e ∙ ap (map (choiceAt (originBy h (i .place)) (elementsAt s h) (h .marks))) (ap (positions 64) z ∙ positions-none 64)))
-      (λ z. rw (ne-eqb (h .marks) 0 (λ y. omega arith)) (record {
-        place = i .place;
-        held = i .held;
-        many = f;
-        some = z;
-        choices = i .held;
-        are = e;
-        fine = halves-fine (multisetCons m) v (i .fits);
-      }))
-  opens-ok (joins m) h v i =
+
+  opens-join : (m : Matcher) (h : Binding) (v : Valueᵒ) (c : ℕ) → Is s (list m) h v
+      → Opened (Left s (joins m) h) (opensBy (noneOf 10 (h .marks)) (opensWith 10 (h .marks) c)) (joinHalves v)
+  unfolding opensBy noneOf opensWith when Opened Left halves over takes tagsOf among
+  opens-join m h v c i =
       let f = is-many s g (list m) h v refl i in
       record {
         place = i .place;
@@ -221,3 +226,67 @@ module _ (s : List ℤ) (g : Target s) where
             ∙ ap (map (partsAt (originBy h (i .place)) (elementsAt s h))) (sym (raise-none (splits 64 (h .marks)))) ∙ ap (λ (x : ℕ). map (partsAt (originBy h (i .place)) (elementsAt s h)) (map (raise 0) (splits 64 x))) (minus-none (h .marks));
         fine = halves-fine (joins m) v (i .fits);
       }
+
+  module _ (m : Matcher) (h : Binding) (v : Valueᵒ) (i : Is s (multiset m) h v) where
+    many : tagAt s (h .at) ≡ 1
+    unfolding takes tagsOf among
+    many = is-many s g (multiset m) h v refl i
+
+    -- Every place; of these the first ones.
+    every : consHalves (multiset m) v ≡ map (choiceAt (originBy h (i .place)) (elementsAt s h) (h .marks)) (positions 64 (h .marks))
+    every = ap (consHalves (multiset m)) (sym (i .is) ∙ of-elements h (i .place) (h .marks) (i .held) many)
+        ∙ cons-multiset (originBy h (i .place)) (elementsAt s h) (h .marks) (some-of (h .at) (h .marks) (i .held)) (held-64 s (h .at) (h .marks) g (i .held)) m
+
+    opens-every : Opened (Left s (multisetCons m) h) (opensBy (noneOf 9 (h .marks)) (opensWith 9 (h .marks) (h .marks))) (consHalves (multiset m) v)
+    unfolding opensBy noneOf opensWith when Opened Left over
+    opens-every = by-zero _ (h .marks)
+        (λ z. rw (eq-eqb (h .marks) 0 z) (every ∙ ap (map (choiceAt (originBy h (i .place)) (elementsAt s h) (h .marks))) (ap (positions 64) z ∙ positions-none 64)))
+        (λ z. rw (ne-eqb (h .marks) 0 (λ y. omega arith)) (record {
+          place = i .place;
+          held = i .held;
+          many = many;
+          some = z;
+          choices = i .held;
+          are = every;
+          fine = unfold halves consHalvesIn in halves-fine (multisetCons m) v (i .fits);
+        }))
+
+    vs : Values
+    vs = elements (valueAt s (h .at))
+
+    places : ℕ
+    places = firstsOf (equal m) vs (h .marks)
+
+    first-are : halves firstPlaces (multisetCons m) v ≡ map (choiceAt (originBy h (i .place)) (elementsAt s h) (h .marks)) (positions 64 places)
+    unfolding halves consHalvesIn isMultiset element firstsOf places vs choiceAt
+    first-are = ap (differing (equal m) []) every
+        ∙ firsts-are (equal m) [] vs 64 (h .marks) (choiceAt (originBy h (i .place)) (elementsAt s h) (h .marks)) (λ j u. plain-element (h .at) j)
+        (held-some s (h .at) (h .marks) g (i .held)) (held-64 s (h .at) (h .marks) g (i .held))
+
+    few : places ≤ h .marks
+    unfolding places firstsOf
+    few = firsts-le (equal m) [] vs (h .marks)
+
+    opens-firsts : Opened (Left s (multisetCons m) h) (opensBy (noneOf 9 (h .marks)) (opensWith 9 (h .marks) places)) (halves firstPlaces (multisetCons m) v)
+    unfolding opensBy noneOf opensWith when Opened Left over vs elements
+    opens-firsts = by-zero _ (h .marks)
+        (λ z. let y : places ≡ 0 = omega (arith, few) in
+        rw (eq-eqb (h .marks) 0 z) (first-are ∙ ap (map (choiceAt (originBy h (i .place)) (elementsAt s h) (h .marks))) (ap (positions 64) y ∙ positions-none 64)))
+        (λ z. rw (ne-eqb (h .marks) 0 (λ y. omega arith)) (record {
+          place = i .place;
+          held = i .held;
+          many = many;
+          some = unfold places firstsOf in firsts-some (equal m) vs (h .marks) z (held-some s (h .at) (h .marks) g (i .held));
+          choices = held-less s (h .at) (h .marks) places (i .held) few;
+          are = first-are;
+          fine = firsts-fine m v (i .fits);
+        }))
+
+  pub opens-ok : (dialect : Dialect) (k : Kind) (h : Binding) (v : Valueᵒ) → Is s (over k) h v → Opened (Left s k h) (opens dialect s k h) (halves dialect k v)
+  unfolding opens choicesBy code halves consHalvesIn over places vs
+  opens-ok everyPlace (listCons m) h v i = opens-list m h v (h .marks) i
+  opens-ok everyPlace (multisetCons m) h v i = opens-every m h v i
+  opens-ok everyPlace (joins m) h v i = opens-join m h v (h .marks) i
+  opens-ok firstPlaces (listCons m) h v i = opens-list m h v (h .marks) i
+  opens-ok firstPlaces (multisetCons m) h v i = opens-firsts m h v i
+  opens-ok firstPlaces (joins m) h v i = opens-join m h v (h .marks) i

@@ -2,16 +2,18 @@
 use Prim.Native.Nat.{ℕ, _+_}
 use mathlib.Core.Path.{_≡_, refl}
 use mathlib.Core.Bool.{Bool, true, false}
-use mathlib.Core.List.{List, [], _∷_, map}
+use mathlib.Core.List.{List, [], _∷_, _++_, map}
 use borrow.Author.Tests.{eqb-true}
 use lib.Dec.{eqb}
 use native.Mathlib.Omega.{arith}
 use Rattle.rules.specs.Forms.{Matcher, something, integer, list, multiset, tupleOf, Matchers, noMatchers, _▸ᵐ_, countᵐ, Value, int, collection, tupled, Values, empty, _▸_, count, size}
 use Rattle.rules.specs.Reading.{Verdict, ok, _then_}
 use Rattle.rules.specs.Variables.{demand}
-use Rattle.rules.specs.Fit.{fitsAll, fitsValue, fitsEach}
+use Rattle.rules.specs.Fit.{element, fitsAll, fitsValue, fitsEach}
 use Rattle.rules.specs.Origins.{Origin, Valueᵒ, intᵒ, collectionᵒ, tupledᵒ, Valuesᵒ, emptyᵒ, _▸ᵒ_, plain, plainAll}
-use Rattle.rules.specs.Search.{Taking, takings, behind, consHalves, joinHalves, Cut, cuts, longer}
+use Rattle.rules.specs.Search.{Taking, takings, behind, Halves, consHalves, anyEqual, differing, consHalvesIn, isMultiset, joinHalves, Cut, cuts, longer}
+use Rattle.rules.specs.Equality.{equal}
+use Rattle.rules.specs.Dialects.{everyPlace, firstPlaces}
 use Rattle.forms.specs.Readers.{then-ok}
 use Rattle.program_rules.specs.Points.{Kind, listCons, multisetCons, joins, over, firstBy, halves}
 use Rattle.search_machine.specs.Fitting.{Each, Fitting, FittingEach, Fine}
@@ -99,8 +101,8 @@ unfolding EachCut Fitting Fine over firstBy plain
 join-fine o m [] g = tt
 join-fine o m (c ∷ cs) g = (g .0, g .1, join-fine o m cs (g .2))
 
-pub halves-fine : (k : Kind) (v : Valueᵒ) → Fitting (over k) (plain v) → Fine k (halves k v)
-unfolding halves over firstBy Fitting Fine Each consHalves joinHalves plain
+pub halves-fine : (k : Kind) (v : Valueᵒ) → Fitting (over k) (plain v) → Fine k (halves everyPlace k v)
+unfolding halves consHalvesIn over firstBy Fitting Fine Each consHalves joinHalves plain
 halves-fine (listCons m) (intᵒ o x) f = tt
 halves-fine (listCons m) (collectionᵒ o emptyᵒ) f = tt
 halves-fine (listCons m) (collectionᵒ o (v ▸ᵒ vs)) f = (f .0, f .1, tt)
@@ -111,3 +113,18 @@ halves-fine (multisetCons m) (tupledᵒ o vs) f = tt
 halves-fine (joins m) (intᵒ o x) f = tt
 halves-fine (joins m) (collectionᵒ o vs) f = join-fine o m (cuts vs) (cuts-each (λ v. Fitting m v) vs f)
 halves-fine (joins m) (tupledᵒ o vs) f = tt
+
+-- Some of the choices, in their order.
+fine-some : (k : Kind) (eq : Value → Value → Bool) (before : List Value) (hs : List Halves) → Fine k hs → Fine k (differing eq before hs)
+unfolding Fine differing
+fine-some k eq before [] g = tt
+fine-some k eq before (h ∷ hs) g = go (anyEqual eq before (plain (h .first))) (fine-some k eq (before ++ (plain (h .first) ∷ [])) hs (g .2))
+  where
+    go : (b : Bool) → Fine k (differing eq (before ++ (plain (h .first) ∷ [])) hs)
+        → Fine k (elim b as (λ _. List Halves) [ true ↦ differing eq (before ++ (plain (h .first) ∷ [])) hs | false ↦ h ∷ differing eq (before ++ (plain (h .first) ∷ [])) hs ])
+    go true r = r
+    go false r = (g .0, g .1, r)
+
+pub firsts-fine : (m : Matcher) (v : Valueᵒ) → Fitting (multiset m) (plain v) → Fine (multisetCons m) (halves firstPlaces (multisetCons m) v)
+unfolding halves consHalvesIn isMultiset element over
+firsts-fine m v f = fine-some (multisetCons m) (equal m) [] (consHalves (multiset m) v) (halves-fine (multisetCons m) v f)

@@ -15,6 +15,7 @@ use Rattle.value_rows.specs.declared.Binding.{Binding}
 use Rattle.value_places.proofs.Accepted.{read-target, read-tag, read-value, read-held}
 use Rattle.value_places.proofs.Origins.{origin-whole}
 use Rattle.forms.specs.Origins.{plain-placed}
+use Rattle.rules.specs.Dialects.{Dialect}
 use Rattle.search_machine.specs.Fitting.{Fitting}
 use Rattle.search_machine.specs.Held.{Data}
 use Rattle.search_machine.specs.Operations.{binding, Is, Left, isNone, isNumber, isSame, isWide, partOf, opens, pick}
@@ -23,8 +24,8 @@ use Rattle.search_machine.proofs.Tests.{none-ok, number-ok, same-ok, wo
 use Rattle.search_machine.proofs.Tuples.{parts-ok}
 use Rattle.search_machine.proofs.Choices.{opens-ok, pick-ok}
 
-abbrev pub places : Form → (s : List ℤ) → Target s → Data
-places form s g = record {
+abbrev pub places : Dialect → Form → (s : List ℤ) → Target s → Data
+places dialect form s g = record {
   Held = Binding;
   Rem = ℕ;
   Is = Is s;
@@ -35,8 +36,9 @@ places form s g = record {
   isNumber-ok = number-ok s g;
   isSame = isSame s;
   isSame-ok = same-ok s g;
-  opens = opens;
-  opens-ok = opens-ok s g;
+  dialect = dialect;
+  opens = opens dialect s;
+  opens-ok = opens-ok s g dialect;
   pick = pick s;
   pick-ok = pick-ok s g;
   isWide = isWide s;

@@ -11,7 +11,7 @@ use lib.IntN.{ℤ}
 use Rattle.rules.specs.Forms.{Matcher}
 use Rattle.rules.specs.Origins.{Bindings}
 use Rattle.rules.specs.Rows.{row}
-use Rattle.rules.specs.Search.{State, Run, run}
+use Rattle.rules.specs.Search.{State, Run, runIn}
 use Rattle.search_machine.specs.Machine.{Machine, passing, writing, filling, stepOn, once, times, answerBy, told, opened, run-steps}
 use Rattle.program_rules.specs.Points.{Instr, strip, keep, other, close, drop, bind, test, split, apart, choice, deny, cutAt, end, Point, resume}
 use Rattle.program_rules.specs.Points.{Follows, strips, drops, binds, tests, splits, aparts, keeps, chooses, denies, cuts, ends}
@@ -127,8 +127,8 @@ module _ (D : Data) where
     same-pass k K c ss stopped r = running r
 
     same-step : (c : Conf D) (i : Instr) {P : Point} {s : State} (ss : List State) (o : Option (Conf D)) (k : Engine D) (K : Machine) → Same k K
-        → Follows points (c .pc) i P → At D (c .slots) (c .binds) (c .pc) (c .cur) P s → Rep D code points o (resume s ss)
-        → Same (result k i (c .binds) o) (stepOn (D .form) K (s ∷ ss))
+        → Follows points (c .pc) i P → At D (c .slots) (c .binds) (c .pc) (c .cur) P s → Rep D code points o (resume (D .dialect) s ss)
+        → Same (result k i (c .binds) o) (stepOn (D .dialect) (D .form) K (s ∷ ss))
     unfolding result stepOn passed passing resume rowDone
     same-step c i ss o k K x (strips h n pt) (at a ws bs) r = same-pass k K o _ x r
     same-step c i ss o k K x (drops h pt) (at a ws bs) r = same-pass k K o _ x r
@@ -143,17 +143,17 @@ module _ (D : Data) where
     same-step c i ss o k K (running y) ends (done {e = e} bs) r = rw (row-ok bs) (same-row (leb (length (row (D .form) e)) (k .left)) k K (row (D .form) e) o ss (running y) r)
     same-step c i ss o k K stopped ends (done {e = e} bs) r = rw (row-ok bs) (same-row (leb (length (row (D .form) e)) (k .left)) k K (row (D .form) e) o ss stopped r)
 
-    pub same-turn : {k : Engine D} {K : Machine} → Same k K → Same (turn code k) (once (D .form) K)
+    pub same-turn : {k : Engine D} {K : Machine} → Same k K → Same (turn code k) (once (D .dialect) (D .form) K)
     unfolding turn once advance stepOn
     same-turn (running over-all) = running over-all
     same-turn (running (live {c = c} {ss = ss} l a ch)) = same-step c (code (c .pc)) ss _ _ _ (running (live l a ch))
         (follows (c .pc)) a (step-rep D code points c (code (c .pc)) ss refl (follows (c .pc)) l a ch)
     same-turn stopped = stopped
 
-    same-turns : (n : ℕ) {k : Engine D} {K : Machine} → Same k K → Same (turns code n k) (times (D .form) n K)
+    same-turns : (n : ℕ) {k : Engine D} {K : Machine} → Same k K → Same (turns code n k) (times (D .dialect) (D .form) n K)
     unfolding turns times
     same-turns zero s = s
     same-turns (suc n) s = same-turns n (same-turn s)
 
-    pub engine-runs : (n : ℕ) (s : State) (room : ℕ) (k : Engine D) → Same k (opened s room) → reports (turns code n k) ≡ run (D .form) n (s ∷ []) room
-    engine-runs n s room k h = same-result (same-turns n h) ∙ run-steps (D .form) n s room
+    pub engine-runs : (n : ℕ) (s : State) (room : ℕ) (k : Engine D) → Same k (opened s room) → reports (turns code n k) ≡ runIn (D .dialect) (D .form) n (s ∷ []) room
+    engine-runs n s room k h = same-result (same-turns n h) ∙ run-steps (D .dialect) (D .form) n s room

@@ -10,6 +10,7 @@ use Rattle.rules.specs.Origins.{Valueᵒ, tupledᵒ, Valuesᵒ, emptyᵒ, _▸�
 use Rattle.rules.specs.Rows.{Form, told}
 use Rattle.rules.specs.Fit.{takes, withoutSomething, sameShape}
 use Rattle.rules.specs.Equality.{raised, equalTo, isConstant, isEmpty}
+use Rattle.rules.specs.Dialects.{Dialect}
 use Rattle.rules.specs.Search.{Halves}
 use Rattle.program_rules.specs.Points.{Kind, over, firstBy, halves}
 
@@ -46,8 +47,9 @@ pub record Data : Type 1 where
   pub isSame : Matcher → ℤ → Held → Held → Bool
   pub isSame-ok : (m k : Matcher) (c : ℤ) (g h : Held) (w v : Valueᵒ) → withoutSomething m ≡ true → sameShape m k ≡ true → Is k g w → Is m h v
       → isSame m c g h ≡ equalTo m (raised c (plain w)) (plain v)
+  pub dialect : Dialect
   pub opens : Kind → Held → Option Rem
-  pub opens-ok : (k : Kind) (h : Held) (v : Valueᵒ) → Is (over k) h v → Opened (Left k h) (opens k h) (halves k v)
+  pub opens-ok : (k : Kind) (h : Held) (v : Valueᵒ) → Is (over k) h v → Opened (Left k h) (opens k h) (halves dialect k v)
   pub pick : Kind → Held → Rem → Picked Held Rem
   pub pick-ok : (k : Kind) (h : Held) (r : Rem) (hs : List Halves) → Left k h r hs
       → (f : Halves) × (rest : List Halves) × (hs ≡ f ∷ rest) × Is (firstBy k) ((pick k h r) .one) (f .first)

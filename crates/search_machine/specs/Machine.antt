@@ -10,7 +10,8 @@ use lib.ListN.{length}
 use lib.Dec.{leb}
 use lib.IntN.{ℤ}
 use Rattle.rules.specs.Rows.{Form, row}
-use Rattle.rules.specs.Search.{atom, endOfNot, State, state, after, leaveNot, Run, stopped, step, rowStep, run, afterIn, consHalvesIn, runIn}
+use Rattle.rules.specs.Search.{atom, endOfNot, State, state, leaveNot, Run, stopped, step, rowStep, afterIn, consHalvesIn, runIn}
+use Rattle.rules.specs.Dialects.{Dialect}
 
 -- The waiting states, the free words, the rows, steps and words so far; `full` is set by a row that does not fit.
 pub record Machine : Type 0 where
@@ -32,21 +33,21 @@ unfoldable pub filling : Machine → List State → Machine
 filling k ss = record { waiting = ss; left = k .left; rows = k .rows; steps = suc (k .steps); written = k .written; full = true }
 
 -- One step. A machine that has ended stays as it is.
-unfoldable pub stepOn : Form → Machine → List State → Machine
+unfoldable pub stepOn : Dialect → Form → Machine → List State → Machine
 unfolding passing writing filling afterIn consHalvesIn leaveNot row
-stepOn form k [] = k
-stepOn form k (state g [] e ∷ ss) = elim (leb (length (row form e)) (k .left)) [ true ↦ writing k (row form e) ss | false ↦ filling k ss ]
-stepOn form k (state g (endOfNot ∷ older) e ∷ ss) = passing k (leaveNot ss)
-stepOn form k (state g (atom p m v ∷ older) e ∷ ss) = passing k (after p m v older e ++ ss)
+stepOn dialect form k [] = k
+stepOn dialect form k (state g [] e ∷ ss) = elim (leb (length (row form e)) (k .left)) [ true ↦ writing k (row form e) ss | false ↦ filling k ss ]
+stepOn dialect form k (state g (endOfNot ∷ older) e ∷ ss) = passing k (leaveNot ss)
+stepOn dialect form k (state g (atom p m v ∷ older) e ∷ ss) = passing k (afterIn dialect p m v older e ++ ss)
 
-unfoldable pub once : Form → Machine → Machine
+unfoldable pub once : Dialect → Form → Machine → Machine
 unfolding stepOn
-once form k = elim (k .full) [ true ↦ k | false ↦ stepOn form k (k .waiting) ]
+once dialect form k = elim (k .full) [ true ↦ k | false ↦ stepOn dialect form k (k .waiting) ]
 
-unfoldable pub times : Form → ℕ → Machine → Machine
+unfoldable pub times : Dialect → Form → ℕ → Machine → Machine
 unfolding once
-times form zero k = k
-times form (suc n) k = times form n (once form k)
+times dialect form zero k = k
+times dialect form (suc n) k = times dialect form n (once dialect form k)
 
 -- The answer: 8 once full, 0 with no state left, else 7.
 unfoldable pub answerBy : Bool → List State → ℕ
@@ -62,16 +63,16 @@ unfoldable pub opened : State → ℕ → Machine
 opened s room = record { waiting = s ∷ []; left = room; rows = 0; steps = 0; written = []; full = false }
 
 -- Portions add up.
-pub times-add : (form : Form) (a b : ℕ) (k : Machine) → times form (a + b) k ≡ times form b (times form a k)
+pub times-add : (dialect : Dialect) (form : Form) (a b : ℕ) (k : Machine) → times dialect form (a + b) k ≡ times dialect form b (times dialect form a k)
 unfolding times
-times-add form zero b k = rw (zero-add b)
-times-add form (suc a) b k = rw (suc-add a b) (times-add form a b (once form k))
+times-add dialect form zero b k = rw (zero-add b)
+times-add dialect form (suc a) b k = rw (suc-add a b) (times-add dialect form a b (once dialect form k))
 
 -- A machine that has ended stays as it is.
-still : (form : Form) (n : ℕ) (k : Machine) → once form k ≡ k → times form n k ≡ k
+still : (dialect : Dialect) (form : Form) (n : ℕ) (k : Machine) → once dialect form k ≡ k → times dialect form n k ≡ k
 unfolding times
-still form zero k h = refl
-still form (suc n) k h = ap (times form n) h ∙ still form n k h
+still dialect form zero k h = refl
+still dialect form (suc n) k h = ap (times dialect form n) h ∙ still dialect form n k h
 
 -- What a run adds to what a machine has done.
 on : ℕ → ℕ → List ℤ → Run → Run
@@ -93,33 +94,33 @@ unfolding on rowStep
 on-row rows steps written ws r = same-run (r .answer) (omega arith) (omega arith) (append-assoc written ws (r .written))
 
 -- n steps give what the run gives.
-goes-on : (form : Form) (n : ℕ) (ss : List State) (left rows steps : ℕ) (written : List ℤ)
-    → told (times form n (machine ss left rows steps written false)) ≡ on rows steps written (run form n ss left)
+goes-on : (dialect : Dialect) (form : Form) (n : ℕ) (ss : List State) (left rows steps : ℕ) (written : List ℤ)
+    → told (times dialect form n (machine ss left rows steps written false)) ≡ on rows steps written (runIn dialect form n ss left)
 unfolding told times runIn machine on
-goes-on form zero [] left rows steps written = same-run 0 (sym (add-zero rows)) (sym (add-zero steps)) (sym (append-nil written))
-goes-on form zero (s ∷ ss) left rows steps written = same-run 7 (sym (add-zero rows)) (sym (add-zero steps)) (sym (append-nil written))
-goes-on form (suc n) [] left rows steps written =
-    ap told (still form n (machine [] left rows steps written false) refl) ∙ same-run 0 (sym (add-zero rows)) (sym (add-zero steps)) (sym (append-nil written))
-goes-on form (suc n) (state g [] e ∷ ss) left rows steps written =
-    go (leb (length (row form e)) left) (goes-on form n ss (left - length (row form e)) (suc rows) (suc steps) (written ++ row form e))
+goes-on dialect form zero [] left rows steps written = same-run 0 (sym (add-zero rows)) (sym (add-zero steps)) (sym (append-nil written))
+goes-on dialect form zero (s ∷ ss) left rows steps written = same-run 7 (sym (add-zero rows)) (sym (add-zero steps)) (sym (append-nil written))
+goes-on dialect form (suc n) [] left rows steps written =
+    ap told (still dialect form n (machine [] left rows steps written false) refl) ∙ same-run 0 (sym (add-zero rows)) (sym (add-zero steps)) (sym (append-nil written))
+goes-on dialect form (suc n) (state g [] e ∷ ss) left rows steps written =
+    go (leb (length (row form e)) left) (goes-on dialect form n ss (left - length (row form e)) (suc rows) (suc steps) (written ++ row form e))
   where
     k : Machine
     k = machine (state g [] e ∷ ss) left rows steps written false
 
-    go : (b : Bool) → told (times form n (writing k (row form e) ss)) ≡ on (suc rows) (suc steps) (written ++ row form e) (run form n ss (left - length (row form e)))
-        → told (times form n (elim b as (λ _. Machine) [ true ↦ writing k (row form e) ss | false ↦ filling k ss ]))
-        ≡ on rows steps written (elim b as (λ _. Run) [ true ↦ rowStep (row form e) (run form n ss (left - length (row form e))) | false ↦ stopped 8 1 ])
-    go true h = h ∙ on-row rows steps written (row form e) (run form n ss (left - length (row form e)))
-    go false h = ap told (still form n (filling k ss) refl) ∙ same-run 8 (sym (add-zero rows)) (omega arith) (sym (append-nil written))
-goes-on form (suc n) (state g (endOfNot ∷ older) e ∷ ss) left rows steps written =
-    goes-on form n (leaveNot ss) left rows (suc steps) written ∙ on-step rows steps written (run form n (leaveNot ss) left)
-goes-on form (suc n) (state g (atom p m v ∷ older) e ∷ ss) left rows steps written =
-    goes-on form n (after p m v older e ++ ss) left rows (suc steps) written ∙ on-step rows steps written (run form n (after p m v older e ++ ss) left)
+    go : (b : Bool) → told (times dialect form n (writing k (row form e) ss)) ≡ on (suc rows) (suc steps) (written ++ row form e) (runIn dialect form n ss (left - length (row form e)))
+        → told (times dialect form n (elim b as (λ _. Machine) [ true ↦ writing k (row form e) ss | false ↦ filling k ss ]))
+        ≡ on rows steps written (elim b as (λ _. Run) [ true ↦ rowStep (row form e) (runIn dialect form n ss (left - length (row form e))) | false ↦ stopped 8 1 ])
+    go true h = h ∙ on-row rows steps written (row form e) (runIn dialect form n ss (left - length (row form e)))
+    go false h = ap told (still dialect form n (filling k ss) refl) ∙ same-run 8 (sym (add-zero rows)) (omega arith) (sym (append-nil written))
+goes-on dialect form (suc n) (state g (endOfNot ∷ older) e ∷ ss) left rows steps written =
+    goes-on dialect form n (leaveNot ss) left rows (suc steps) written ∙ on-step rows steps written (runIn dialect form n (leaveNot ss) left)
+goes-on dialect form (suc n) (state g (atom p m v ∷ older) e ∷ ss) left rows steps written =
+    goes-on dialect form n (afterIn dialect p m v older e ++ ss) left rows (suc steps) written ∙ on-step rows steps written (runIn dialect form n (afterIn dialect p m v older e ++ ss) left)
 
 -- The whole run, by steps; and in portions.
-pub run-steps : (form : Form) (n : ℕ) (s : State) (room : ℕ) → told (times form n (opened s room)) ≡ run form n (s ∷ []) room
+pub run-steps : (dialect : Dialect) (form : Form) (n : ℕ) (s : State) (room : ℕ) → told (times dialect form n (opened s room)) ≡ runIn dialect form n (s ∷ []) room
 unfolding machine on opened
-run-steps form n s room = goes-on form n (s ∷ []) room 0 0 [] ∙ same-run ((run form n (s ∷ []) room) .answer) (zero-add _) (zero-add _) refl
+run-steps dialect form n s room = goes-on dialect form n (s ∷ []) room 0 0 [] ∙ same-run ((runIn dialect form n (s ∷ []) room) .answer) (zero-add _) (zero-add _) refl
 
-pub portions : (form : Form) (a b : ℕ) (s : State) (room : ℕ) → told (times form b (times form a (opened s room))) ≡ run form (a + b) (s ∷ []) room
-portions form a b s room = ap told (sym (times-add form a b (opened s room))) ∙ run-steps form (a + b) s room
+pub portions : (dialect : Dialect) (form : Form) (a b : ℕ) (s : State) (room : ℕ) → told (times dialect form b (times dialect form a (opened s room))) ≡ runIn dialect form (a + b) (s ∷ []) room
+portions dialect form a b s room = ap told (sym (times-add dialect form a b (opened s room))) ∙ run-steps dialect form (a + b) s room

@@ -1,5 +1,5 @@
 -- The machine's operations on held values, as the code does them: choices are marks too. The choices left at a cons are places; at a join the next front.
-use Prim.Native.Nat.{ℕ, _+_, _-_, _≤_, _<_}
+use Prim.Native.Nat.{ℕ, _+_, _-_, _≤_, _<_, _^_}
 use mathlib.Core.Path.{_≡_}
 use mathlib.Core.Bool.{Bool}
 use mathlib.Core.Option.{Option, none, some}
@@ -13,17 +13,19 @@ use Rattle.rules.specs.Forms.{Matcher, something, integer, list, multiset, tupl
 use Rattle.rules.specs.Origins.{Origin, Valueᵒ, collectionᵒ, Valuesᵒ, plain}
 use Rattle.rules.specs.Equality.{equal}
 use Rattle.rules.specs.Search.{Halves}
+use Rattle.rules.specs.Dialects.{Dialect, everyPlace, firstPlaces}
 use Rattle.words.specs.Words.{tagAt}
 use Rattle.words.specs.Marks.{clear, positions, raise, Split, splits}
-use Rattle.value_places.specs.Places.{countAt, elementAt}
+use Rattle.value_places.specs.Places.{countAt, elementAt, valueAt, elements}
 use Rattle.value_places.specs.Held.{Held, wholeAt}
 use Rattle.value_places.specs.Origins.{nthᵒ, markedᵒ, originAt, elementsᵒ}
+use Rattle.value_firsts.specs.Firsts.{firstsOf}
 use Rattle.value_rows.specs.Row.{holds}
 use Rattle.value_equality.specs.Equality.{isSum}
 use Rattle.value_rows.specs.declared.Binding.{Binding}
 use Rattle.program_rules.specs.Points.{Kind, listCons, multisetCons, joins}
 use Rattle.search_machine.specs.Held.{Picked}
-use Rattle.search_atom.specs.Leaves.{when, opensOf, noneOf, longerOf}
+use Rattle.search_atom.specs.Leaves.{when, noneOf, longerOf}
 use Rattle.search_machine.specs.Fitting.{Fitting, Fine}
 
 abbrev pub binding : ℕ → ℕ → Binding
@@ -80,9 +82,22 @@ unfoldable pub opensBy : Bool → ℕ → Option ℕ
 unfolding when
 opensBy b c = when b none (some c)
 
-unfoldable pub opens : Kind → Binding → Option ℕ
-unfolding code opensBy noneOf opensOf
-opens k h = opensBy (noneOf (code k) (h .marks)) (opensOf (code k) (h .marks))
+-- The places that a cons under a multiset chooses from: in dialect 2 the first ones.
+unfoldable pub choicesBy : Dialect → List ℤ → Kind → Binding → ℕ
+unfolding firstsOf equal valueAt elements
+choicesBy everyPlace s k h = h .marks
+choicesBy firstPlaces s (listCons m) h = h .marks
+choicesBy firstPlaces s (multisetCons m) h = firstsOf (equal m) (elements (valueAt s (h .at))) (h .marks)
+choicesBy firstPlaces s (joins m) h = h .marks
+
+-- The choices that a frame is opened with; c: those of a cons under a multiset.
+unfoldable pub opensWith : (o m c : ℕ) → ℕ
+unfolding when
+opensWith o m c = when (eqb o 10) 0 (when (eqb o 8) (2 ^ trailingZeros 64 m) c)
+
+unfoldable pub opens : Dialect → List ℤ → Kind → Binding → Option ℕ
+unfolding code opensBy noneOf opensWith choicesBy
+opens dialect s k h = opensBy (noneOf (code k) (h .marks)) (opensWith (code k) (h .marks) (choicesBy dialect s k h))
 
 -- Place k is chosen of the choices c.
 unfoldable pub takePlace : List ℤ → Binding → ℕ → ℕ → Picked Binding ℕ

@@ -14,7 +14,7 @@ use Rattle.rules.specs.Forms.{Pattern, Patterns, noPatterns, _▸ᵖ_, countᵖ
 use Rattle.rules.specs.Fit.{members, isSomething}
 use Rattle.rules.specs.Reading.{entry}
 use Rattle.rules.specs.Equality.{raised, equalTo, isValue}
-use Rattle.rules.specs.Search.{Halves, Atom, State, state, dropIf, atoms, apart as takeApart, after, leaveNot, afterIn, consHalvesIn}
+use Rattle.rules.specs.Search.{Halves, Atom, State, state, dropIf, atoms, apart as takeApart, leaveNot, afterIn, consHalvesIn}
 use Rattle.program_rules.specs.Points.{Kind, over, firstBy, halves, branch, after-whole, Test, asConstant, asValue, asNil, testBy, passes, Sound, after-test}
 use Rattle.program_rules.specs.Points.{Instr, split, apart, Item, item, orElse, endOr, stop, Point, point, cutting, finish, enter, from, known, within, inside, firstOf, othersOf, items}
 use Rattle.program_rules.specs.Points.{resume, Follows, after-loose, strips, drops, binds, tests, splits, aparts, keeps, chooses, denies, cuts, ends}
@@ -225,10 +225,10 @@ module _ (D : Data) where
     -- The step, by the instruction.
     pub step-rep : (c : Conf D) (i : Instr) {P : Point} {s : State} (ss : List State) → code (c .pc) ≡ i → Follows points (c .pc) i P
         → c .top ≤ c .pc → At D (c .slots) (c .binds) (c .pc) (c .cur) P s → Chain D code points (c .slots) (c .binds) (c .top) (length (known P)) (inside P) ss
-        → Rep D code points (settle D code (exec D i c)) (resume s ss)
+        → Rep D code points (settle D code (exec D i c)) (resume (D .dialect) s ss)
     unfolding settle exec resume afterIn consHalvesIn members known inside within isSomething next keptHere kept framedHere framed without
     step-rep c i ss cd (strips {ms = ms} {p = p} {m = m} {ts = ts} h n pt) l (at {v = v} {older = older} {e = e} x ws bs) ch =
-        rw (after-loose h m v older e n) (live-at (point ms p something m ts) pt (omega arith) (at x (waits-agree D (omega arith) (λ i h. refl) ws) bs) ch)
+        rw (after-loose (D .dialect) h m v older e n) (live-at (point ms p something m ts) pt (omega arith) (at x (waits-agree D (omega arith) (λ i h. refl) ws) bs) ch)
     step-rep c i ss cd (drops {ms = ms} r pt) l (at x ws bs) ch = entered _ false (c .pc) ms pt (omega arith) (omega arith) ws bs ch refl
     step-rep c i ss cd (binds {ms = ms} {m = m} r pt) l (at x ws bs) ch =
         let same : (i : ℕ) → i < length ms → c .binds i ≡ put (c .binds) (length ms) (c .cur) i = λ i h. sym (put-below (c .binds) (length ms) (c .cur) i h) in
@@ -236,9 +236,9 @@ module _ (D : Data) where
         (bound-snoc (bound-agree D (omega arith) same bs) (rw (zero-add (length ms), put-same) x))
         (chain-agree D code points (omega (arith, length-append ms (m ∷ []))) (λ i h. refl) same ch) refl
     step-rep c i ss cd (tests {ms = ms} {to = to} t sound r pt) l (at {v = v} {older = older} {e = e} x ws bs) ch =
-        rw (after-test t v older e, ← check-ok t sound x bs) (tested-rep c (check D t (c .binds) (c .cur)) to ms r pt l ws bs ch)
+        rw (after-test (D .dialect) t v older e, ← check-ok t sound x bs) (tested-rep c (check D t (c .binds) (c .cur)) to ms r pt l ws bs ch)
     step-rep c i ss cd (splits k p q pt) l (at {v = v} {older = older} {e = e} x ws bs) ch =
-        rw (after-whole k p q v older e) (opened-rep c k p q (D .opens k (c .cur)) (halves k v) cd pt l (D .opens-ok k (c .cur) v x) ws bs ch)
+        rw (after-whole (D .dialect) k p q v older e) (opened-rep c k p q (D .opens k (c .cur)) (halves (D .dialect) k v) cd pt l (D .opens-ok k (c .cur) v x) ws bs ch)
     step-rep c i ss cd (aparts p q ps m k ks n t pt) l (at {v = v} x ws bs) ch = apart-rep c p q ps m k ks n pt l ws bs ch v x
     step-rep c i ss cd (keeps {ms = ms} {m = m} {ts = ts} p q pt) l (at x ws bs) ch =
         live-at (point ms p m m (item q m (c .pc) ∷ ts)) pt (omega arith)

@@ -14,7 +14,7 @@ use Rattle.rules.specs.Forms.{Matcher, Pattern, Value}
 use Rattle.rules.specs.Reading.{ok}
 use Rattle.rules.specs.Fit.{fits}
 use Rattle.rules.specs.Origins.{target}
-use Rattle.rules.specs.Search.{State, run, start}
+use Rattle.rules.specs.Search.{State, runIn, start}
 use Rattle.forms.specs.Written.{Widthsᵖ}
 use Rattle.program_rules.specs.Closed.{Closed}
 use Rattle.search_machine.specs.Machine.{opened}
@@ -41,7 +41,7 @@ module _ (D : Data) (m : Matcher) (p : Pattern) (v : Value) (h : D .Held) (is : 
   fresh-same slots binds room = running (live {c = record { pc = 0; cur = h; top = 0; slots = slots; binds = binds }} (omega arith) (at is waits-none bound-none) shut)
 
   pub machine-runs : (slots : ℕ → Slot D) (binds : ℕ → D .Held) (budget room : ℕ)
-      → reports D (turns D (program m p) budget (fresh D h slots binds room)) ≡ run (D .form) budget (start m p v ∷ []) room
+      → reports D (turns D (program m p) budget (fresh D h slots binds room)) ≡ runIn (D .dialect) (D .form) budget (start m p v ∷ []) room
   machine-runs slots binds budget room =
       engine-runs D (program m p) (pointAt m p) (program-follows m p at₀ ks fit wide closed) budget (start m p v) room (fresh D h slots binds room) (fresh-same slots binds room)
 
@@ -53,7 +53,7 @@ turns-add D code (suc a) b k = rw (suc-add a b) (turns-add D code a b (turn D co
 
 module _ (D : Data) (m : Matcher) (p : Pattern) (v : Value) (h : D .Held) (is : D .Is m h (target v)) (at₀ : ℕ) (ks : List Matcher) (fit : fits p m at₀ [] ≡ ok ks) (wide : Widthsᵖ p) (closed : Closed p) where
   pub machine-portions : (slots : ℕ → Slot D) (binds : ℕ → D .Held) (a b room : ℕ)
-      → reports D (turns D (program m p) b (turns D (program m p) a (fresh D h slots binds room))) ≡ run (D .form) (a + b) (start m p v ∷ []) room
+      → reports D (turns D (program m p) b (turns D (program m p) a (fresh D h slots binds room))) ≡ runIn (D .dialect) (D .form) (a + b) (start m p v ∷ []) room
   machine-portions slots binds a b room =
       ap (reports D) (sym (turns-add D (program m p) a b (fresh D h slots binds room))) ∙ machine-runs D m p v h is at₀ ks fit wide closed slots binds (a + b) room
 

@@ -8,7 +8,6 @@ use mathlib.Core.Bool.{Bool, true, false}
 use mathlib.Core.List.{List, [], _∷_}
 use lib.ListN.{length, getD, take}
 use lib.IntN.{ℤ}
-use Rattle.rules.specs.Dialects.{everyPlace}
 use Rattle.rules.specs.Search as paper
 use Rattle.rules.specs.Search.{stopped}
 use Rattle.round_rules.specs.Rounds.{Branch, takeUp}
@@ -125,7 +124,7 @@ module _ (e : Env) (R : Ruled e) (used : ℕ) (U : Used e R used) (ws : List ℤ
           }
 
   module _ (budget : ℕ) (room₀ : List ℤ) (words : x .words ≤ length room₀) (counts : x .rows ≤ x .steps) (m : x .steps < budget) (F : paper.Run) (next : Next e R) (base : List ℤ)
-      (k : whole.Kept base (run x (viewOf (e .arg) slots₀) b₀ room₀)) (far : Far F x room₀ (takeUp everyPlace (e .form) (budget - suc (x .steps)) (br .first) (length room₀ - x .words) next))
+      (k : whole.Kept base (run x (viewOf (e .arg) slots₀) b₀ room₀)) (far : Far F x room₀ (takeUp (e .dialect) (e .form) (budget - suc (x .steps)) (br .first) (length room₀ - x .words) next))
       (x′ : State) (slots′ : List ℕ) (b′ : List Binding) (room′ : List ℤ)
       (q : run x′ (viewOf (e .arg) slots′) b′ room′ ≡ runOf e 1 (run (aloneIn ws r x) (viewOf (e .arg) slots₁) b room₀)) where
     alone-outcome : (getD (e .op) (aloneIn ws r x .pc) 0 ≡ 16 → ⊥) → Outcome e R F budget next base false x′ slots′ b′ room′
@@ -162,11 +161,11 @@ module _ {e : Env} {used : ℕ} {ws : List ℤ} {r budget : ℕ} {x : State} {sl
         let next : Next e (P .ruled) = λ i ss free. stopped 0 0 in
         record {
           ruled = P .ruled;
-          run = on (x .rows) (x .steps) (take (x .words) room₀) (takeUp everyPlace (e .form) (budget - suc (x .steps)) (P .br .first) (length room₀ - x .words) next);
+          run = on (x .rows) (x .steps) (take (x .words) room₀) (takeUp (e .dialect) (e .form) (budget - suc (x .steps)) (P .br .first) (length room₀ - x .words) next);
           next = next;
           base = room₀;
           going = alone-going e (P .ruled) used (P .uses) ws r x (P .br) (P .kept) slots₀ slots₁ b₀ b (P .clean) T budget room₀ (P .words) (P .counts) (P .steps)
-              (on (x .rows) (x .steps) (take (x .words) room₀) (takeUp everyPlace (e .form) (budget - suc (x .steps)) (P .br .first) (length room₀ - x .words) next)) next room₀
+              (on (x .rows) (x .steps) (take (x .words) room₀) (takeUp (e .dialect) (e .form) (budget - suc (x .steps)) (P .br .first) (length room₀ - x .words) next)) next room₀
               (record { long = refl; after = refl }) refl x′ slots′ b′ room′ at-alone (ap (λ (v : State). getD (e .op) (v .pc) 0) (sym q) ∙ n);
         }
 

@@ -5,7 +5,6 @@ use mathlib.Core.Bool.{Bool}
 use mathlib.Core.List.{List}
 use lib.ListN.{length}
 use lib.IntN.{ℤ}
-use Rattle.rules.specs.Dialects.{everyPlace}
 use Rattle.rules.specs.Search as paper
 use Rattle.round_rules.specs.Rounds.{Branch, takeUp}
 use Rattle.tables.specs.Slot.{viewOf}
@@ -62,5 +61,5 @@ pub record Firsts (e : Env) (used : ℕ) (ws : List ℤ) (r budget : ℕ) (x : S
 unfoldable pub TookBy : (e : Env) (used : ℕ) → List ℤ → (r budget : ℕ) → State → List ℕ → List Binding → List ℤ → Bool → State → List ℕ → List Binding → List ℤ → Type 0
 TookBy e used ws r budget x₀ slots₀ b₀ room₀ spent x slots b room =
     (R : Ruled e) → Used e R used → (br : Branch) → Kept e R used (nth e R ws r) br → Clean e R slots₀ b₀ → (F : paper.Run) (next : Next e R) (base : List ℤ)
-    → whole.Kept base (run x₀ (viewOf (e .arg) slots₀) b₀ room₀) → Far F x₀ room₀ (takeUp everyPlace (e .form) (budget - suc (x₀ .steps)) (br .first) (length room₀ - x₀ .words) next)
+    → whole.Kept base (run x₀ (viewOf (e .arg) slots₀) b₀ room₀) → Far F x₀ room₀ (takeUp (e .dialect) (e .form) (budget - suc (x₀ .steps)) (br .first) (length room₀ - x₀ .words) next)
     → Outcome e R F budget next base spent x slots b room

@@ -18,8 +18,8 @@ ghost use lib.ListN.{length};
 ghost use Prim.Native.Nat.{_+_, _*_, _^_, _<_, _≤_};
 ghost use Rattle.tables.specs.Line.{columnsOf};
 ghost use Rattle.tables.specs.Slot.{viewOf};
-ghost use Rattle.value_rows.specs.Row.{formBy};
-ghost use Rattle.search.specs.Run.{envOf, run, runOf};
+ghost use Rattle.search.specs.Run.{run, runOf};
+ghost use Rattle.search.specs.Told.{envBy};
 ghost use Rattle.search.specs.Valid.{Given, Fine, Valid};
 ghost use Rattle.search_rounds.specs.Firsts.{aloneIn, Inside, LeftBy, Firsts, TookBy};
 
@@ -34,8 +34,7 @@ pub struct Taken {
 fn once(
     x: State,
     given: [Binding; 16],
-    n: usize,
-    origins: bool,
+    terms: Terms,
     mt: &[i32],
     s: &[i32],
     places: &Places,
@@ -43,28 +42,27 @@ fn once(
     slots: &mut Slots,
     room: &mut [i32],
 ) -> Progress
-    requires { ⌜ Given (now s) (now places) ⌝ ∗ ⌜ Fine (envOf (columnsOf (now lines)) (now mt) (now s) n (formBy origins)) ⌝ ∗ ⌜ Valid (envOf (columnsOf (now lines)) (now mt) (now s) n (formBy origins)) (run x (viewOf (columnsOf (now lines) .arg) (now slots)) given (now room)) ⌝ ∗ ⌜ x .steps + 1 < 2 ^ 64 ⌝ }
-    ensures { λ r. ⌜ run (r .state) (viewOf (columnsOf (now (lines .entry)) .arg) (now (slots .exit))) (r .binds) (now (room .exit)) ≡ runOf (envOf (columnsOf (now (lines .entry))) (now (mt .entry)) (now (s .entry)) n (formBy origins)) 1 (run x (viewOf (columnsOf (now (lines .entry)) .arg) (now (slots .entry))) given (now (room .entry))) ⌝ }
+    requires { ⌜ Given (now s) (now places) ⌝ ∗ ⌜ Fine (envBy (columnsOf (now lines)) (now mt) (now s) terms) ⌝ ∗ ⌜ Valid (envBy (columnsOf (now lines)) (now mt) (now s) terms) (run x (viewOf (columnsOf (now lines) .arg) (now slots)) given (now room)) ⌝ ∗ ⌜ x .steps + 1 < 2 ^ 64 ⌝ }
+    ensures { λ r. ⌜ run (r .state) (viewOf (columnsOf (now (lines .entry)) .arg) (now (slots .exit))) (r .binds) (now (room .exit)) ≡ runOf (envBy (columnsOf (now (lines .entry))) (now (mt .entry)) (now (s .entry)) terms) 1 (run x (viewOf (columnsOf (now (lines .entry)) .arg) (now (slots .entry))) given (now (room .entry))) ⌝ }
 {
-    let terms = Terms {
+    let one = Terms {
         budget: x.steps + 1,
-        vars: n,
-        origins: origins,
+        vars: terms.vars,
+        origins: terms.origins,
+        firsts: terms.firsts,
     };
     let from = Progress {
         state: x,
         binds: given,
     };
-    advance(from, terms, mt, s, places, lines, slots, room)
+    advance(from, one, mt, s, places, lines, slots, room)
 }
 
 // The search inside a not goes on while a frame is open.
 fn leave_not(
     first: State,
     given: [Binding; 16],
-    budget: u64,
-    n: usize,
-    origins: bool,
+    terms: Terms,
     mt: &[i32],
     s: &[i32],
     places: &Places,
@@ -72,8 +70,8 @@ fn leave_not(
     slots: &mut Slots,
     room: &mut [i32],
 ) -> Taken
-    requires { ⌜ Given (now s) (now places) ⌝ ∗ ⌜ Inside (envOf (columnsOf (now lines)) (now mt) (now s) n (formBy origins)) budget first (now slots) given (now room) ⌝ ∗ ⌜ budget < 2 ^ 63 ⌝ }
-    ensures { λ r. ⌜ LeftBy (envOf (columnsOf (now (lines .entry))) (now (mt .entry)) (now (s .entry)) n (formBy origins)) budget first (now (slots .entry)) given (now (room .entry)) (r .spent) (r .state) (now (slots .exit)) (r .binds) (now (room .exit)) ⌝ }
+    requires { ⌜ Given (now s) (now places) ⌝ ∗ ⌜ Inside (envBy (columnsOf (now lines)) (now mt) (now s) terms) (terms .budget) first (now slots) given (now room) ⌝ ∗ ⌜ terms .budget < 2 ^ 63 ⌝ }
+    ensures { λ r. ⌜ LeftBy (envBy (columnsOf (now (lines .entry))) (now (mt .entry)) (now (s .entry)) terms) (terms .budget) first (now (slots .entry)) given (now (room .entry)) (r .spent) (r .state) (now (slots .exit)) (r .binds) (now (room .exit)) ⌝ }
 {
     let mut x = first;
     let mut b = given;
@@ -85,14 +83,14 @@ fn leave_not(
                 spent: false,
             };
         }
-        if budget <= x.steps {
+        if terms.budget <= x.steps {
             return Taken {
                 state: x,
                 binds: b,
                 spent: true,
             };
         }
-        let f = once(x, b, n, origins, mt, s, places, lines, slots, room);
+        let f = once(x, b, terms, mt, s, places, lines, slots, room);
         let c = f.binds;
         x = f.state;
         b = c;
@@ -129,10 +127,8 @@ pub fn take_first(
     x: State,
     given: [Binding; 16],
     r: usize,
-    budget: u64,
-    n: usize,
+    terms: Terms,
     used: usize,
-    origins: bool,
     mt: &[i32],
     s: &[i32],
     places: &Places,
@@ -141,17 +137,17 @@ pub fn take_first(
     table: &[i32],
     room: &mut [i32],
 ) -> Taken
-    requires { ⌜ Given (now s) (now places) ⌝ ∗ ⌜ Firsts (envOf (columnsOf (now lines)) (now mt) (now s) n (formBy origins)) used (now table) r budget x (now slots) given (now room) ⌝ ∗ ⌜ budget < 2 ^ 63 ⌝ }
-    ensures { λ t. ⌜ TookBy (envOf (columnsOf (now (lines .entry))) (now (mt .entry)) (now (s .entry)) n (formBy origins)) used (now (table .entry)) r budget x (now (slots .entry)) given (now (room .entry)) (t .spent) (t .state) (now (slots .exit)) (t .binds) (now (room .exit)) ⌝ }
+    requires { ⌜ Given (now s) (now places) ⌝ ∗ ⌜ Firsts (envBy (columnsOf (now lines)) (now mt) (now s) terms) used (now table) r (terms .budget) x (now slots) given (now room) ⌝ ∗ ⌜ terms .budget < 2 ^ 63 ⌝ }
+    ensures { λ t. ⌜ TookBy (envBy (columnsOf (now (lines .entry))) (now (mt .entry)) (now (s .entry)) terms) used (now (table .entry)) r (terms .budget) x (now (slots .entry)) given (now (room .entry)) (t .spent) (t .state) (now (slots .exit)) (t .binds) (now (room .exit)) ⌝ }
 {
-    let b = take_out(table, r, n, used, given, slots);
+    let b = take_out(table, r, terms.vars, used, given, slots);
     let y = alone_of(x, r, table);
     let o = op_at(lines, y.pc);
-    let f = once(y, b, n, origins, mt, s, places, lines, slots, room);
+    let f = once(y, b, terms, mt, s, places, lines, slots, room);
     let z = f.state;
     let c = f.binds;
     if o == NOT {
-        return leave_not(z, c, budget, n, origins, mt, s, places, lines, slots, room);
+        return leave_not(z, c, terms, mt, s, places, lines, slots, room);
     }
     Taken {
         state: z,

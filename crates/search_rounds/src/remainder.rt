@@ -4,6 +4,7 @@ use round_lists::taking::reopen;
 use round_lists::taking::take_out;
 use round_table::ENTRIES;
 use round_table::entry_at;
+use search::Terms;
 use search_choice::settle;
 use search_step::CHOOSES;
 use search_step::State;
@@ -15,8 +16,7 @@ ghost use mathlib.Core.Path.{_≡_};
 ghost use lib.ListN.{length};
 ghost use Prim.Native.Nat.{_+_, _*_, _<_, _≤_};
 ghost use Rattle.tables.specs.Line.{columnsOf};
-ghost use Rattle.value_rows.specs.Row.{formBy};
-ghost use Rattle.search.specs.Run.{envOf};
+ghost use Rattle.search.specs.Told.{envBy};
 ghost use Rattle.search.specs.Valid.{Given};
 ghost use Rattle.search_rounds.specs.Remaining.{Listed, headIn, Remained};
 
@@ -47,9 +47,8 @@ pub fn remain(
     given: [Binding; 16],
     r: usize,
     to: usize,
-    n: usize,
+    terms: Terms,
     used: usize,
-    origins: bool,
     mt: &[i32],
     s: &[i32],
     places: &Places,
@@ -57,9 +56,10 @@ pub fn remain(
     slots: &mut Slots,
     table: &mut [i32],
 ) -> [Binding; 16]
-    requires { ⌜ Given (now s) (now places) ⌝ ∗ ⌜ Listed (envOf (columnsOf (now lines)) (now mt) (now s) n (formBy origins)) used (now table) r to x (now slots) given ⌝ }
-    ensures { λ b. ⌜ Remained (envOf (columnsOf (now (lines .entry))) (now (mt .entry)) (now (s .entry)) n (formBy origins)) used (now (table .entry)) (now (table .exit)) r to (now (slots .entry)) (now (slots .exit)) given b ⌝ }
+    requires { ⌜ Given (now s) (now places) ⌝ ∗ ⌜ Listed (envBy (columnsOf (now lines)) (now mt) (now s) terms) used (now table) r to x (now slots) given ⌝ }
+    ensures { λ b. ⌜ Remained (envBy (columnsOf (now (lines .entry))) (now (mt .entry)) (now (s .entry)) terms) used (now (table .entry)) (now (table .exit)) r to (now (slots .entry)) (now (slots .exit)) given b ⌝ }
 {
+    let n = terms.vars;
     let b = take_out(table, r, n, used, given, slots);
     let y = head_of(x, r, table);
     reopen(table, r, y.top - 1, lines, slots);

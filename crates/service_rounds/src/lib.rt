@@ -3,18 +3,20 @@ use program::compile;
 use round_run::search_rounds;
 use search::Terms;
 use services::matching::Matched;
+use services::matching::UNKNOWN_DIALECT;
 use tables::line::no_lines;
 use tests::Judgement;
 use tests::TargetJudgement;
-use tests::rule_refused;
+use tests::rule_refused_in;
 use tests::target_refused;
 use words::casts::wide;
 ghost use mathlib.Core.Path.{_≡_};
 ghost use lib.ListN.{length};
-ghost use Rattle.rules.specs.Dialects.{everyPlace};
 ghost use Rattle.round_rules.specs.Rounds.{statesIn, matchRounds, matchRoundsPicked};
+ghost use Rattle.words.specs.Dialects.{dialectBy};
 ghost use Rattle.value_rows.specs.Row.{formBy};
-ghost use Rattle.services.specs.Matches.{Ready, told, away};
+ghost use Rattle.services.specs.Matches.{Admitted, told, away};
+ghost use Rattle.service_rounds.specs.Dialects.{roundsDialect};
 
 // The answer to a row form that there is not.
 const UNKNOWN_FORM: u32 = 20;
@@ -33,8 +35,9 @@ fn turned_away(answer: u32, place: usize, cause: u32) -> Matched
     }
 }
 
-// The run of a rule and a target that were accepted.
+// The run of a rule and a target that were accepted in a dialect; `firsts`: dialect 2.
 fn carry_out(
+    firsts: bool,
     origins: bool,
     matcher: &[i32],
     pattern: &[i32],
@@ -43,8 +46,8 @@ fn carry_out(
     table: &mut [i32],
     room: &mut [i32],
 ) -> Matched
-    requires { ⌜ Ready (now matcher) (now pattern) (now target) ⌝ }
-    ensures { λ r. ⌜ told r (now (room .exit)) ≡ matchRounds everyPlace (formBy origins) (now (matcher .entry)) (now (pattern .entry)) (now (target .entry)) (statesIn 825 (length (now (table .entry)))) budget (now (room .entry)) ⌝ }
+    requires { ⌜ Admitted (dialectBy firsts) (now matcher) (now pattern) (now target) ⌝ }
+    ensures { λ r. ⌜ told r (now (room .exit)) ≡ matchRounds (dialectBy firsts) (formBy origins) (now (matcher .entry)) (now (pattern .entry)) (now (target .entry)) (statesIn 825 (length (now (table .entry)))) budget (now (room .entry)) ⌝ }
 {
     let mut lines = no_lines();
     let n = compile(matcher, pattern, &mut lines);
@@ -52,6 +55,7 @@ fn carry_out(
         budget: wide(budget),
         vars: n,
         origins: origins,
+        firsts: firsts,
     };
     let r = search_rounds(terms, matcher, target, &lines, table, room);
     Matched {
@@ -64,8 +68,9 @@ fn carry_out(
     }
 }
 
-// With its rows in one of the two forms: the tests 1 to 6, then the run.
+// In a dialect, with its rows in one of the two forms: the tests 1 to 6, then the run.
 fn rounds_in(
+    firsts: bool,
     origins: bool,
     matcher: &[i32],
     pattern: &[i32],
@@ -74,20 +79,30 @@ fn rounds_in(
     table: &mut [i32],
     room: &mut [i32],
 ) -> Matched
-    ensures { λ r. ⌜ told r (now (room .exit)) ≡ matchRounds everyPlace (formBy origins) (now (matcher .entry)) (now (pattern .entry)) (now (target .entry)) (statesIn 825 (length (now (table .entry)))) budget (now (room .entry)) ⌝ }
+    ensures { λ r. ⌜ told r (now (room .exit)) ≡ matchRounds (dialectBy firsts) (formBy origins) (now (matcher .entry)) (now (pattern .entry)) (now (target .entry)) (statesIn 825 (length (now (table .entry)))) budget (now (room .entry)) ⌝ }
 {
-    if let Judgement::Refused(a, i) = rule_refused(matcher, pattern) {
+    if let Judgement::Refused(a, i) = rule_refused_in(firsts, matcher, pattern) {
         return turned_away(a, i, 0);
     }
     if let TargetJudgement::Refused(a, i, c) = target_refused(matcher, target) {
         return turned_away(a, i, c);
     }
-    carry_out(origins, matcher, pattern, target, budget, table, room)
+    carry_out(
+        firsts,
+        origins,
+        matcher,
+        pattern,
+        target,
+        budget,
+        table,
+        room,
+    )
 }
 
-// Match by rounds, for every input, in the form that the caller picks; one that is unknown is 20, before any other look.
-pub fn match_rounds(
-    form: u32,
+// Match by rounds in one of the two forms and in the dialect that the caller picks; one that is unknown is 22, before any other look.
+fn rounds_dialect(
+    origins: bool,
+    dialect: u32,
     matcher: &[i32],
     pattern: &[i32],
     target: &[i32],
@@ -95,13 +110,54 @@ pub fn match_rounds(
     table: &mut [i32],
     room: &mut [i32],
 ) -> Matched
-    ensures { λ r. ⌜ told r (now (room .exit)) ≡ matchRoundsPicked form 1 (now (matcher .entry)) (now (pattern .entry)) (now (target .entry)) (statesIn 825 (length (now (table .entry)))) budget (now (room .entry)) ⌝ }
+    ensures { λ r. ⌜ told r (now (room .exit)) ≡ roundsDialect (formBy origins) dialect (now (matcher .entry)) (now (pattern .entry)) (now (target .entry)) (statesIn 825 (length (now (table .entry)))) budget (now (room .entry)) ⌝ }
+{
+    if dialect == 1 {
+        return rounds_in(
+            false,
+            origins,
+            matcher,
+            pattern,
+            target,
+            budget,
+            table,
+            room,
+        );
+    }
+    if dialect == 2 {
+        return rounds_in(true, origins, matcher, pattern, target, budget, table, room);
+    }
+    turned_away(UNKNOWN_DIALECT, 0, 0)
+}
+
+// Match by rounds, for every input, in the form and the dialect that the caller picks; an unknown form is 20, before any other look, and an unknown dialect
+// 22, before all but that.
+pub fn match_rounds(
+    form: u32,
+    dialect: u32,
+    matcher: &[i32],
+    pattern: &[i32],
+    target: &[i32],
+    budget: u32,
+    table: &mut [i32],
+    room: &mut [i32],
+) -> Matched
+    ensures { λ r. ⌜ told r (now (room .exit)) ≡ matchRoundsPicked form dialect (now (matcher .entry)) (now (pattern .entry)) (now (target .entry)) (statesIn 825 (length (now (table .entry)))) budget (now (room .entry)) ⌝ }
 {
     if form == 1 {
-        return rounds_in(false, matcher, pattern, target, budget, table, room);
+        return rounds_dialect(
+            false,
+            dialect,
+            matcher,
+            pattern,
+            target,
+            budget,
+            table,
+            room,
+        );
     }
     if form == 2 {
-        return rounds_in(true, matcher, pattern, target, budget, table, room);
+        return rounds_dialect(true, dialect, matcher, pattern, target, budget, table, room);
     }
     turned_away(UNKNOWN_FORM, 0, 0)
 }

@@ -11,32 +11,31 @@ use lib.IntN.{ℤ}
 use borrow.Author.Needs.{needs}
 use borrow.Author.Tests.{eq-eqb, ne-eqb, leb-true, le-leb}
 use Rattle.rules.specs.Forms.{Value}
-use Rattle.rules.specs.Rows.{Form}
-use Rattle.rules.specs.Services.{Judged, accepted, test, Rule, ruleOf, targetOf}
-use Rattle.forms.specs.Faults.{rule-accepted}
+use Rattle.rules.specs.Dialects.{Dialect}
+use Rattle.rules.specs.Services.{Judged, accepted, test, Rule, ruleIn, targetOf}
+use Rattle.forms.specs.Also.{rule-also}
 use Rattle.tests.specs.Judgements.{judgement, targetJudgement, targetUnder}
 use Rattle.tests.specs.declared.Judgement.{Judgement}
 use Rattle.tests.specs.declared.Judgement.the-variants.{Accepted, Refused}
 use Rattle.tests.specs.declared.TargetJudgement.{TargetJudgement}
 use Rattle.tests.specs.declared.TargetJudgement.the-variants as targets
-use Rattle.run_rules.specs.Lent.{Numbers, Held, ended, Lent, told as tells, heldAfter, roomAfter, Advanced, goOn, unlike as unlikes, advanced}
+use Rattle.run_rules.specs.Lent.{Terms, Numbers, Held, ended, Lent, told as tells, heldAfter, roomAfter, Advanced, goOn, unlike as unlikes, advanced}
 use Rattle.run_rules.specs.Calls.{like, other}
-use Rattle.value_rows.specs.Row.{formBy}
 use Rattle.value_rows.specs.declared.Binding.{Binding}
 use Rattle.search_step.specs.declared.State.{State}
 use Rattle.search_atom.specs.Leaves.{when}
 use Rattle.search.specs.Run.{answerOf}
 use Rattle.search.specs.Told.{reported}
 use Rattle.search.specs.declared.Report.{Report}
-use Rattle.services.specs.Matches.{Ready}
-use Rattle.services.proofs.Matches.{rule-whole, both-ready}
+use Rattle.services.specs.Matches.{Admitted}
+use Rattle.services.proofs.Matches.{under, rule-whole, both-admitted}
 use Rattle.run_sound.specs.Tested.{Decides}
 use Rattle.run_sound.proofs.Tests.{refuted, upheld, never, always}
 use Rattle.run_states.specs.Standing.{numbersOf}
 use Rattle.service_runs.specs.Going.{Carries}
 use Rattle.service_runs.proofs.Steady.{still-stays}
-use Rattle.service_runs.specs.Kept.{told, unlikeNumbers, Goes, Over, Lengths, Standing, went-told, went-room, went-held, standing-valid, standing-over, refusalIn}
-use Rattle.service_runs.specs.Kept.{Refusal, unknown, tested, Kept, refused, stands, Tabled, is-done, is-refusal, is-budget, is-full, is-unlike, Refuses, changed, Advances}
+use Rattle.service_runs.specs.Kept.{told, unlikeNumbers, Goes, Over, Lengths, Standing, went-told, went-room, went-held, standing-valid, standing-over, refusalIn, termsIn}
+use Rattle.service_runs.specs.Kept.{Refusal, unknown, unknown-dialect, tested, Kept, refused, stands, Tabled, is-done, is-refusal, is-budget, is-full, is-unlike, Refuses, changed, Advances}
 use Rattle.service_runs.specs.declared.run.Run as struct
 use Rattle.service_runs.specs.declared.run.Told as report
 use Rattle.service_runs.specs.declared.run.Out as out
@@ -52,39 +51,36 @@ pub ruleset tell-rules = (tell-numbers, needs)
 
 -- ---- Whether words are accepted.
 
-under : (ms ps ts : List ℤ) (r : Rule) → ruleOf ms ps ≡ accepted r → targetUnder ms ts ≡ targetOf (r .matcher) ts
-unfolding targetUnder test
-under ms ps ts r e = let m = rule-accepted ms ps r .0 e .matcher in rw m
-
-module _ (ms ps ts : List ℤ) (x : Judgement) (p : x ≡ judgement (ruleOf ms ps)) where
-  pub ready-rule : (a i : ℕ) → x ≡ Refused a i → Decides false (Ready ms ps ts)
+module _ (dialect : Dialect) (ms ps ts : List ℤ) (x : Judgement) (p : x ≡ judgement (ruleIn dialect ms ps)) where
+  pub ready-rule : (a i : ℕ) → x ≡ Refused a i → Decides false (Admitted dialect ms ps ts)
   unfolding judgement
-  ready-rule a i q = never (λ g. let r : judgement (ruleOf ms ps) ≡ Accepted = ap judgement (g .rule-is) in let z : _≡_ {A = ℕ} 0 1 = cc in absurd (omega arith))
+  ready-rule a i q = never (λ g. let r : judgement (ruleIn dialect ms ps) ≡ Accepted = ap judgement (g .rule-in) in let z : _≡_ {A = ℕ} 0 1 = cc in absurd (omega arith))
 
   module _ (y : TargetJudgement) (k : y ≡ targetJudgement ts (targetUnder ms ts)) where
-    pub ready-target-not : (a i c : ℕ) → y ≡ targets.Refused a i c → Decides false (Ready ms ps ts)
+    pub ready-target-not : (a i c : ℕ) → y ≡ targets.Refused a i c → Decides false (Admitted dialect ms ps ts)
     unfolding targetJudgement
     ready-target-not a i c q = never (λ g.
-        let r : targetJudgement ts (targetUnder ms ts) ≡ targets.Accepted = ap (targetJudgement ts) (under ms ps ts (g .rule) (g .rule-is) ∙ g .value-is) in
+        let r : targetJudgement ts (targetUnder ms ts) ≡ targets.Accepted = ap (targetJudgement ts) (under ms ps ts (g .ready .rule) (g .ready .rule-is) ∙ g .ready .value-is) in
         let z : _≡_ {A = ℕ} 0 1 = cc in absurd (omega arith))
 
-    pub ready-both : x ≡ Accepted → y ≡ targets.Accepted → Decides true (Ready ms ps ts)
-    ready-both q l = always (both-ready ms ps ts x y p q k l)
+    pub ready-both : x ≡ Accepted → y ≡ targets.Accepted → Decides true (Admitted dialect ms ps ts)
+    ready-both q l = always (both-admitted dialect ms ps ts x y p q k l)
 
 pub ruleset ready-rules = (rule-whole, ready-rule, ready-target-not, ready-both, needs)
 
 -- ---- Over words.
 
-pub goes-not : (form : Form) (ms ps ts : List ℤ) (n : ℕ) (x : State) (slots : List ℕ) (b : List Binding) (room : List ℤ) (r : Bool) → Decides r (Ready ms ps ts) → not r ≡ true
-    → Goes form ms ps ts n x slots b room false x slots b room
-goes-not form ms ps ts n x slots b room r d h = record { goes = λ g. absurd (refuted r h (d .whole g)); still = still-stays slots room }
+module _ (terms : Terms) (ms ps ts : List ℤ) where
+  pub goes-not : (n : ℕ) (x : State) (slots : List ℕ) (b : List Binding) (room : List ℤ) (r : Bool) → Decides r (Admitted (terms .dialect) ms ps ts) → not r ≡ true
+      → Goes terms ms ps ts n x slots b room false x slots b room
+  goes-not n x slots b room r d h = record { goes = λ g. absurd (refuted r h (d .whole g)); still = still-stays slots room }
 
-pub goes-ready : (ms ps ts : List ℤ) (r : Bool) → Decides r (Ready ms ps ts) → not r ≡ false → Ready ms ps ts
-goes-ready ms ps ts r d h = d .sound (upheld r h)
+  pub goes-carried : (n : ℕ) (x x′ : State) (slots slots′ : List ℕ) (b b′ : List Binding) (room room′ : List ℤ) (sound : Bool)
+      → Carries terms ms ps ts n x slots b room sound x′ slots′ b′ room′ → Goes terms ms ps ts n x slots b room sound x′ slots′ b′ room′
+  goes-carried n x x′ slots slots′ b b′ room room′ sound c = record { goes = λ g. c; still = c .still }
 
-pub goes-carried : (form : Form) (ms ps ts : List ℤ) (n : ℕ) (x x′ : State) (slots slots′ : List ℕ) (b b′ : List Binding) (room room′ : List ℤ) (sound : Bool)
-    → Carries form ms ps ts n x slots b room sound x′ slots′ b′ room′ → Goes form ms ps ts n x slots b room sound x′ slots′ b′ room′
-goes-carried form ms ps ts n x x′ slots slots′ b b′ room room′ sound c = record { goes = λ g. c; still = c .still }
+pub goes-ready : (dialect : Dialect) (ms ps ts : List ℤ) (r : Bool) → Decides r (Admitted dialect ms ps ts) → not r ≡ false → Admitted dialect ms ps ts
+goes-ready dialect ms ps ts r d h = d .sound (upheld r h)
 
 pub ruleset goes-rules = (goes-not, goes-ready, goes-carried, needs)
 
@@ -112,13 +108,13 @@ module _ (m p t : ℕ) where
 
 pub ruleset length-rules = (length-matcher, length-pattern, length-target, needs)
 
-module _ (form : Form) (matchers : List ℤ) (m : ℕ) (patterns : List ℤ) (p : ℕ) (targets : List ℤ) (t n : ℕ) (x : State) (slots : List ℕ) (b : List Binding) (room : List ℤ) where
-  pub over-not : (y : Bool) → Decides y (Lengths m p t) → not y ≡ true → Over form matchers m patterns p targets t n x slots b room false x slots b room
+module _ (terms : Terms) (matchers : List ℤ) (m : ℕ) (patterns : List ℤ) (p : ℕ) (targets : List ℤ) (t n : ℕ) (x : State) (slots : List ℕ) (b : List Binding) (room : List ℤ) where
+  pub over-not : (y : Bool) → Decides y (Lengths m p t) → not y ≡ true → Over terms matchers m patterns p targets t n x slots b room false x slots b room
   over-not y d u = record { goes = λ k. absurd (refuted y u (d .whole k)); still = still-stays slots room }
 
   pub over-goes : (sound : Bool) (x′ : State) (slots′ : List ℕ) (b′ : List Binding) (room′ : List ℤ)
-      → Goes form (take m matchers) (take p patterns) (take t targets) n x slots b room sound x′ slots′ b′ room′
-      → Over form matchers m patterns p targets t n x slots b room sound x′ slots′ b′ room′
+      → Goes terms (take m matchers) (take p patterns) (take t targets) n x slots b room sound x′ slots′ b′ room′
+      → Over terms matchers m patterns p targets t n x slots b room sound x′ slots′ b′ room′
   over-goes sound x′ slots′ b′ room′ g = record { goes = λ k. g; still = g .still }
 
 pub ruleset over-rules = (matcher-kept, pattern-kept, target-kept, over-not, over-goes, needs)
@@ -127,27 +123,33 @@ pub ruleset over-rules = (matcher-kept, pattern-kept, target-kept, over-not, ove
 
 refusal-zero : (a : ℕ) → Refusal a → a ≡ 0 → ⊥
 refusal-zero a (unknown h) e = omega arith
+refusal-zero a (unknown-dialect h) e = omega arith
 refusal-zero a (tested h k) e = omega arith
 
 refusal-not : (a : ℕ) → Refusal a → a ≡ 19 → ⊥
 refusal-not a (unknown h) e = omega arith
+refusal-not a (unknown-dialect h) e = omega arith
 refusal-not a (tested h k) e = omega arith
 
 module _ (a : ℕ) where
   pub refusal-unknown : a ≡ 20 → Decides true (Refusal a)
   refusal-unknown h = always (unknown h)
 
+  pub refusal-unknown-dialect : a ≡ 22 → Decides true (Refusal a)
+  refusal-unknown-dialect h = always (unknown-dialect h)
+
   pub refusal-none : a ≡ 0 → Decides false (Refusal a)
   refusal-none h = never (λ r. refusal-zero a r h)
 
-  pub refusal-tested : (a ≡ 20 → ⊥) → (a ≡ 0 → ⊥) → Decides (leb a 6) (Refusal a)
-  refusal-tested f g = record { sound = λ e. let h = leb-true a 6 e in tested (omega arith) h; whole = go }
+  pub refusal-tested : (a ≡ 20 → ⊥) → (a ≡ 22 → ⊥) → (a ≡ 0 → ⊥) → Decides (leb a 6) (Refusal a)
+  refusal-tested f k g = record { sound = λ e. let h = leb-true a 6 e in tested (omega arith) h; whole = go }
     where
       go : Refusal a → leb a 6 ≡ true
       go (unknown h) = absurd (f h)
-      go (tested h k) = le-leb a 6 k
+      go (unknown-dialect h) = absurd (k h)
+      go (tested h l) = le-leb a 6 l
 
-pub ruleset refusal-rules = (refusal-unknown, refusal-none, refusal-tested, needs)
+pub ruleset refusal-rules = (refusal-unknown, refusal-unknown-dialect, refusal-none, refusal-tested, needs)
 
 module _ (a i c : ℕ) (y : Bool) (d : Decides y (Refusal a)) where
   pub refused-not : not y ≡ true → (t : report.Told) → told t ≡ unlikeNumbers → Refuses a i c t
@@ -242,10 +244,10 @@ module _ (r : struct.Run) (n : ℕ) (room : List ℤ) (t : report.Told) where
           → (told (same .told) ≡ advanced n room l .numbers) × (room ≡ advanced n room l .room) × Kept (same .run) (advanced n room l .run)
       go l w (refused y q) = absurd (refusal-zero (r .answer) y a)
       go l w (stands y k g h q c) = again (numbersOf (r .state)) l e
-          (q ∙ ap {B = Lent} (λ i. record { size = r .size; held = i }) (standing-over _ _ _ _ g (r .size) (r .state) (r .slots) (r .binds) h f c)) s w
+          (q ∙ ap {B = Lent} (λ i. record { size = r .size; held = i }) (standing-over _ _ _ _ (g .ready) (r .size) (r .state) (r .slots) (r .binds) h f c)) s w
 
   module _ (e : length room ≡ r .size) (a : r .answer ≡ 0) (v : r .state .live ≡ 1) (room′ : List ℤ) (sound : Bool) (x : State) (slots : List ℕ) (b : List Binding)
-      (c : Over (formBy (eqb (r .form) 2)) (r .matchers) (r .matcher) (r .patterns) (r .pattern) (r .targets) (r .target) n (r .state) (r .slots) (r .binds) room sound x slots b room′) where
+      (c : Over (termsIn r) (r .matchers) (r .matcher) (r .patterns) (r .pattern) (r .targets) (r .target) n (r .state) (r .slots) (r .binds) room sound x slots b room′) where
     -- Not sound: then it is no run that the last call left.
     pub adv-unsound : sound ≡ false → told t ≡ unlikeNumbers → Advances r n room same room′
     unfolding changed told
@@ -258,7 +260,7 @@ module _ (r : struct.Run) (n : ℕ) (room : List ℤ) (t : report.Told) where
       where
         go : (l : Lent) → Kept r l → ⊥
         go l (refused y q) = refusal-zero (r .answer) y a
-        go l (stands y k g h q d) = c .goes k .goes g .tries .kept u (standing-valid _ _ _ _ g (r .size) (r .state) (r .slots) (r .binds) h room e v d)
+        go l (stands y k g h q d) = c .goes k .goes g .tries .kept u (standing-valid _ _ _ _ (g .ready) (r .size) (r .state) (r .slots) (r .binds) h room e v d)
 
     pub adv-went : sound ≡ true → told t ≡ numbersOf x → Advances r n room (record { run = changed r x b slots; told = t }) room′
     unfolding changed told
@@ -274,10 +276,10 @@ module _ (r : struct.Run) (n : ℕ) (room : List ℤ) (t : report.Told) where
         go l (stands y k g h q d) =
             let w = c .goes k .goes g .tries .went u in
             let z = ap (advanced n room) q ∙ goes-as n (r .size) room h e in (
-              s ∙ went-told _ _ _ _ g n (r .size) (r .state) x (r .slots) slots (r .binds) b room room′ e w h d ∙ sym (ap (λ (i : Advanced). i .numbers) z),
-              went-room _ _ _ _ g n (r .size) (r .state) x (r .slots) slots (r .binds) b room room′ e w h d ∙ sym (ap (λ (i : Advanced). i .room) z),
+              s ∙ went-told _ _ _ _ (g .ready) n (r .size) (r .state) x (r .slots) slots (r .binds) b room room′ e w h d ∙ sym (ap (λ (i : Advanced). i .numbers) z),
+              went-room _ _ _ _ (g .ready) n (r .size) (r .state) x (r .slots) slots (r .binds) b room room′ e w h d ∙ sym (ap (λ (i : Advanced). i .room) z),
               stands y k g (heldAfter n (r .size) h) (ap (λ (i : Advanced). i .run) z)
-                  (went-held _ _ _ _ g n (r .size) (r .state) x (r .slots) slots (r .binds) b room room′ e w h d),
+                  (went-held _ _ _ _ (g .ready) n (r .size) (r .state) x (r .slots) slots (r .binds) b room room′ e w h d),
             )
 
 pub ruleset advance-rules = (adv-unlike, adv-refused, adv-over, adv-unsound, adv-went, needs)

@@ -17,10 +17,11 @@ use Rattle.tables.specs.declared.line.Line.{Line}
 use Rattle.tables.specs.SlotLaws.{long-list, long-line}
 use Rattle.value_rows.specs.declared.Binding.{Binding}
 use Rattle.search_step.specs.declared.State.{State}
-use Rattle.search.specs.Run.{Env, envOf, Run, run, runOf}
+use Rattle.search.specs.Run.{Env, envWith, Run, run, runOf}
 use Rattle.search.specs.Valid.{Long, Valid}
-use Rattle.run_rules.specs.Lent.{allowed}
-use Rattle.rules.specs.Rows.{Form}
+use Rattle.run_rules.specs.Lent.{Terms, allowed}
+use Rattle.rules.specs.Dialects.{Dialect, everyPlace}
+use Rattle.rules.specs.Rows.{asWords}
 use Rattle.rules.specs.Services.{Rule, accepted, ruleOf}
 use Rattle.forms.specs.Faults.{Sane}
 use Rattle.program_rules.specs.Points.{Instr, end, Point, Follows, strips, drops, binds, tests, splits, aparts, keeps, chooses, denies, cuts, elses, closes, reserves, ends, after-end}
@@ -36,7 +37,7 @@ use Rattle.program_rules.specs.Lines.{linesOf, laid}
 use Rattle.program_rules.specs.Slots.{numbered}
 use Rattle.program_rules.specs.Link.{opsIn, bindingsIn, linkedIn}
 use Rattle.program_rules.specs.Columns.{lineIn, Holds, compiled-zeros}
-use Rattle.services.specs.Matches.{Ready}
+use Rattle.services.specs.Matches.{Ready, Admitted}
 use Rattle.services.proofs.Matches.{ready-sane, ready-fine, ready-target, matcher-few, pattern-few}
 use Rattle.search.specs.Valid.{Fine}
 use Rattle.run_sound.specs.Tested.{Decides}
@@ -130,6 +131,12 @@ pub ruleset try-rules = (try-valid, try-unsound, try-went, still-stays, still-we
 
 -- ---- The lines of a rule that is accepted.
 
+pub admitted-matcher : (dialect : Dialect) (ms ps ts : List ℤ) → Admitted dialect ms ps ts → length ms ≤ 64
+admitted-matcher dialect ms ps ts g = matcher-few ms ps ts (g .ready)
+
+pub admitted-pattern : (dialect : Dialect) (ms ps ts : List ℤ) → Admitted dialect ms ps ts → length ps ≤ 256
+admitted-pattern dialect ms ps ts g = pattern-few ms ps ts (g .ready)
+
 -- A line without an instruction is an end; and an end is the last line, or after it.
 ended-line : {ms : List ℤ} {vars : ℕ} {l : Line} {to : ℕ} {i : Instr} → Means ms vars l to i → l .op ≡ 0 → i ≡ end vars
 ended-line (means-end e) z = refl
@@ -141,7 +148,7 @@ ended-line (means-integer e) z = absurd (omega arith)
 ended-line (means-value m e n a) z = absurd (omega arith)
 ended-line (means-nil m e) z = absurd (omega arith)
 ended-line (means-list m e) z = absurd (omega arith)
-ended-line (means-multiset m e) z = absurd (omega arith)
+ended-line (means-multiset m e a) z = absurd (omega arith)
 ended-line (means-join m e) z = absurd (omega arith)
 ended-line (means-tuple n e h) z = absurd (omega arith)
 ended-line (means-keep e) z = absurd (omega arith)
@@ -169,7 +176,7 @@ at-end reserves n z = let y : _≡_ {A = ℕ} 0 1 = cc in absurd (omega arith)
 at-end ends n z = omega arith
 at-end after-end n z = omega arith
 
-module _ (form : Form) (ms ps ts : List ℤ) (n : ℕ) (none lines : List ℕ) (g : Ready ms ps ts) (zeros : none ≡ noLines)
+module _ (ms ps ts : List ℤ) (n : ℕ) (none lines : List ℕ) (g : Ready ms ps ts) (zeros : none ≡ noLines)
     (vars : n ≡ bindingsIn (opsIn (columnsOf lines .op) 0 (length (linesOf ms ps))))
     (is : columnsOf lines ≡ linkedIn (length (linesOf ms ps)) (numbered (length (linesOf ms ps)) (laid 0 (linesOf ms ps) (columnsOf none)))) where
   lines-are : columnsOf lines ≡ linesIn ms ps
@@ -199,8 +206,8 @@ module _ (form : Form) (ms ps ts : List ℤ) (n : ℕ) (none lines : List ℕ) (
           absurd (omega arith)
       go false h = ltb-false i _ h
 
-  fine-is : Fine (envOf (columnsOf lines) ms ts n form)
-  fine-is = ready-fine ms ps ts n none lines form g zeros vars is
+  fine-is : Fine (envWith everyPlace (columnsOf lines) ms ts n asWords)
+  fine-is = ready-fine everyPlace ms ps ts n none lines asWords g zeros vars is
 
   pub lines-close : Closes (columnsOf lines .op) (columnsOf lines .arg)
   unfolding lineIn
@@ -214,17 +221,17 @@ module _ (form : Form) (ms ps ts : List ℤ) (n : ℕ) (none lines : List ℕ) (
   slots-numbered slots l = record { slot = fine-is .slot; long = long-line 4 (columnsOf lines .arg) slots (omega arith) (omega arith) }
 
   -- What does not change is what the rule and the target say.
-  env-is : envOf (columnsOf lines) ms ts n form ≡ envIn form ms ps ts
+  env-is : (terms : Terms) → envWith (terms .dialect) (columnsOf lines) ms ts n (terms .form) ≡ envIn terms ms ps ts
   unfolding envIn
-  env-is = ap (λ k. envOf (columnsOf lines) ms ts k form) vars
-      ∙ ap (λ (k : Columns). envOf k ms ts (bindingsIn (opsIn (k .op) 0 (length (linesOf ms ps)))) form) lines-are
+  env-is terms = ap (λ k. envWith (terms .dialect) (columnsOf lines) ms ts k (terms .form)) vars
+      ∙ ap (λ (k : Columns). envWith (terms .dialect) k ms ts (bindingsIn (opsIn (k .op) 0 (length (linesOf ms ps)))) (terms .form)) lines-are
 
-  pub carry-tried : (budget portion : ℕ) (x x′ : State) (slots slots′ : List ℕ) (b b′ : List Binding) (room room′ : List ℤ) (sound : Bool) → budget - x .steps ≡ allowed portion (x .steps)
-      → Tries (envOf (columnsOf lines) ms ts n form) (budget - x .steps) (run x (viewOf (columnsOf lines .arg) slots) b room) sound (run x′ (viewOf (columnsOf lines .arg) slots′) b′ room′)
-      → Still sound slots slots′ room room′ → Carries form ms ps ts portion x slots b room sound x′ slots′ b′ room′
+  pub carry-tried : (terms : Terms) (budget portion : ℕ) (x x′ : State) (slots slots′ : List ℕ) (b b′ : List Binding) (room room′ : List ℤ) (sound : Bool) → budget - x .steps ≡ allowed portion (x .steps)
+      → Tries (envWith (terms .dialect) (columnsOf lines) ms ts n (terms .form)) (budget - x .steps) (run x (viewOf (columnsOf lines .arg) slots) b room) sound (run x′ (viewOf (columnsOf lines .arg) slots′) b′ room′)
+      → Still sound slots slots′ room room′ → Carries terms ms ps ts portion x slots b room sound x′ slots′ b′ room′
   unfolding runIn envIn
-  carry-tried budget portion x x′ slots slots′ b b′ room room′ sound k t still = record {
-    tries = subst (λ (e : Env). Tries e (allowed portion (x .steps)) (run x (viewOf (e .arg) slots) b room) sound (run x′ (viewOf (e .arg) slots′) b′ room′)) env-is
-        (subst (λ i. Tries (envOf (columnsOf lines) ms ts n form) i (run x (viewOf (columnsOf lines .arg) slots) b room) sound (run x′ (viewOf (columnsOf lines .arg) slots′) b′ room′)) k t);
+  carry-tried terms budget portion x x′ slots slots′ b b′ room room′ sound k t still = record {
+    tries = subst (λ (e : Env). Tries e (allowed portion (x .steps)) (run x (viewOf (e .arg) slots) b room) sound (run x′ (viewOf (e .arg) slots′) b′ room′)) (env-is terms)
+        (subst (λ i. Tries (envWith (terms .dialect) (columnsOf lines) ms ts n (terms .form)) i (run x (viewOf (columnsOf lines .arg) slots) b room) sound (run x′ (viewOf (columnsOf lines .arg) slots′) b′ room′)) k t);
     still = still;
   }

@@ -16,9 +16,9 @@ use Rattle.service_runs.specs.Kept.{Kept}
 use Rattle.service_runs.specs.declared.run.Run as struct
 use Rattle.service_runs.specs.declared.opening.Start as out
 
--- The row forms that there are.
+-- The row forms that there are, and the dialects.
 abbrev pub Known : ℕ → Type 0
-Known form = (form ≡ 1) ⊎ (form ≡ 2)
+Known n = (n ≡ 1) ⊎ (n ≡ 2)
 
 -- Words at the start of an array, 0 behind them.
 unfoldable pub kept : (n : ℕ) (ws : List ℤ) → List ℤ
@@ -26,9 +26,9 @@ unfolding put
 kept n ws = put (replicate n (pos 0)) 0 ws
 
 -- A run that is refused has ended, and keeps no words.
-unfoldable pub away : (form size answer place cause : ℕ) → out.Start
+unfoldable pub away : (form dialect size answer place cause : ℕ) → out.Start
 unfolding opening
-away form size a i c = record {
+away form dialect size a i c = record {
   run = record {
     state = record { pc = 0; at = 0; marks = 0; top = 0; live = 0; rows = 0; steps = 0; words = 0 };
     binds = replicate 16 nothing;
@@ -38,6 +38,7 @@ away form size a i c = record {
     answer = a;
     cause = c;
     form = form;
+    dialect = dialect;
     matcher = 0;
     pattern = 0;
     target = 0;
@@ -51,9 +52,9 @@ away form size a i c = record {
 }
 
 -- Another stands before its first state, and keeps its own copy of the words.
-unfoldable pub begun : (form : ℕ) (ms ps ts : List ℤ) (size : ℕ) → out.Start
+unfoldable pub begun : (form dialect : ℕ) (ms ps ts : List ℤ) (size : ℕ) → out.Start
 unfolding opening kept wholeAt
-begun form ms ps ts size = record {
+begun form dialect ms ps ts size = record {
   run = record {
     state = opening 0 (wholeAt ts 0);
     binds = replicate 16 nothing;
@@ -63,6 +64,7 @@ begun form ms ps ts size = record {
     answer = 0;
     cause = 0;
     form = form;
+    dialect = dialect;
     matcher = length ms;
     pattern = length ps;
     target = length ts;
@@ -76,14 +78,14 @@ begun form ms ps ts size = record {
 }
 
 -- Every field, by what `run_rules` answers.
-unfoldable pub openedAs : (form : ℕ) (ms ps ts : List ℤ) (size : ℕ) → Opened → out.Start
+unfoldable pub openedAs : (form dialect : ℕ) (ms ps ts : List ℤ) (size : ℕ) → Opened → out.Start
 unfolding away begun
-openedAs form ms ps ts size o =
-    elim (eqb (o .answer) 0) [ true ↦ begun form ms ps ts size | false ↦ away form size (o .answer) (o .place) (o .cause) ]
+openedAs form dialect ms ps ts size o =
+    elim (eqb (o .answer) 0) [ true ↦ begun form dialect ms ps ts size | false ↦ away form dialect size (o .answer) (o .place) (o .cause) ]
 
-pub record Opens (form : ℕ) (ms ps ts : List ℤ) (size : ℕ) (o : out.Start) : Type 0 where
-  pub answer : o .answer ≡ opened form ms ps ts size .answer
-  pub place : o .place ≡ opened form ms ps ts size .place
-  pub cause : o .cause ≡ opened form ms ps ts size .cause
-  pub held : Kept (o .run) (opened form ms ps ts size .run)
-  pub fixed : o ≡ openedAs form ms ps ts size (opened form ms ps ts size)
+pub record Opens (form dialect : ℕ) (ms ps ts : List ℤ) (size : ℕ) (o : out.Start) : Type 0 where
+  pub answer : o .answer ≡ opened form dialect ms ps ts size .answer
+  pub place : o .place ≡ opened form dialect ms ps ts size .place
+  pub cause : o .cause ≡ opened form dialect ms ps ts size .cause
+  pub held : Kept (o .run) (opened form dialect ms ps ts size .run)
+  pub fixed : o ≡ openedAs form dialect ms ps ts size (opened form dialect ms ps ts size)

@@ -14,8 +14,8 @@ ghost use mathlib.Core.Path.{_≡_};
 ghost use Prim.Native.Nat.{_-_, _*_};
 ghost use lib.ListN.{length};
 ghost use Rattle.run_rules.specs.Lent.{allowed};
-ghost use Rattle.value_rows.specs.Row.{formBy};
-ghost use Rattle.services.specs.Matches.{Ready};
+ghost use Rattle.words.specs.Dialects.{dialectBy};
+ghost use Rattle.services.specs.Matches.{Admitted};
 ghost use Rattle.tables.specs.Line.{columnsOf};
 ghost use Rattle.tables.specs.Slot.{slotCount, viewOf};
 ghost use Rattle.value_places.specs.Places.{Target};
@@ -23,7 +23,7 @@ ghost use Rattle.search.specs.Run.{run, runOf};
 ghost use Rattle.search.specs.Told.{envBy};
 ghost use Rattle.search.specs.Valid.{Fine, Valid};
 ghost use Rattle.run_sound.specs.Sound.{Numbered, Closes};
-ghost use Rattle.service_runs.specs.Going.{Tries, Still, Carries};
+ghost use Rattle.service_runs.specs.Going.{Tries, Still, termsBy, Carries};
 
 // The most steps of a run.
 const MOST: u64 = 4294967295;
@@ -101,26 +101,33 @@ fn try_on(
     }
 }
 
-// An advance over words that are accepted.
+// What the opening was told: whether a row tells origins, and whether a cons under a multiset takes first places only, as dialect 2 has it.
+pub struct Picks {
+    pub origins: bool,
+    pub firsts: bool,
+}
+
+// An advance over words that are accepted in the dialect.
 pub fn carry_on(
     from: Progress,
     portion: u32,
-    origins: bool,
+    picks: Picks,
     m: &[i32],
     p: &[i32],
     t: &[i32],
     slots: &mut Slots,
     room: &mut [i32],
 ) -> Tried
-    requires { ⌜ Ready (now m) (now p) (now t) ⌝ ∗ ⌜ from .state .live ≡ 1 ⌝ ∗ ⌜ length (now slots) ≡ 5 * slotCount ⌝ }
-    ensures { λ r. ⌜ Carries (formBy origins) (now (m .entry)) (now (p .entry)) (now (t .entry)) portion (from .state) (now (slots .entry)) (from .binds) (now (room .entry)) (r .sound) (r .progress .state) (now (slots .exit)) (r .progress .binds) (now (room .exit)) ⌝ }
+    requires { ⌜ Admitted (dialectBy (picks .firsts)) (now m) (now p) (now t) ⌝ ∗ ⌜ from .state .live ≡ 1 ⌝ ∗ ⌜ length (now slots) ≡ 5 * slotCount ⌝ }
+    ensures { λ r. ⌜ Carries (termsBy picks) (now (m .entry)) (now (p .entry)) (now (t .entry)) portion (from .state) (now (slots .entry)) (from .binds) (now (room .entry)) (r .sound) (r .progress .state) (now (slots .exit)) (r .progress .binds) (now (room .exit)) ⌝ }
 {
     let mut lines = no_lines();
     let n = compile(m, p, &mut lines);
     let terms = Terms {
         budget: budget_of(from.state.steps, portion),
         vars: n,
-        origins: origins,
+        origins: picks.origins,
+        firsts: picks.firsts,
     };
     try_on(from, terms, m, t, &lines, slots, room)
 }

@@ -1,5 +1,7 @@
 // The opening of a run: it is refused there, or it stands before its first state and keeps its own copy of the words.
+use crate::run::FIRST_PLACES;
 use crate::run::Run;
+use crate::run::UNKNOWN_DIALECT;
 use crate::run::UNKNOWN_FORM;
 use search::open;
 use search_step::ENDED;
@@ -7,7 +9,7 @@ use search_step::State;
 use tables::slot::no_slots;
 use tests::Judgement;
 use tests::TargetJudgement;
-use tests::rule_refused;
+use tests::rule_refused_in;
 use tests::target_refused;
 use value_rows::Binding;
 use value_rows::VARIABLES;
@@ -17,6 +19,7 @@ ghost use mathlib.Core.Path.{_≡_};
 ghost use Prim.Native.Nat.{_≤_};
 ghost use lib.ListN.{length};
 ghost use Rattle.services.specs.Matches.{Ready};
+ghost use Rattle.run_sound.specs.Tested.{Decides};
 ghost use Rattle.service_runs.specs.Opens.{Known, Opens, kept, away, begun as begins};
 
 // The refusal, or 0; and the run.
@@ -56,8 +59,8 @@ fn target_kept(t: &[i32]) -> [i32; 1024]
 }
 
 // A run refused at its opening has ended, and keeps no words.
-fn turned_away(form: u32, size: u32, answer: u32, place: usize, cause: u32) -> Start
-    ensures { λ r. ⌜ r ≡ away form size answer place cause ⌝ }
+fn turned_away(form: u32, dialect: u32, size: u32, answer: u32, place: usize, cause: u32) -> Start
+    ensures { λ r. ⌜ r ≡ away form dialect size answer place cause ⌝ }
 {
     let state = State {
         pc: 0,
@@ -81,6 +84,7 @@ fn turned_away(form: u32, size: u32, answer: u32, place: usize, cause: u32) -> S
             answer: answer,
             cause: cause,
             form: form,
+            dialect: dialect,
             matcher: 0,
             pattern: 0,
             target: 0,
@@ -95,9 +99,9 @@ fn turned_away(form: u32, size: u32, answer: u32, place: usize, cause: u32) -> S
 }
 
 // A run before its first state.
-fn begun(form: u32, m: &[i32], p: &[i32], t: &[i32], size: u32) -> Start
+fn begun(form: u32, dialect: u32, m: &[i32], p: &[i32], t: &[i32], size: u32) -> Start
     requires { ⌜ Ready (now m) (now p) (now t) ⌝ }
-    ensures { λ r. ⌜ r ≡ begins form (now (m .entry)) (now (p .entry)) (now (t .entry)) size ⌝ }
+    ensures { λ r. ⌜ r ≡ begins form dialect (now (m .entry)) (now (p .entry)) (now (t .entry)) size ⌝ }
 {
     let first = open(t);
     let state = first.state;
@@ -116,6 +120,7 @@ fn begun(form: u32, m: &[i32], p: &[i32], t: &[i32], size: u32) -> Start
             answer: 0,
             cause: 0,
             form: form,
+            dialect: dialect,
             matcher: m.len(),
             pattern: p.len(),
             target: t.len(),
@@ -129,29 +134,39 @@ fn begun(form: u32, m: &[i32], p: &[i32], t: &[i32], size: u32) -> Start
     }
 }
 
-// An opening with rows in one of the two forms: the tests 1 to 6.
-fn opened_in(form: u32, m: &[i32], p: &[i32], t: &[i32], size: u32) -> Start
-    requires { ⌜ Known form ⌝ }
-    ensures { λ r. ⌜ Opens form (now (m .entry)) (now (p .entry)) (now (t .entry)) size r ⌝ }
+// Whether there is a row form, or a dialect, with this number.
+fn is_known(n: u32) -> bool
+    ensures { λ r. ⌜ Decides r (Known n) ⌝ }
 {
-    if let Judgement::Refused(a, i) = rule_refused(m, p) {
-        return turned_away(form, size, a, i, 0);
+    if n == 1 {
+        return true;
     }
-    if let TargetJudgement::Refused(a, i, c) = target_refused(m, t) {
-        return turned_away(form, size, a, i, c);
-    }
-    begun(form, m, p, t, size)
+    n == 2
 }
 
-// An opening, by value, for any words: 20 before 1.
-pub fn opened(form: u32, m: &[i32], p: &[i32], t: &[i32], size: u32) -> Start
-    ensures { λ r. ⌜ Opens form (now (m .entry)) (now (p .entry)) (now (t .entry)) size r ⌝ }
+// An opening in a form and a dialect that there are: the tests 1 to 6.
+fn opened_in(form: u32, dialect: u32, m: &[i32], p: &[i32], t: &[i32], size: u32) -> Start
+    requires { ⌜ Known form ⌝ ∗ ⌜ Known dialect ⌝ }
+    ensures { λ r. ⌜ Opens form dialect (now (m .entry)) (now (p .entry)) (now (t .entry)) size r ⌝ }
 {
-    if form == 1 {
-        return opened_in(form, m, p, t, size);
+    if let Judgement::Refused(a, i) = rule_refused_in(dialect == FIRST_PLACES, m, p) {
+        return turned_away(form, dialect, size, a, i, 0);
     }
-    if form == 2 {
-        return opened_in(form, m, p, t, size);
+    if let TargetJudgement::Refused(a, i, c) = target_refused(m, t) {
+        return turned_away(form, dialect, size, a, i, c);
     }
-    turned_away(form, size, UNKNOWN_FORM, 0, 0)
+    begun(form, dialect, m, p, t, size)
+}
+
+// An opening, by value, for any words: 20, then 22, before 1.
+pub fn opened(form: u32, dialect: u32, m: &[i32], p: &[i32], t: &[i32], size: u32) -> Start
+    ensures { λ r. ⌜ Opens form dialect (now (m .entry)) (now (p .entry)) (now (t .entry)) size r ⌝ }
+{
+    if !is_known(form) {
+        return turned_away(form, dialect, size, UNKNOWN_FORM, 0, 0);
+    }
+    if !is_known(dialect) {
+        return turned_away(form, dialect, size, UNKNOWN_DIALECT, 0, 0);
+    }
+    opened_in(form, dialect, m, p, t, size)
 }

@@ -1,4 +1,5 @@
 // A run that is lent by the game, as a struct by value: what it holds, and an advance of it.
+use crate::going::Picks;
 use crate::going::Tried;
 use crate::going::carry_on;
 use search::Progress;
@@ -8,16 +9,17 @@ use search_step::State;
 use tables::slot::Slots;
 use tests::Judgement;
 use tests::TargetJudgement;
-use tests::rule_refused;
+use tests::rule_refused_in;
 use tests::target_refused;
 use value_rows::Binding;
 ghost use mathlib.Core.Path.{_≡_};
 ghost use Prim.Native.Nat.{_*_};
 ghost use lib.ListN.{length};
 ghost use Rattle.tables.specs.Slot.{slotCount};
-ghost use Rattle.value_rows.specs.Row.{formBy};
-ghost use Rattle.services.specs.Matches.{Ready};
+ghost use Rattle.words.specs.Dialects.{dialectBy};
+ghost use Rattle.services.specs.Matches.{Admitted};
 ghost use Rattle.run_sound.specs.Tested.{Decides};
+ghost use Rattle.service_runs.specs.Going.{termsBy};
 ghost use Rattle.service_runs.specs.Kept.{Goes, Over, Lengths, Refusal, Refuses, Advances, told, unlikeNumbers};
 ghost use Rattle.run_states.specs.Standing.{numbersOf};
 
@@ -32,6 +34,7 @@ pub struct Run {
     pub answer: u32,
     pub cause: u32,
     pub form: u32,
+    pub dialect: u32,
     pub matcher: usize,
     pub pattern: usize,
     pub target: usize,
@@ -60,13 +63,17 @@ pub struct Out {
 // 19: a room unlike the size given at the opening.
 const UNLIKE: u32 = 19;
 
-// The refusals of an opening: 1 to 6, and a row form that there is not.
+// The refusals of an opening: 1 to 6, and a row form or a dialect that there is not.
 const UNFIT: u32 = 6;
 
 pub const UNKNOWN_FORM: u32 = 20;
 
-// The row form that tells origins.
+pub const UNKNOWN_DIALECT: u32 = 22;
+
+// The row form that tells origins, and the dialect that takes first places.
 const ORIGINS: u32 = 2;
+
+pub const FIRST_PLACES: u32 = 2;
 
 // The longest matcher, pattern and target.
 const MATCHERS: usize = 64;
@@ -88,11 +95,11 @@ fn unlike() -> Told
     }
 }
 
-// Whether none of the tests 1 to 6 refuses.
-fn is_ready(m: &[i32], p: &[i32], t: &[i32]) -> bool
-    ensures { λ r. ⌜ Decides r (Ready (now (m .entry)) (now (p .entry)) (now (t .entry))) ⌝ }
+// Whether none of the tests 1 to 6 refuses, in the dialect.
+fn is_ready(firsts: bool, m: &[i32], p: &[i32], t: &[i32]) -> bool
+    ensures { λ r. ⌜ Decides r (Admitted (dialectBy firsts) (now (m .entry)) (now (p .entry)) (now (t .entry))) ⌝ }
 {
-    if let Judgement::Refused(_, _) = rule_refused(m, p) {
+    if let Judgement::Refused(_, _) = rule_refused_in(firsts, m, p) {
         return false;
     }
     if let TargetJudgement::Refused(_, _, _) = target_refused(m, t) {
@@ -105,7 +112,7 @@ fn is_ready(m: &[i32], p: &[i32], t: &[i32]) -> bool
 fn go_on(
     from: Progress,
     portion: u32,
-    origins: bool,
+    picks: Picks,
     m: &[i32],
     p: &[i32],
     t: &[i32],
@@ -113,15 +120,15 @@ fn go_on(
     room: &mut [i32],
 ) -> Tried
     requires { ⌜ from .state .live ≡ 1 ⌝ ∗ ⌜ length (now slots) ≡ 5 * slotCount ⌝ }
-    ensures { λ r. ⌜ Goes (formBy origins) (now (m .entry)) (now (p .entry)) (now (t .entry)) portion (from .state) (now (slots .entry)) (from .binds) (now (room .entry)) (r .sound) (r .progress .state) (now (slots .exit)) (r .progress .binds) (now (room .exit)) ⌝ }
+    ensures { λ r. ⌜ Goes (termsBy picks) (now (m .entry)) (now (p .entry)) (now (t .entry)) portion (from .state) (now (slots .entry)) (from .binds) (now (room .entry)) (r .sound) (r .progress .state) (now (slots .exit)) (r .progress .binds) (now (room .exit)) ⌝ }
 {
-    if !is_ready(m, p, t) {
+    if !is_ready(picks.firsts, m, p, t) {
         return Tried {
             sound: false,
             progress: from,
         };
     }
-    carry_on(from, portion, origins, m, p, t, slots, room)
+    carry_on(from, portion, picks, m, p, t, slots, room)
 }
 
 // How many words of matcher, pattern and target a run keeps.
@@ -148,7 +155,7 @@ fn are_lengths(c: Counts) -> bool
 fn on_words<'a>(
     from: Progress,
     portion: u32,
-    origins: bool,
+    picks: Picks,
     c: Counts,
     matchers: &'a [i32; 64],
     patterns: &'a [i32; 256],
@@ -157,7 +164,7 @@ fn on_words<'a>(
     room: &mut [i32],
 ) -> Tried
     requires { ⌜ from .state .live ≡ 1 ⌝ ∗ ⌜ length (now slots) ≡ 5 * slotCount ⌝ }
-    ensures { λ r. ⌜ Over (formBy origins) (now (matchers .entry)) (c .matcher) (now (patterns .entry)) (c .pattern) (now (targets .entry)) (c .target) portion (from .state) (now (slots .entry)) (from .binds) (now (room .entry)) (r .sound) (r .progress .state) (now (slots .exit)) (r .progress .binds) (now (room .exit)) ⌝ }
+    ensures { λ r. ⌜ Over (termsBy picks) (now (matchers .entry)) (c .matcher) (now (patterns .entry)) (c .pattern) (now (targets .entry)) (c .target) portion (from .state) (now (slots .entry)) (from .binds) (now (room .entry)) (r .sound) (r .progress .state) (now (slots .exit)) (r .progress .binds) (now (room .exit)) ⌝ }
 {
     if !are_lengths(c) {
         return Tried {
@@ -171,7 +178,7 @@ fn on_words<'a>(
     go_on(
         from,
         portion,
-        origins,
+        picks,
         &m[..c.matcher],
         &p[..c.pattern],
         &t[..c.target],
@@ -200,6 +207,9 @@ fn is_refusal(answer: u32) -> bool
     ensures { λ r. ⌜ Decides r (Refusal answer) ⌝ }
 {
     if answer == UNKNOWN_FORM {
+        return true;
+    }
+    if answer == UNKNOWN_DIALECT {
         return true;
     }
     if answer == 0 {
@@ -244,11 +254,15 @@ pub fn advanced(mut run: Run, portion: u32, room: &mut [i32]) -> Out
                 pattern: run.pattern,
                 target: run.target,
             };
+            let picks = Picks {
+                origins: run.form == ORIGINS,
+                firsts: run.dialect == FIRST_PLACES,
+            };
             let mut slots = run.slots;
             let found = on_words(
                 from,
                 portion,
-                run.form == ORIGINS,
+                picks,
                 counts,
                 &run.matchers,
                 &run.patterns,

@@ -1,10 +1,13 @@
 -- What match's answer stands for, and input that none of the tests 1 to 6 refuses.
 use Prim.Native.Nat.{ℕ}
 use mathlib.Core.Path.{_≡_}
+use mathlib.Core.Option.{none, some}
 use mathlib.Core.List.{List}
 use lib.IntN.{ℤ}
 use Rattle.rules.specs.Forms.{Value}
-use Rattle.rules.specs.Services.{accepted, Rule, ruleOf, targetOf}
+use Rattle.rules.specs.Dialects.{Dialect, dialectOf}
+use Rattle.rules.specs.Rows.{Form}
+use Rattle.rules.specs.Services.{accepted, Rule, ruleIn, ruleOf, targetOf}
 use Rattle.rules.specs.Services as paper
 use Rattle.services.specs.declared.matching.Matched.{Matched}
 
@@ -21,3 +24,13 @@ pub record Ready (ms ps ts : List ℤ) : Type 0 where
   pub value : Value
   pub rule-is : ruleOf ms ps ≡ accepted rule
   pub value-is : targetOf (rule .matcher) ts ≡ accepted value
+
+-- The same in a dialect.
+pub record Admitted (dialect : Dialect) (ms ps ts : List ℤ) : Type 0 where
+  pub ready : Ready ms ps ts
+  pub rule-in : ruleIn dialect ms ps ≡ accepted (ready .rule)
+
+-- Match in a form, and in the dialect that the caller picks.
+unfoldable pub matchDialect : Form → (dialect : ℕ) (ms ps ts : List ℤ) (budget : ℕ) (room : List ℤ) → paper.Matched
+unfolding dialectOf paper.turnedAway paper.matchOf
+matchDialect f dialect ms ps ts budget room = elim (dialectOf dialect) [ none ↦ paper.turnedAway 22 0 0 room | some d ↦ paper.matchOf d f ms ps ts budget room ]

@@ -1,4 +1,5 @@
 // The service review: the worst count of steps of a rule, for a largest collection.
+use crate::matching::UNKNOWN_DIALECT;
 use program::compile;
 use review_count::always::always_true;
 use review_count::count::Tally;
@@ -29,8 +30,6 @@ pub const CAP: u32 = 9;
 pub const TOO_BIG: u32 = 10;
 
 pub const ALWAYS_TRUE: u32 = 11;
-
-pub const UNKNOWN_DIALECT: u32 = 22;
 
 // Tests 9 and 10, over the lines of a rule's program.
 fn counted(lines: &Lines, cap: i32) -> Reviewed

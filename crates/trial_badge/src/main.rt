@@ -430,7 +430,7 @@ fn play(text: &[u8], m: &[i32], p: &[i32], ts: &[i32]) {
     if r.answer == UNFIT {
         return say_refused_units(r.answer, r.place);
     }
-    let o = match_units_with(2, m, p, ts, BUDGET, &mut origins);
+    let o = match_units_with(2, 1, m, p, ts, BUDGET, &mut origins);
     let n = fewer(r.rows, o.rows);
     say_found(r.answer, r.rows, r.steps);
     say_rows(

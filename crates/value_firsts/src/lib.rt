@@ -71,7 +71,7 @@ fn kept(out: u64, k: u32, seen: bool) -> u64
 
 // The first places among the marks m above the marks `stop`, which are the n lowest digits of m; from the last mark on, since then what is left is what
 // stands before.
-fn firsts_above(
+pub fn firsts_above(
     mt: &[i32],
     i: usize,
     s: &[i32],

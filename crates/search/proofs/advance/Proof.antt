@@ -8,7 +8,7 @@ use borrow.Author.Needs.{needs}
 use borrow.Author.Tests.{ltb-true, ltb-false}
 use mir.Syntax.{w64}
 use mir.Val.{Fits}
-use lib.ListN.{length}
+use lib.ListN.{length, getD}
 use Rattle.rules.specs.Rows.{row}
 use Rattle.value_places.specs.Held.{put}
 use Rattle.value_rows.specs.Row.{formBy, bound, boundFrom}
@@ -16,12 +16,14 @@ use Rattle.tables.specs.Line.{columnsOf}
 use Rattle.tables.specs.Slot.{Tables, viewOf}
 use Rattle.search_step.specs.declared.State.{State}
 use Rattle.search_step.specs.Steps.{turned, stepOf}
-use Rattle.search.specs.Run.{Env, Run, run, runOf}
+use Rattle.search.specs.Run.{Env, Run, run, runOf, choicesOf}
+use Rattle.search.specs.Narrow.{narrowed}
 use Rattle.search.specs.Told.{envBy}
 use Rattle.search.specs.Valid.{Rows}
 use Rattle.value_rows.proofs.Row.{row-held, row-16, row-mul, row-room, row-turn, row-turn-size, row-out, row-out-size, row-start-size, row-start-room}
 use Rattle.value_rows.proofs.Room.{length-put}
-use Rattle.search.proofs.Laws.{turned-path, goes-live, goes-less, Here, here-start, here-end, Asked, asked-3, asked-4, asked-5, asked-6, asked-below, asked-above, took-full, took-wrote, Taken, taken-is, taken-step, turn-row, turn-steps, turn-binds, settled-by, Ready, ready, ready-place, ready-constant, ready-number, ready-number-mul, ready-bound, ready-sum, fine-named}
+use Rattle.search.proofs.Laws.{turned-path, goes-live, goes-less, Here, here-start, here-end, Asked, asked-3, asked-4, asked-5, asked-6, asked-below, asked-above, took-full, took-wrote, Taken, taken-is, taken-chosen, taken-step, turn-row, turn-steps, turn-binds, settled-by, Ready, ready, ready-place, ready-constant, ready-number, ready-number-mul, ready-bound, ready-sum, fine-named}
+use Rattle.search.proofs.Narrows.{narrow-code, narrow-asks}
 use Rattle.search.proofs.Swept.{Swept, here-swept, swept-less, swept-at, swept-none, taken-opens, asks-place, asks-number, asks-seeks, asks-slotted, asks-alone, swept-over}
 use Rattle.search.proofs.advance.Statement.{statement}
 use Rattle.search.proofs.advance.Tie as tie
@@ -74,13 +76,25 @@ joined c =
 rows : (c : tie.Then7 Inv-loop2 μ-loop2 Inv-loop μ-loop) → Rows (c .before .before .before .before .before .before .before .before .args .s .now) (c .before .if2 .b) (c .before .before .before .before .before .before .before .before .args .terms .vars) (c .before .before .before .before .before .loop .x) (c .before .before .before .before .before .loop .room)
 rows c = let h = stands (c .before .before .before) in turn-row _ _ _ _ _ _ _ (joined (c .before)) (h .fine) (h .target) (h .valid) (h .count) (sym (c .before .before .op-at .ensures) ∙ c .if7 .taken)
 
--- A step is taken.
-took : (c : tie.After-step-arg Inv-loop2 μ-loop2 Inv-loop μ-loop) (y : State) (u : Tables)
+-- A step is taken, by a line that is no cons under a multiset; and by one that is, narrowed.
+took : (c : tie.After-step-arg Inv-loop2 μ-loop2 Inv-loop μ-loop) (y : State) (u : Tables) → (c .before .before .before .op-at .result ≡ 9 → ⊥)
     → turned y u ≡ stepOf (program (c .before .before .before .before .before .before) .op) (program (c .before .before .before .before .before .before) .from) (program (c .before .before .before .before .before .before) .to) (program (c .before .before .before .before .before .before) .con) (program (c .before .before .before .before .before .before) .words) (c .before .before .if2 .same) (current (c .before .before .before .before .before .before) .state) (current (c .before .before .before .before .before .before) .tables)
     → Taken (program (c .before .before .before .before .before .before)) (current (c .before .before .before .before .before .before)) y u (c .before .before .if2 .b) (c .before .before .before .before .before .before .loop .room)
-took c y u e =
+took c y u n e =
     let h = stands (c .before .before .before .before) in
-    taken-step _ _ _ _ _ _ _ (joined (c .before .before)) (h .fine) (h .target) (h .valid) (h .count) (h .live) _ _ _ (λ z. c .before .if7 .left (c .before .before .before .op-at .ensures ∙ z)) e refl
+    let p = c .before .before .before .op-at .ensures in
+    taken-step _ _ _ _ _ _ _ (joined (c .before .before)) (h .fine) (h .target) (h .valid) (h .count) (h .live) _ _ _ (λ z. c .before .if7 .left (p ∙ z)) (λ z. n (p ∙ z)) e refl
+
+narrows : (c : tie.After-step-arg Inv-loop2 μ-loop2 Inv-loop μ-loop) (y : State) (u u′ : Tables) → c .before .before .before .op-at .result ≡ 9
+    → turned y u ≡ stepOf (program (c .before .before .before .before .before .before) .op) (program (c .before .before .before .before .before .before) .from) (program (c .before .before .before .before .before .before) .to) (program (c .before .before .before .before .before .before) .con) (program (c .before .before .before .before .before .before) .words) (c .before .before .if2 .same) (current (c .before .before .before .before .before .before) .state) (current (c .before .before .before .before .before .before) .tables)
+    → u′ ≡ narrowed (program (c .before .before .before .before .before .before) .dialect) (program (c .before .before .before .before .before .before) .matcher) (getD (program (c .before .before .before .before .before .before) .mat) (y .top - 1) 0) (program (c .before .before .before .before .before .before) .words) y u
+    → Taken (program (c .before .before .before .before .before .before)) (current (c .before .before .before .before .before .before)) y u′ (c .before .before .if2 .b) (c .before .before .before .before .before .before .loop .room)
+unfolding choicesOf
+narrows c y u u′ z e q =
+    let h = stands (c .before .before .before .before) in
+    let p = c .before .before .before .op-at .ensures in
+    taken-chosen _ _ _ _ _ _ _ (joined (c .before .before)) (h .fine) (h .target) (h .valid) (h .count) (h .live) _ _ _ (λ k. c .before .if7 .left (p ∙ k))
+    (narrow-code _ _ _ (program (c .before .before .before .before .before .before) .mat) (program (c .before .before .before .before .before .before) .arg) _ _ _ _ _ _ (sym p ∙ z) (h .valid .long) (h .valid .place) _ _ e _ _ q) refl
 
 -- The budget is not used up.
 less : (c : tie.Then1 Inv-loop2 μ-loop2 Inv-loop μ-loop) → c .before .before .loop .x .steps < c .before .before .before .before .before .args .terms .budget
@@ -99,12 +113,12 @@ met c = let h = stands (c .before .before .before) in let p = c .before .before 
     (took-wrote _ _ _ _ _ _ _ (joined (c .before)) _ _ _ _ (sym p ∙ w .0 .taken) (ltb-false _ _ (sym (w .1 .ensures) ∙ w .2 .left)) (w .9 ∙ w .6 .ensures)
     (row-out-size _ _ _ _ _ _ _ k (i .3) (w .5 .left)) (ap (viewOf _) (w .7)) (w .8 ∙ row-out _ _ _ _ _ _ _ _ k (i .4) (w .5 .left)))) (h .valid .room) _ l)
     (⊎-elim
-    (λ w. let k = took (record { before = record { before = c .before; if7 = w .0 }; step-arg = w .1 }) _ _ (w .2 .ensures) in
-    swept-at _ _ _ _ _ _ _ _ _ _ (w .12) (ap (viewOf _) (w .10)) (w .11) (swept-over _ _ _ _ _ _ k (h .valid .room) _ l (h .fine) (h .target) _ (w .4 .ensures) (w .5 .taken) _ (w .6 .ensures) _ _ (w .9 .ensures)))
+    (λ w. let k = narrows (record { before = record { before = c .before; if7 = w .0 }; step-arg = w .1 }) _ _ _ (w .3 .taken) (w .2 .ensures) (w .5 .ensures) in
+    swept-at _ _ _ _ _ _ _ _ _ _ (w .14) (ap (viewOf _) (w .12)) (w .13) (swept-over _ _ _ _ _ _ k (h .valid .room) _ l (h .fine) (h .target) _ (w .6 .ensures) (w .7 .taken) _ (w .8 .ensures) _ _ (w .11 .ensures)))
     (⊎-elim
-    (λ w. let k = took (record { before = record { before = c .before; if7 = w .0 }; step-arg = w .1 }) _ _ (w .2 .ensures) in
-    swept-at _ _ _ _ _ _ _ _ _ _ (w .8) (ap (viewOf _) (w .6)) (w .7) (swept-none _ _ _ _ _ _ k (h .valid .room) _ l))
-    (λ w. let k = took (record { before = record { before = c .before; if7 = w .0 }; step-arg = w .1 }) _ _ (w .2 .ensures) in
+    (λ w. let k = narrows (record { before = record { before = c .before; if7 = w .0 }; step-arg = w .1 }) _ _ _ (w .3 .taken) (w .2 .ensures) (w .5 .ensures) in
+    swept-at _ _ _ _ _ _ _ _ _ _ (w .10) (ap (viewOf _) (w .8)) (w .9) (swept-none _ _ _ _ _ _ k (h .valid .room) _ l))
+    (λ w. let k = took (record { before = record { before = c .before; if7 = w .0 }; step-arg = w .1 }) _ _ (w .3 .left) (w .2 .ensures) in
     swept-at _ _ _ _ _ _ _ _ _ _ (w .6) (ap (viewOf _) (w .4)) (w .5) (swept-none _ _ _ _ _ _ k (h .valid .room) _ l)))))
     (c .if7 .came)
 
@@ -216,36 +230,47 @@ step-requires c κs =
     let h = stands (c .before .before .before .before) in
     (h .target, (c .before .before .before .before .before .before .before .before .before .pre .0 .placed, turn-steps _ _ _ _ _ _ _ (joined (c .before .before)) (h .fine) (h .target) (h .valid) (h .count) _ refl))
 
+narrow-requires : tie.Need-narrow-requires Inv-loop2 μ-loop2 Inv-loop μ-loop
+narrow-requires c κs =
+    let h = stands (c .before .before .before .before .before .before .before) in
+    let o : c .before .before .before .before .before .before .op-at .result ≡ 9 = c .before .if10 .taken in
+    let z = sym (c .before .before .before .before .before .before .op-at .ensures) ∙ o in (
+      c .before .before .before .before .before .before .before .before .before .before .before .before .pre .0,
+      narrow-asks _ _ _ (columnsOf (c .before .before .before .before .before .before .before .before .before .before .before .before .args .lines .now) .mat) _ _ (c .before .before .before .before .before .before .before .before .before .before .before .before .args .mt .now) _ _ _ _ z (h .valid .long) (h .valid .place) _ _ (c .before .before .step .ensures) (h .valid .held) _ refl
+          (h .fine .slot _) (h .fine .alone _ (h .valid .place) (omega (arith, z)) (omega (arith, z))),
+    )
+
 asks-requires : tie.Need-asks-requires Inv-loop2 μ-loop2 Inv-loop μ-loop
 asks-requires c κs =
-    let h = stands (c .before .before .before .before .before .before) in
-    taken-opens _ _ _ _ _ _ (took (c .before .before) _ _ (c .before .step .ensures)) (h .valid .room) _ (less (c .before .before .before .before .before .before)) (h .fine)
+    let h = stands (c .before .before .before .before .before .before .before .before) in
+    taken-opens _ _ _ _ _ _ (narrows (c .before .before .before .before) _ _ _ (c .before .before .if10 .taken) (c .before .before .before .step .ensures) (c .narrow .ensures)) (h .valid .room) _ (less (c .before .before .before .before .before .before .before .before)) (h .fine)
 
 arg-at-requires-4 : tie.Need-arg-at-requires-4 Inv-loop2 μ-loop2 Inv-loop μ-loop
 arg-at-requires-4 c κs =
-    let h = stands (c .before .before .before .before .before .before .before .before) in
-    asks-place _ _ _ _ _ _ (took (c .before .before .before .before) _ _ (c .before .before .before .step .ensures)) (h .valid .room) _ (less (c .before .before .before .before .before .before .before .before)) (h .fine) (h .target) _ (c .before .asks .ensures) (c .if11 .taken)
+    let h = stands (c .before .before .before .before .before .before .before .before .before .before) in
+    asks-place _ _ _ _ _ _ (narrows (c .before .before .before .before .before .before) _ _ _ (c .before .before .before .before .if10 .taken) (c .before .before .before .before .before .step .ensures) (c .before .before .narrow .ensures)) (h .valid .room) _ (less (c .before .before .before .before .before .before .before .before .before .before)) (h .fine) (h .target) _ (c .before .asks .ensures) (c .if11 .taken)
 
 array-copy-out-y-2 : tie.Need-array-copy-out-y-2 Inv-loop2 μ-loop2 Inv-loop μ-loop
 array-copy-out-y-2 c =
-    let h = stands (c .before .before .before .before .before .before .before .before .before) in
-    asks-number _ _ _ _ _ _ (took (c .before .before .before .before .before) _ _ (c .before .before .before .before .step .ensures)) (h .valid .room) _ (less (c .before .before .before .before .before .before .before .before .before)) (h .fine) (h .target) _ (c .before .before .asks .ensures) (c .before .if11 .taken) _ (c .arg-at4 .ensures)
+    let h = stands (c .before .before .before .before .before .before .before .before .before .before .before) in
+    asks-number _ _ _ _ _ _ (narrows (c .before .before .before .before .before .before .before) _ _ _ (c .before .before .before .before .before .if10 .taken) (c .before .before .before .before .before .before .step .ensures) (c .before .before .before .narrow .ensures)) (h .valid .room) _ (less (c .before .before .before .before .before .before .before .before .before .before .before)) (h .fine) (h .target) _ (c .before .before .asks .ensures) (c .before .if11 .taken) _ (c .arg-at4 .ensures)
 
 mul-y-2 : tie.Need-mul-y-2 Inv-loop2 μ-loop2 Inv-loop μ-loop
 mul-y-2 c = let l = array-copy-out-y-2 c in record { fits = omega (arith, l) }
 
 pass-over-requires : tie.Need-pass-over-requires Inv-loop2 μ-loop2 Inv-loop μ-loop
 pass-over-requires c κs =
-    let h = stands (c .before .before .before .before .before .before .before .before .before .before .before) in
-    let j = joined (c .before .before .before .before .before .before .before .before .before) in
-    let k = took (c .before .before .before .before .before .before .before) _ _ (c .before .before .before .before .before .before .step .ensures) in
-    let l = less (c .before .before .before .before .before .before .before .before .before .before .before) in
+    let h = stands (c .before .before .before .before .before .before .before .before .before .before .before .before .before) in
+    let j = joined (c .before .before .before .before .before .before .before .before .before .before .before) in
+    let o : c .before .before .before .before .before .before .before .before .before .before .before .before .op-at .result ≡ 9 = c .before .before .before .before .before .before .before .if10 .taken in
+    let k = narrows (c .before .before .before .before .before .before .before .before .before) _ _ _ o (c .before .before .before .before .before .before .before .before .step .ensures) (c .before .before .before .before .before .narrow .ensures) in
+    let l = less (c .before .before .before .before .before .before .before .before .before .before .before .before .before) in
     let a = c .before .before .before .before .asks .ensures in
     let t = c .before .before .before .if11 .taken in
-    let q = turn-binds _ _ _ _ _ _ _ j (h .fine) (h .target) (h .valid) (h .count) (λ z. absurd (omega (arith, sym (c .before .before .before .before .before .before .before .before .before .before .op-at .ensures) ∙ c .before .before .before .before .before .if10 .taken, z))) in (
+    let q = turn-binds _ _ _ _ _ _ _ j (h .fine) (h .target) (h .valid) (h .count) (λ z. absurd (omega (arith, sym (c .before .before .before .before .before .before .before .before .before .before .before .before .op-at .ensures) ∙ o, z))) in (
       h .target,
       (
-        c .before .before .before .before .before .before .before .before .before .before .before .before .before .before .before .before .pre .0 .placed,
+        c .before .before .before .before .before .before .before .before .before .before .before .before .before .before .before .before .before .before .pre .0 .placed,
         (
           asks-seeks _ _ _ _ _ _ k (h .valid .room) _ l (h .fine) (h .target) _ a t _ (c .before .before .arg-at4 .ensures) q,
           (asks-slotted _ _ _ _ _ _ k (h .valid .room) _ l (h .fine) (h .target) _ a t _ refl, asks-alone _ _ _ _ _ _ k (h .valid .room) _ l (h .fine) (h .target) _ a t),
@@ -310,6 +335,7 @@ advance-spec =
     loop2-again
     wrote-requires
     step-requires
+    narrow-requires
     asks-requires
     arg-at-requires-4
     mul-y-2

@@ -2,8 +2,7 @@
 use Prim.Native.Nat.{_-_}
 use native.Mathlib.Omega.{arith}
 use Rattle.tables.specs.Line.{columnsOf}
-use Rattle.value_rows.specs.Row.{formBy}
-use Rattle.search.specs.Run.{envOf}
+use Rattle.search.specs.Told.{envBy}
 use Rattle.search_rounds.proofs.Heads.{GoneTo, gone-none, gone-valid, gone-long, gone-steps, gone-left, gone-spent, gone-over, gone-next, gone-less, rules}
 use Rattle.search_rounds.proofs.first.leave_not.Statement.{statement}
 use Rattle.search_rounds.proofs.first.leave_not.Tie as tie
@@ -12,10 +11,10 @@ use Rattle.search_rounds.proofs.first.leave_not.Lts as lts
 use Rattle.search_rounds.proofs.first.once.Reads as once-reads
 
 abbrev Inv-loop : tie.InvT-loop
-Inv-loop budget n origins mt s places lines slots₀ room₀ x₀ b₀ slots room x b = GoneTo (envOf (columnsOf lines) mt s n (formBy origins)) budget x₀ slots₀ b₀ room₀ x slots b room
+Inv-loop terms mt s places lines slots₀ room₀ x₀ b₀ slots room x b = GoneTo (envBy (columnsOf lines) mt s terms) (terms .budget) x₀ slots₀ b₀ room₀ x slots b room
 
 abbrev μ-loop : tie.MeasureT-loop
-μ-loop budget n origins mt s places lines slots₀ room₀ x₀ b₀ slots room x b = budget - x .steps
+μ-loop terms mt s places lines slots₀ room₀ x₀ b₀ slots room x b = terms .budget - x .steps
 
 loop-holds : tie.Need-loop-holds Inv-loop μ-loop
 loop-holds c = gone-none _ _ _ _ _ _
@@ -27,21 +26,21 @@ returns : tie.Need-returns Inv-loop μ-loop
 returns c = gone-left (c .before .before .before .before .before .pre .1 .0) (c .before .before .before .before .loop .x) (c .before .before .before .before .loop .slots) (c .before .before .before .before .loop .b) (c .before .before .before .before .loop .room) (c .before .before .before .before .loop .inv) (c .before .before .if1 .taken) (c .if2 .taken)
 
 same-length-2 : tie.Need-same-length-2 Inv-loop μ-loop
-same-length-2 c = gone-long (c .before .before .before .before .before .before .before .pre .1 .0) (c .before .before .before .before .before .before .loop .x) (c .before .before .before .before .before .before .loop .slots) (c .before .before .before .before .before .before .loop .b) (c .before .before .before .before .before .before .loop .room) (c .before .before .before .before .before .before .loop .inv)
+same-length-2 c = gone-long (c .before .before .before .before .before .before .before .before .pre .1 .0) (c .before .before .before .before .before .before .before .loop .x) (c .before .before .before .before .before .before .before .loop .slots) (c .before .before .before .before .before .before .before .loop .b) (c .before .before .before .before .before .before .before .loop .room) (c .before .before .before .before .before .before .before .loop .inv)
 
 returns-2 : tie.Need-returns-2 Inv-loop μ-loop
-returns-2 c = gone-spent (c .before .before .before .before .before .before .before .pre .1 .0) (c .before .before .before .before .before .before .loop .x) (c .before .before .before .before .before .before .loop .slots) (c .before .before .before .before .before .before .loop .b) (c .before .before .before .before .before .before .loop .room) (c .before .before .before .before .before .before .loop .inv) (c .before .before .before .before .if1 .taken) (c .before .before .if2 .left) (c .if3 .taken)
+returns-2 c = gone-spent (c .before .before .before .before .before .before .before .before .pre .1 .0) (c .before .before .before .before .before .before .before .loop .x) (c .before .before .before .before .before .before .before .loop .slots) (c .before .before .before .before .before .before .before .loop .b) (c .before .before .before .before .before .before .before .loop .room) (c .before .before .before .before .before .before .before .loop .inv) (c .before .before .before .before .before .if1 .taken) (c .before .before .before .if2 .left) (c .if3 .taken)
 
 once-requires : tie.Need-once-requires Inv-loop μ-loop
 once-requires c κs =
-    let p = c .before .before .before .before .before .before .before .before .before .pre in
-    (p .0, (p .1 .0 .ruled .fine, (gone-valid (p .1 .0) (c .before .before .before .before .before .before .before .before .loop .x) (c .before .before .before .before .before .before .before .before .loop .slots) (c .before .before .before .before .before .before .before .before .loop .b) (c .before .before .before .before .before .before .before .before .loop .room) (c .before .before .before .before .before .before .before .before .loop .inv), gone-steps (p .1 .0) (c .before .before .before .before .before .before .before .before .loop .x) (c .before .before .before .before .before .before .before .before .loop .slots) (c .before .before .before .before .before .before .before .before .loop .b) (c .before .before .before .before .before .before .before .before .loop .room) (c .before .before .before .before .before .before .before .before .loop .inv) (p .1 .1))))
+    let p = c .before .before .before .before .before .before .before .before .before .before .pre in
+    (p .0, (p .1 .0 .ruled .fine, (gone-valid (p .1 .0) (c .before .before .before .before .before .before .before .before .before .loop .x) (c .before .before .before .before .before .before .before .before .before .loop .slots) (c .before .before .before .before .before .before .before .before .before .loop .b) (c .before .before .before .before .before .before .before .before .before .loop .room) (c .before .before .before .before .before .before .before .before .before .loop .inv), gone-steps (p .1 .0) (c .before .before .before .before .before .before .before .before .before .loop .x) (c .before .before .before .before .before .before .before .before .before .loop .slots) (c .before .before .before .before .before .before .before .before .before .loop .b) (c .before .before .before .before .before .before .before .before .before .loop .room) (c .before .before .before .before .before .before .before .before .before .loop .inv) (p .1 .1))))
 
 loop-less : tie.Need-loop-less Inv-loop μ-loop
-loop-less c = gone-less (c .before .before .before .before .before .before .before .before .before .before .before .before .before .pre .1 .0) (c .before .before .before .before .before .before .before .before .before .before .before .before .loop .x) (c .before .before .before .before .before .before .before .before .before .before .before .before .loop .slots) (c .before .before .before .before .before .before .before .before .before .before .before .before .loop .b) (c .before .before .before .before .before .before .before .before .before .before .before .before .loop .room) (c .before .before .before .before .before .before .before .before .before .before .before .before .loop .inv) (c .before .before .before .before .before .before .before .before .before .before .if1 .taken) (c .before .before .before .before .before .before .before .before .if2 .left) (let z = c .before .before .before .before .before .before .if3 .left in omega arith) (c .before .before .before .once .result .state) (c .before .before .before .once .last .1 .1 .1 .1 .1 .1 .1 .1 .0) (c .before .before .before .once .result .binds) (c .before .before .before .once .last .1 .1 .1 .1 .1 .1 .1 .1 .1 .0) (c .before .before .before .once .ensures)
+loop-less c = gone-less (c .before .before .before .before .before .before .before .before .before .before .before .before .before .before .pre .1 .0) (c .before .before .before .before .before .before .before .before .before .before .before .before .before .loop .x) (c .before .before .before .before .before .before .before .before .before .before .before .before .before .loop .slots) (c .before .before .before .before .before .before .before .before .before .before .before .before .before .loop .b) (c .before .before .before .before .before .before .before .before .before .before .before .before .before .loop .room) (c .before .before .before .before .before .before .before .before .before .before .before .before .before .loop .inv) (c .before .before .before .before .before .before .before .before .before .before .before .if1 .taken) (c .before .before .before .before .before .before .before .before .before .if2 .left) (let z = c .before .before .before .before .before .before .if3 .left in omega arith) (c .before .before .before .once .result .state) (c .before .before .before .once .last .1 .1 .1 .1 .1 .1 .1 .0) (c .before .before .before .once .result .binds) (c .before .before .before .once .last .1 .1 .1 .1 .1 .1 .1 .1 .0) (c .before .before .before .once .ensures)
 
 loop-again : tie.Need-loop-again Inv-loop μ-loop
-loop-again c = gone-next (c .before .before .before .before .before .before .before .before .before .before .before .before .before .pre .1 .0) (c .before .before .before .before .before .before .before .before .before .before .before .before .loop .x) (c .before .before .before .before .before .before .before .before .before .before .before .before .loop .slots) (c .before .before .before .before .before .before .before .before .before .before .before .before .loop .b) (c .before .before .before .before .before .before .before .before .before .before .before .before .loop .room) (c .before .before .before .before .before .before .before .before .before .before .before .before .loop .inv) (c .before .before .before .before .before .before .before .before .before .before .if1 .taken) (c .before .before .before .before .before .before .before .before .if2 .left) (let z = c .before .before .before .before .before .before .if3 .left in omega arith) (c .before .before .before .once .result .state) (c .before .before .before .once .last .1 .1 .1 .1 .1 .1 .1 .1 .0) (c .before .before .before .once .result .binds) (c .before .before .before .once .last .1 .1 .1 .1 .1 .1 .1 .1 .1 .0) (c .before .before .before .once .ensures)
+loop-again c = gone-next (c .before .before .before .before .before .before .before .before .before .before .before .before .before .before .pre .1 .0) (c .before .before .before .before .before .before .before .before .before .before .before .before .before .loop .x) (c .before .before .before .before .before .before .before .before .before .before .before .before .before .loop .slots) (c .before .before .before .before .before .before .before .before .before .before .before .before .before .loop .b) (c .before .before .before .before .before .before .before .before .before .before .before .before .before .loop .room) (c .before .before .before .before .before .before .before .before .before .before .before .before .before .loop .inv) (c .before .before .before .before .before .before .before .before .before .before .before .if1 .taken) (c .before .before .before .before .before .before .before .before .before .if2 .left) (let z = c .before .before .before .before .before .before .if3 .left in omega arith) (c .before .before .before .once .result .state) (c .before .before .before .once .last .1 .1 .1 .1 .1 .1 .1 .0) (c .before .before .before .once .result .binds) (c .before .before .before .once .last .1 .1 .1 .1 .1 .1 .1 .1 .0) (c .before .before .before .once .ensures)
 
 same-length-3 : tie.Need-same-length-3 Inv-loop μ-loop
 same-length-3 c = gone-long (c .before .before .before .pre .1 .0) (c .before .before .loop .x) (c .before .before .loop .slots) (c .before .before .loop .b) (c .before .before .loop .room) (c .before .before .loop .inv)

@@ -28,23 +28,23 @@ once-requires c κs =
 leave-not-requires : tie.Need-leave-not-requires
 leave-not-requires c κs =
     let p = c .before .before .before .before .before .before .before .before .before .before .before .before .before .pre in
-    (p .0, (first-inside (p .1 .0) (c .before .before .before .before .before .before .before .before .before .before .before .take-out .ensures) (c .before .before .before .before .before .before .before .before .before .before .alone-of .ensures) (c .before .before .before .before .before .before .once .result .state) (c .before .before .before .before .before .before .once .last .1 .1 .1 .1 .1 .1 .1 .1 .0) (c .before .before .before .before .before .before .once .result .binds) (c .before .before .before .before .before .before .once .last .1 .1 .1 .1 .1 .1 .1 .1 .1 .0) (c .before .before .before .before .before .before .once .ensures) (sym (c .before .before .before .before .before .before .before .before .before .op-at .ensures) ∙ c .before .before .if1 .taken), p .1 .1))
+    (p .0, (first-inside (p .1 .0) (c .before .before .before .before .before .before .before .before .before .before .before .take-out .ensures) (c .before .before .before .before .before .before .before .before .before .before .alone-of .ensures) (c .before .before .before .before .before .before .once .result .state) (c .before .before .before .before .before .before .once .last .1 .1 .1 .1 .1 .1 .1 .0) (c .before .before .before .before .before .before .once .result .binds) (c .before .before .before .before .before .before .once .last .1 .1 .1 .1 .1 .1 .1 .1 .0) (c .before .before .before .before .before .before .once .ensures) (sym (c .before .before .before .before .before .before .before .before .before .op-at .ensures) ∙ c .before .before .if1 .taken), p .1 .1))
 
 same-length : tie.Need-same-length
 same-length c = search rules
 
 returns : tie.Need-returns
 returns c =
-    first-left (c .before .before .before .before .before .before .before .before .before .before .before .before .before .before .before .pre .1 .0) (c .before .before .before .before .before .before .before .before .before .before .before .before .before .take-out .ensures) (c .before .before .before .before .before .before .before .before .before .before .before .before .alone-of .ensures) (c .before .before .before .before .before .before .before .before .once .result .state) (c .before .before .before .before .before .before .before .before .once .last .1 .1 .1 .1 .1 .1 .1 .1 .0) (c .before .before .before .before .before .before .before .before .once .result .binds) (c .before .before .before .before .before .before .before .before .once .last .1 .1 .1 .1 .1 .1 .1 .1 .1 .0) (c .before .before .before .before .before .before .before .before .once .ensures) (sym (c .before .before .before .before .before .before .before .before .before .before .before .op-at .ensures) ∙ c .before .before .before .before .if1 .taken)
-    (c .before .leave-not .result .spent) (c .before .leave-not .result .state) (c .before .leave-not .last .1 .1 .1 .1 .1 .1 .1 .1 .1 .0) (c .before .leave-not .result .binds)
-    (c .before .leave-not .last .1 .1 .1 .1 .1 .1 .1 .1 .1 .1 .0) (c .before .leave-not .ensures)
+    first-left (c .before .before .before .before .before .before .before .before .before .before .before .before .before .before .before .pre .1 .0) (c .before .before .before .before .before .before .before .before .before .before .before .before .before .take-out .ensures) (c .before .before .before .before .before .before .before .before .before .before .before .before .alone-of .ensures) (c .before .before .before .before .before .before .before .before .once .result .state) (c .before .before .before .before .before .before .before .before .once .last .1 .1 .1 .1 .1 .1 .1 .0) (c .before .before .before .before .before .before .before .before .once .result .binds) (c .before .before .before .before .before .before .before .before .once .last .1 .1 .1 .1 .1 .1 .1 .1 .0) (c .before .before .before .before .before .before .before .before .once .ensures) (sym (c .before .before .before .before .before .before .before .before .before .before .before .op-at .ensures) ∙ c .before .before .before .before .if1 .taken)
+    (c .before .leave-not .result .spent) (c .before .leave-not .result .state) (c .before .leave-not .last .1 .1 .1 .1 .1 .1 .1 .0) (c .before .leave-not .result .binds)
+    (c .before .leave-not .last .1 .1 .1 .1 .1 .1 .1 .1 .0) (c .before .leave-not .ensures)
 
 same-length-2 : tie.Need-same-length-2
 same-length-2 c = search rules
 
 returns-2 : tie.Need-returns-2
 returns-2 c =
-    first-plain (c .before .before .before .before .before .before .before .before .before .before .before .pre .1 .0) (c .before .before .before .before .before .before .before .before .before .take-out .ensures) (c .before .before .before .before .before .before .before .before .alone-of .ensures) (c .before .before .before .before .once .result .state) (c .before .before .before .before .once .last .1 .1 .1 .1 .1 .1 .1 .1 .0) (c .before .before .before .before .once .result .binds) (c .before .before .before .before .once .last .1 .1 .1 .1 .1 .1 .1 .1 .1 .0) (c .before .before .before .before .once .ensures) (λ z. c .if1 .left (c .before .before .before .before .before .before .before .op-at .ensures ∙ z))
+    first-plain (c .before .before .before .before .before .before .before .before .before .before .before .pre .1 .0) (c .before .before .before .before .before .before .before .before .before .take-out .ensures) (c .before .before .before .before .before .before .before .before .alone-of .ensures) (c .before .before .before .before .once .result .state) (c .before .before .before .before .once .last .1 .1 .1 .1 .1 .1 .1 .0) (c .before .before .before .before .once .result .binds) (c .before .before .before .before .once .last .1 .1 .1 .1 .1 .1 .1 .1 .0) (c .before .before .before .before .once .ensures) (λ z. c .if1 .left (c .before .before .before .before .before .before .before .op-at .ensures ∙ z))
 
 pub take-first-spec : {M : Type 1} → statement M
 take-first-spec =

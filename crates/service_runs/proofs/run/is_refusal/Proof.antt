@@ -7,4 +7,5 @@ pub is-refusal-spec : {M : Type 1} → statement M
 is-refusal-spec = tie.close (tie.spec
     (λ c. search refusal-rules)
     (λ c. search refusal-rules)
+    (λ c. search refusal-rules)
     (λ c. search refusal-rules))
