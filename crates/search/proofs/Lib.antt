@@ -11,7 +11,10 @@ pub mod Whole
 pub mod Heads
 pub mod Sweeps
 pub mod Laws
+pub mod Freshened
 pub mod Narrows
 pub mod Swept
+pub mod Leaves
+pub mod Leafed
 pub mod Begun
 pub mod Accepted

@@ -67,28 +67,28 @@ take-fails e x t b room z f = rw (z, f)
 -- The frame at j is the last that is open, a multiset's cons, with c left to choose from, not only one.
 module _ (e : Env) (j : ℕ) (cons : getD (e .op) j 0 ≡ 9) (x : State) (t : Tables) (b : List Binding) (room : List ℤ)
     (live : x .live ≡ 2) (some : x .top ≡ 0 → ⊥) (top : x .top - 1 ≡ j) (c : ℕ) (left : getD (t .lefts) j 0 ≡ c) (more : clear (trailingZeros 64 c) c ≡ 0 → ⊥) where
-  place : ℕ
+  unfoldable pub place : ℕ
   place = elementAt (e .words) (getD (t .ats) j 0) (trailingZeros 64 c)
 
-  stood : State
+  unfoldable pub stood : State
   stood = record { pc = j + 1; at = place; marks = wholeAt (e .words) place; top = x .top; live = 1; rows = x .rows; steps = x .steps; words = x .words }
 
-  chosen : Tables
+  unfoldable pub chosen : Tables
   chosen =
       tables (t .ats) (t .wholes) (set (t .lefts) j (clear (trailingZeros 64 c) c)) (t .lows) (set (t .backs) j (clear (trailingZeros 64 c) (getD (t .wholes) j 0)))
 
-  picked : settled e (run x t b room) ≡ run stood chosen b room
+  pub picked : settled e (run x t b room) ≡ run stood chosen b room
   unfolding settled afterTurn pickOf choiceOf consOf consBy topLeft nowLeft moved when place stood chosen
   picked = rw (eq-eqb (x .live) 2 live, ne-eqb (x .top) 0 some, top, cons, left, ne-eqb (clear (trailingZeros 64 c) c) 0 more)
 
   -- From another state with the same last frame the next choice is the same.
-  again : (p a m r n w : ℕ) (b′ : List Binding) (room′ : List ℤ)
+  pub again : (p a m r n w : ℕ) (b′ : List Binding) (room′ : List ℤ)
       → settled e (run (record { pc = p; at = a; marks = m; top = x .top; live = 2; rows = r; steps = n; words = w }) chosen b′ room′)
       ≡ settled e (run (record { pc = x .pc; at = x .at; marks = x .marks; top = x .top; live = x .live; rows = r; steps = n; words = w }) (putLeft j (clear (trailingZeros 64 c) c) t) b′ room′)
   unfolding settled afterTurn pickOf choiceOf consOf consBy topLeft topped nowLeft moved when chosen putLeft
   again p a m r n w b′ room′ = rw (eq-eqb (x .live) 2 live, ne-eqb (x .top) 0 some, top, cons, set-set (t .backs) j _ _)
 
-  over-fails : getD (e .op) (j + 1) 0 ≡ 5
+  pub over-fails : getD (e .op) (j + 1) 0 ≡ 5
       → isSum (e .words) (getD b (getD (e .arg) (j + 1) 0) nothing .at) (getD (e .con) (j + 1) (pos 0)) place ≡ false
       → settled e (run (timed x (x .steps + 1)) (putLeft j (clear (trailingZeros 64 c) c) t) b room) ≡ runOf e 1 (settled e (run x t b room))
   unfolding runOf stood lived counted timed

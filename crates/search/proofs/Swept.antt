@@ -37,13 +37,13 @@ pub record Kept (e : Env) (room : List ℤ) (r : Run) : Type 0 where
   pub long : length (r .room) ≡ length room
 
 module _ (e : Env) (fine : Fine e) (g : Target (e .words)) (room : List ℤ) where
-  turn-kept : (r : Run) → Kept e room r → r .state .live ≡ 1 → Kept e room (settled e (takeOf e r))
+  pub turn-kept : (r : Run) → Kept e room r → r .state .live ≡ 1 → Kept e room (settled e (takeOf e r))
   turn-kept r k l = record {
     valid = settle-keeps e fine g (takeOf e r) (take-keeps e fine g r (k .valid) l);
     long = ap length (settled-is e (takeOf e r) .room) ∙ takes-is e r (k .valid .room) .long ∙ k .long;
   }
 
-  run-kept : (n : ℕ) (r : Run) → Kept e room r → Kept e room (runOf e n r)
+  pub run-kept : (n : ℕ) (r : Run) → Kept e room r → Kept e room (runOf e n r)
   unfolding runOf
   run-kept zero r k = k
   run-kept (suc n) r k = go (eqb (r .state .live) 1) refl (λ l. run-kept n (settled e (takeOf e r)) (turn-kept r k l))

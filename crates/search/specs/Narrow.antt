@@ -19,6 +19,11 @@ unfolding when firstsAt putLeft
 narrowed everyPlace mt i s x t = t
 narrowed firstPlaces mt i s x t = when (eqb (x .marks) 0) t (when (ltb i (length mt)) (putLeft (x .top - 1) (firstsAt mt (i + 1) s (x .at) (x .marks)) t) t)
 
+-- What is known of the target itself, at the index 0, by the matcher after the rule's own tag.
+unfoldable pub freshAt : (i at fresh : ℕ) → ℕ
+unfolding when
+freshAt i at f = when (eqb i 0) (when (eqb at 0) f 0) 0
+
 -- The last open frame is that of the state's value, and every place is left.
 pub record Opened (arg : List ℕ) (s : List ℤ) (slots : List ℕ) (x : State) : Type 0 where
   pub some : 0 < x .top

@@ -8,6 +8,9 @@ use asking::is_sum_at;
 use asking::value_of;
 use narrowing::narrow;
 use search_choice::settle;
+use search_leaf::lines::leaf_at;
+use search_leaf::take;
+use search_leaf::told::Shape;
 use search_seek::asks;
 use search_seek::pass_over;
 use search_step::Asked;
@@ -32,6 +35,7 @@ use taking::filled;
 use taking::goes_on;
 use taking::is_short;
 use taking::wrote;
+use value_firsts::fresh::fresh_places;
 use value_places::places::places_of;
 use value_places::places::whole;
 use value_rows::Binding;
@@ -43,6 +47,7 @@ ghost use Prim.Native.Nat.{_-_, _<_};
 ghost use lib.ListN.{length};
 ghost use Rattle.value_places.specs.Places.{Target};
 ghost use Rattle.value_places.specs.Held.{wholeAt};
+ghost use Rattle.value_firsts.specs.Firsts.{Fresh};
 ghost use Rattle.tables.specs.Line.{columnsOf};
 ghost use Rattle.tables.specs.Slot.{viewOf};
 ghost use Rattle.search.specs.Run.{run, runOf, opening, answerOf, matched};
@@ -51,12 +56,13 @@ ghost use Rattle.search.specs.Valid.{Given, Fine, Valid};
 ghost use Rattle.search.specs.Searched.{unbound, Searched};
 
 // What a run keeps to, beside its rule and its target: the most steps, how many variables there are, whether a row tells origins, whether a
-// cons under a multiset takes first places only.
+// cons under a multiset takes first places only, and places of the target that are known to be fresh.
 pub struct Terms {
     pub budget: u64,
     pub vars: usize,
     pub origins: bool,
     pub firsts: bool,
+    pub fresh: u64,
 }
 
 // How far a run is: its state and its bindings. What waits stands in its slots.
@@ -76,7 +82,7 @@ pub fn advance(
     slots: &mut Slots,
     room: &mut [i32],
 ) -> Progress
-    requires { ⌜ Given (now s) (now places) ⌝ ∗ ⌜ Fine (envBy (columnsOf (now lines)) (now mt) (now s) terms) ⌝ ∗ ⌜ Valid (envBy (columnsOf (now lines)) (now mt) (now s) terms) (run (from .state) (viewOf (columnsOf (now lines) .arg) (now slots)) (from .binds) (now room)) ⌝ }
+    requires { ⌜ Given (now s) (now places) ⌝ ∗ ⌜ Fine (envBy (columnsOf (now lines)) (now mt) (now s) terms) ⌝ ∗ ⌜ Valid (envBy (columnsOf (now lines)) (now mt) (now s) terms) (run (from .state) (viewOf (columnsOf (now lines) .arg) (now slots)) (from .binds) (now room)) ⌝ ∗ ⌜ Fresh (now mt) 1 (now s) 0 (terms .fresh) ⌝ }
     ensures { λ r. ⌜ run (r .state) (viewOf (columnsOf (now (lines .entry)) .arg) (now (slots .exit))) (r .binds) (now (room .exit)) ≡ runOf (envBy (columnsOf (now (lines .entry))) (now (mt .entry)) (now (s .entry)) terms) (terms .budget - from .state .steps) (run (from .state) (viewOf (columnsOf (now (lines .entry)) .arg) (now (slots .entry))) (from .binds) (now (room .entry))) ⌝ }
 {
     let mut x = from.state;
@@ -114,12 +120,24 @@ pub fn advance(
         } else {
             x = x.step(Asked { same: same }, s, places, lines, slots);
             if o == MULTISET_CONS {
-                narrow(terms.firsts, x, mt, s, places, lines, slots);
+                narrow(terms, x, mt, s, places, lines, slots);
                 let sought = asks(x, lines);
                 if sought {
                     let v = arg_at(lines, x.top);
                     let y = b[v];
                     x = pass_over(x, y.at, terms.budget, s, places, lines, slots);
+                }
+                let i = leaf_at(x, lines, slots);
+                if 0 < i {
+                    let v = arg_at(lines, i);
+                    let shape = Shape {
+                        vars: terms.vars,
+                        origins: terms.origins,
+                    };
+                    let r = take(x, i, b, terms.budget, shape, s, places, lines, slots, room);
+                    x = r.state;
+                    let last = r.last;
+                    b[v] = last;
                 }
             }
         }
@@ -187,6 +205,17 @@ pub fn tell(x: State) -> Report
     }
 }
 
+// The target's fresh places, by the matcher after the rule's own tag, where they are of use.
+fn fresh_if(firsts: bool, mt: &[i32], s: &[i32], places: &Places) -> u64
+    requires { ⌜ Given (now s) (now places) ⌝ ∗ ⌜ 0 < length (now s) ⌝ }
+    ensures { λ r. ⌜ Fresh (now (mt .entry)) 1 (now (s .entry)) 0 r ⌝ }
+{
+    if !firsts {
+        return 0;
+    }
+    fresh_places(mt, 1, s, places, 0)
+}
+
 // The whole run of a program on a target: it is opened, advanced by its budget, and told.
 pub fn search(terms: Terms, mt: &[i32], s: &[i32], lines: &Lines, room: &mut [i32]) -> Report
     requires { ⌜ Target (now s) ⌝ ∗ ⌜ 0 < length (now s) ⌝ ∗ ⌜ Fine (envBy (columnsOf (now lines)) (now mt) (now s) terms) ⌝ }
@@ -196,6 +225,13 @@ pub fn search(terms: Terms, mt: &[i32], s: &[i32], lines: &Lines, room: &mut [i3
     places_of(s, &mut places);
     let mut slots = no_slots();
     let first = open(s);
-    let last = advance(first, terms, mt, s, &places, lines, &mut slots, room);
+    let known = Terms {
+        budget: terms.budget,
+        vars: terms.vars,
+        origins: terms.origins,
+        firsts: terms.firsts,
+        fresh: fresh_if(terms.firsts, mt, s, &places),
+    };
+    let last = advance(first, known, mt, s, &places, lines, &mut slots, room);
     tell(last.state)
 }

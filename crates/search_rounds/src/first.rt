@@ -50,6 +50,7 @@ fn once(
         vars: terms.vars,
         origins: terms.origins,
         firsts: terms.firsts,
+        fresh: 0,
     };
     let from = Progress {
         state: x,

@@ -56,6 +56,7 @@ fn carry_out(
         vars: n,
         origins: origins,
         firsts: firsts,
+        fresh: 0,
     };
     let r = search_rounds(terms, matcher, target, &lines, table, room);
     Matched {

@@ -19,6 +19,7 @@ ghost use Rattle.services.specs.Matches.{Admitted};
 ghost use Rattle.tables.specs.Line.{columnsOf};
 ghost use Rattle.tables.specs.Slot.{slotCount, viewOf};
 ghost use Rattle.value_places.specs.Places.{Target};
+ghost use Rattle.value_firsts.specs.Firsts.{Fresh};
 ghost use Rattle.search.specs.Run.{run, runOf};
 ghost use Rattle.search.specs.Told.{envBy};
 ghost use Rattle.search.specs.Valid.{Fine, Valid};
@@ -52,7 +53,7 @@ fn search_on(
     slots: &mut Slots,
     room: &mut [i32],
 ) -> Progress
-    requires { ⌜ Target (now t) ⌝ ∗ ⌜ Fine (envBy (columnsOf (now lines)) (now m) (now t) terms) ⌝ ∗ ⌜ Valid (envBy (columnsOf (now lines)) (now m) (now t) terms) (run (from .state) (viewOf (columnsOf (now lines) .arg) (now slots)) (from .binds) (now room)) ⌝ }
+    requires { ⌜ Target (now t) ⌝ ∗ ⌜ Fine (envBy (columnsOf (now lines)) (now m) (now t) terms) ⌝ ∗ ⌜ Valid (envBy (columnsOf (now lines)) (now m) (now t) terms) (run (from .state) (viewOf (columnsOf (now lines) .arg) (now slots)) (from .binds) (now room)) ⌝ ∗ ⌜ Fresh (now m) 1 (now t) 0 (terms .fresh) ⌝ }
     ensures { λ r. ⌜ run (r .state) (viewOf (columnsOf (now (lines .entry)) .arg) (now (slots .exit))) (r .binds) (now (room .exit)) ≡ runOf (envBy (columnsOf (now (lines .entry))) (now (m .entry)) (now (t .entry)) terms) (terms .budget - from .state .steps) (run (from .state) (viewOf (columnsOf (now (lines .entry)) .arg) (now (slots .entry))) (from .binds) (now (room .entry))) ⌝ }
 {
     let mut places = no_places();
@@ -79,7 +80,7 @@ fn try_on(
     slots: &mut Slots,
     room: &mut [i32],
 ) -> Tried
-    requires { ⌜ Target (now t) ⌝ ∗ ⌜ Fine (envBy (columnsOf (now lines)) (now m) (now t) terms) ⌝ ∗ ⌜ Numbered (columnsOf (now lines) .arg) (now slots) ⌝ ∗ ⌜ Closes (columnsOf (now lines) .op) (columnsOf (now lines) .arg) ⌝ ∗ ⌜ from .state .live ≡ 1 ⌝ }
+    requires { ⌜ Target (now t) ⌝ ∗ ⌜ Fine (envBy (columnsOf (now lines)) (now m) (now t) terms) ⌝ ∗ ⌜ Numbered (columnsOf (now lines) .arg) (now slots) ⌝ ∗ ⌜ Closes (columnsOf (now lines) .op) (columnsOf (now lines) .arg) ⌝ ∗ ⌜ (from .state .live ≡ 1) × Fresh (now m) 1 (now t) 0 (terms .fresh) ⌝ }
     ensures { λ r. ⌜ Tries (envBy (columnsOf (now (lines .entry))) (now (m .entry)) (now (t .entry)) terms) (terms .budget - from .state .steps) (run (from .state) (viewOf (columnsOf (now (lines .entry)) .arg) (now (slots .entry))) (from .binds) (now (room .entry))) (r .sound) (run (r .progress .state) (viewOf (columnsOf (now (lines .entry)) .arg) (now (slots .exit))) (r .progress .binds) (now (room .exit))) ⌝ ∗ ⌜ Still (r .sound) (now (slots .entry)) (now (slots .exit)) (now (room .entry)) (now (room .exit)) ⌝ }
 {
     let b = from.binds;
@@ -128,6 +129,7 @@ pub fn carry_on(
         vars: n,
         origins: picks.origins,
         firsts: picks.firsts,
+        fresh: 0,
     };
     try_on(from, terms, m, t, &lines, slots, room)
 }

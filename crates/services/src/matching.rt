@@ -63,6 +63,7 @@ fn carry_out(
         vars: n,
         origins: origins,
         firsts: firsts,
+        fresh: 0,
     };
     let r = search(terms, matcher, target, &lines, room);
     Matched {

@@ -142,6 +142,9 @@ module _ (s : List ℤ) (at left stop : ℕ) (g : Target s) (w : Held s at left)
   pub top-64 : k < 64
   top-64 = omega (arith, top-in, g .small at (w .tag))
 
+  pub top-below : (a : ℕ) → a ≡ 2 ^ k → left - a < 2 ^ k
+  top-below a e = let p = pow-suc 2 k in omega (arith, top .1)
+
   pub top-le : (a : ℕ) → a ≡ 2 ^ k → a ≤ left
   top-le a e = omega (arith, top .0)
 
@@ -191,34 +194,4 @@ module _ (mt : List ℤ) (i : ℕ) (s : List ℤ) (at m : ℕ) where
       let z : left ≡ stop = omega (arith, b .are) in
       sym (e ∙ ap (λ (x : ℕ). out + firstsAt mt i s at x) z)
 
-pub ruleset above-rules = (top-some, top-in, top-64, top-le, top-held, top-lower, top-less, top-room, top-sum, top-again, begins, firsts-out, needs)
-
--- ---- The upper half and the lower.
-
-pub half-lower : (m l : ℕ) → l ≡ m % 4294967296 → Lower m l
-half-lower m l e = record { digits = 32; are = e }
-
-pub none-lower : (l : ℕ) → Lower l 0
-none-lower l = record { digits = 0; are = omega arith }
-
-pub half-held : (s : List ℤ) (at m l : ℕ) → Held s at m → l ≡ m % 4294967296 → Held s at l
-half-held s at m l w e = held-less s at m l w (omega arith)
-
-module _ (mt : List ℤ) (i : ℕ) (s : List ℤ) (at m l u : ℕ) (e : u + firstsAt mt i s at l ≡ firstsAt mt i s at m) where
-  none : firstsAt mt i s at 0 ≡ 0
-  unfolding firstsAt firstsOf
-  none = none-kept (equal (matcherAt mt i)) [] (elements (valueAt s at))
-
-  pub half-none : l ≡ 0 → u ≡ firstsAt mt i s at m
-  half-none z = let q : firstsAt mt i s at l ≡ 0 = ap (firstsAt mt i s at) z ∙ none in omega arith
-
-  pub half-both : (v : ℕ) → v + firstsAt mt i s at 0 ≡ firstsAt mt i s at l → u + v ≡ firstsAt mt i s at m
-  half-both v f = let q = none in omega arith
-
-  pub half-fits : Target s → Held s at m → (v : ℕ) → v + firstsAt mt i s at 0 ≡ firstsAt mt i s at l → Fits w64 (u + v)
-  half-fits g w v f =
-      let q = none in
-      let r : firstsAt mt i s at m ≤ m = firsts-few mt i s at m in
-      record { fits = omega (arith, held-64 s at m g w) }
-
-pub ruleset half-rules = (half-lower, none-lower, half-held, half-none, half-both, half-fits, needs)
+pub ruleset above-rules = (top-some, top-in, top-64, top-below, top-le, top-held, top-lower, top-less, top-room, top-sum, top-again, begins, firsts-out, needs)

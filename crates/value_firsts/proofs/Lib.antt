@@ -2,3 +2,4 @@
 pub mod Differing
 pub mod Last
 pub mod Laws
+pub mod Freshly

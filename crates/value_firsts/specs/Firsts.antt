@@ -1,5 +1,5 @@
 -- Document 02, No. 13: of the elements that marks leave of a collection, the first place of each value that differs.
-use Prim.Native.Nat.{ℕ, zero, suc, _+_, _*_, _/_, _%_, _^_}
+use Prim.Native.Nat.{ℕ, zero, suc, _+_, _*_, _/_, _%_, _^_, _<_}
 use mathlib.Core.Path.{_≡_}
 use mathlib.Core.Bool.{Bool, true, false, cond}
 use mathlib.Core.List.{List, [], _∷_, _++_, map}
@@ -7,10 +7,11 @@ use lib.IntN.{ℤ}
 use Rattle.rules.specs.Forms.{Value, Values, empty, _▸_}
 use Rattle.rules.specs.Equality.{equal}
 use Rattle.rules.specs.Search.{anyEqual}
-use Rattle.words.specs.Marks.{positions}
+use Rattle.words.specs.Marks.{digit, positions}
 use Rattle.words.specs.Marked.{nth}
 use Rattle.matchers.specs.Places.{matcherAt}
-use Rattle.value_places.specs.Places.{valueAt, elements}
+use Rattle.value_places.specs.Places.{valueAt, elements, elementAt}
+use Rattle.value_equality.specs.Equality.{wholesEqual}
 
 -- By a digit: 0, or 1.
 abbrev pub byDigit : ℕ → ℕ → ℕ → ℕ
@@ -51,3 +52,11 @@ keptWith out k false = out + 2 ^ k
 pub record Lower (m stop : ℕ) : Type 0 where
   pub digits : ℕ
   pub are : stop ≡ m % 2 ^ digits
+
+-- Element k of a collection is equal to none of its first n.
+pub record New (mt : List ℤ) (i : ℕ) (s : List ℤ) (at k n : ℕ) : Type 0 where
+  pub none : (j : ℕ) → j < n → wholesEqual mt i s (elementAt s at j) (elementAt s at k) ≡ false
+
+-- Places whose elements are equal to none before them.
+pub record Fresh (mt : List ℤ) (i : ℕ) (s : List ℤ) (at f : ℕ) : Type 0 where
+  pub new : (k : ℕ) → digit k f ≡ 1 → New mt i s at k k

@@ -1,4 +1,6 @@
 // Document 02, No. 13: of the elements that are left of a collection, the first place of each value that differs.
+pub mod fresh;
+
 use tables::place::Places;
 use value_equality::equal;
 use value_equality::same_integers;
@@ -7,6 +9,7 @@ use value_places::places::whole;
 use words::marks::lowest;
 use words::marks::one;
 use words::marks::rest;
+use words::marks::without;
 use words::matcher;
 use words::tag_at;
 ghost use mathlib.Core.Path.{_≡_};
@@ -16,10 +19,7 @@ ghost use Rattle.value_places.specs.Places.{Target, Tag, countAt};
 ghost use Rattle.value_places.specs.Tables.{Placed};
 ghost use Rattle.value_places.specs.Held.{Held};
 ghost use Rattle.value_equality.specs.Equality.{wholesEqual};
-ghost use Rattle.value_firsts.specs.Firsts.{firstsAt, beforeAt, keptWith, Lower};
-
-// The lower 32 of 64 marks are the remainder by this.
-const HALF: u64 = 4294967296;
+ghost use Rattle.value_firsts.specs.Firsts.{firstsAt, beforeAt, keptWith, Lower, Fresh};
 
 // The highest place marked.
 fn highest(m: u64) -> u32
@@ -30,7 +30,7 @@ fn highest(m: u64) -> u32
 }
 
 // Two whole values under the matcher at an index; integers without a call of the comparison of nested values.
-fn same_values(mt: &[i32], i: usize, s: &[i32], places: &Places, a: usize, b: usize) -> bool
+pub fn same_values(mt: &[i32], i: usize, s: &[i32], places: &Places, a: usize, b: usize) -> bool
     requires { ⌜ Target (now s) ⌝ ∗ ⌜ Placed (now s) (now places) ⌝ ∗ ⌜ Tag (now s) a ⌝ ∗ ⌜ Tag (now s) b ⌝ }
     ensures { λ r. ⌜ r ≡ wholesEqual (now (mt .entry)) i (now (s .entry)) a b ⌝ }
 {
@@ -59,7 +59,7 @@ fn is_before(mt: &[i32], i: usize, s: &[i32], places: &Places, at: usize, m: u64
 }
 
 // The marks with place k, unless it was seen.
-fn kept(out: u64, k: u32, seen: bool) -> u64
+pub fn kept(out: u64, k: u32, seen: bool) -> u64
     requires { ⌜ k < 64 ⌝ ∗ ⌜ out + 2 ^ k < 2 ^ 64 ⌝ }
     ensures { λ r. ⌜ r ≡ keptWith out k seen ⌝ }
 {
@@ -69,41 +69,45 @@ fn kept(out: u64, k: u32, seen: bool) -> u64
     out + one(k)
 }
 
-// The first places among the marks m above the marks `stop`, which are the n lowest digits of m; from the last mark on, since then what is left is what
-// stands before.
-pub fn firsts_above(
+// Marks of a collection, those above the marks `stop`, which are the n lowest digits of them; and fresh places, whose elements are equal to none before.
+pub struct Span {
+    pub marks: u64,
+    pub stop: u64,
+    pub fresh: u64,
+}
+
+// Whether one of the marked elements, which stand before element k, is equal to it: of a fresh one nothing is asked.
+fn is_seen(
+    fresh: u64,
     mt: &[i32],
     i: usize,
     s: &[i32],
     places: &Places,
     at: usize,
     m: u64,
-    stop: u64,
-) -> u64
-    requires { ⌜ Target (now s) ⌝ ∗ ⌜ Placed (now s) (now places) ⌝ ∗ ⌜ Held (now s) at m ⌝ ∗ ⌜ Lower m stop ⌝ }
-    ensures { λ r. ⌜ r + firstsAt (now (mt .entry)) i (now (s .entry)) at stop ≡ firstsAt (now (mt .entry)) i (now (s .entry)) at m ⌝ }
+    k: u32,
+) -> bool
+    requires { ⌜ Target (now s) ⌝ ∗ ⌜ Placed (now s) (now places) ⌝ ∗ ⌜ Held (now s) at m ⌝ ∗ ⌜ (k < countAt (now s) at) × (k < 64) × (m < 2 ^ k) ⌝ ∗ ⌜ Fresh (now mt) i (now s) at fresh ⌝ }
+    ensures { λ r. ⌜ r ≡ beforeAt (now (mt .entry)) i (now (s .entry)) at m k ⌝ }
 {
-    let mut left = m;
+    if without(fresh, k) < fresh {
+        return false;
+    }
+    is_before(mt, i, s, places, at, m, k)
+}
+
+// The first places among the marks of a span; from the last mark on, since then what is left is what stands before.
+pub fn firsts_above(mt: &[i32], i: usize, s: &[i32], places: &Places, at: usize, span: Span) -> u64
+    requires { ⌜ Target (now s) ⌝ ∗ ⌜ Placed (now s) (now places) ⌝ ∗ ⌜ Held (now s) at (span .marks) ⌝ ∗ ⌜ Lower (span .marks) (span .stop) ⌝ ∗ ⌜ Fresh (now mt) i (now s) at (span .fresh) ⌝ }
+    ensures { λ r. ⌜ r + firstsAt (now (mt .entry)) i (now (s .entry)) at (span .stop) ≡ firstsAt (now (mt .entry)) i (now (s .entry)) at (span .marks) ⌝ }
+{
+    let mut left = span.marks;
     let mut out: u64 = 0;
-    while stop < left {
+    while span.stop < left {
         let k = highest(left);
         left = left - one(k);
-        let seen = is_before(mt, i, s, places, at, left, k);
+        let seen = is_seen(span.fresh, mt, i, s, places, at, left, k);
         out = kept(out, k, seen);
     }
     out
-}
-
-// The first places of the marked elements of the collection at an index, under the element matcher at i: those of the upper half and of the lower. (Two
-// calls keep the loop a function apart from the search's own.)
-pub fn first_places(mt: &[i32], i: usize, s: &[i32], places: &Places, at: usize, m: u64) -> u64
-    requires { ⌜ Target (now s) ⌝ ∗ ⌜ Placed (now s) (now places) ⌝ ∗ ⌜ Held (now s) at m ⌝ }
-    ensures { λ r. ⌜ r ≡ firstsAt (now (mt .entry)) i (now (s .entry)) at m ⌝ }
-{
-    let low = m % HALF;
-    let upper = firsts_above(mt, i, s, places, at, m, low);
-    if low == 0 {
-        return upper;
-    }
-    upper + firsts_above(mt, i, s, places, at, low, 0)
 }

@@ -25,6 +25,7 @@ use Rattle.value_rows.proofs.Room.{length-put}
 use Rattle.search.proofs.Laws.{turned-path, goes-live, goes-less, Here, here-start, here-end, Asked, asked-3, asked-4, asked-5, asked-6, asked-below, asked-above, took-full, took-wrote, Taken, taken-is, taken-chosen, taken-step, turn-row, turn-steps, turn-binds, settled-by, Ready, ready, ready-place, ready-constant, ready-number, ready-number-mul, ready-bound, ready-sum, fine-named}
 use Rattle.search.proofs.Narrows.{narrow-code, narrow-asks}
 use Rattle.search.proofs.Swept.{Swept, here-swept, swept-less, swept-at, swept-none, taken-opens, asks-place, asks-number, asks-seeks, asks-slotted, asks-alone, swept-over}
+use Rattle.search.proofs.Leafed.{leaf-looks, leaf-takes, leaf-slotted, leaf-alone, leaf-number, swept-leaf, swept-as}
 use Rattle.search.proofs.advance.Statement.{statement}
 use Rattle.search.proofs.advance.Tie as tie
 
@@ -100,30 +101,42 @@ narrows c y u u′ z e q =
 less : (c : tie.Then1 Inv-loop2 μ-loop2 Inv-loop μ-loop) → c .before .before .loop .x .steps < c .before .before .before .before .before .args .terms .budget
 less c = goes-less _ _ _ (c .before .goes-on .ensures) (c .if1 .taken)
 
--- Where a row and a step meet: the state is taken up, and choices may be passed over.
+-- After a multiset's cons: choices may be passed over.
+sought : (c : tie.Joined11 Inv-loop2 μ-loop2 Inv-loop μ-loop)
+    → Swept (program (c .before .before .before .before .before .before .before .before .before .before .before .before)) (current (c .before .before .before .before .before .before .before .before .before .before .before .before)) (c .before .before .before .before .before .before .before .before .before .before .before .before .before .before .before .args .terms .budget) (c .if11 .x) (viewOf (columnsOf (c .before .before .before .before .before .before .before .before .before .before .before .before .before .before .before .args .lines .now) .arg) (c .if11 .slots)) (c .before .before .before .before .before .before .before .before .if2 .b) (c .before .before .before .before .before .before .before .before .before .before .before .before .loop .room)
+sought c =
+    let h = stands (c .before .before .before .before .before .before .before .before .before .before) in
+    let l = less (c .before .before .before .before .before .before .before .before .before .before) in
+    let k = narrows (c .before .before .before .before .before .before) _ _ _ (c .before .before .before .before .if10 .taken) (c .before .before .before .before .before .step .ensures) (c .before .before .narrow .ensures) in
+    ⊎-elim
+    (λ w. swept-at _ _ _ _ _ _ _ _ _ _ (w .6) (ap (viewOf _) (w .5)) refl (swept-over _ _ _ _ _ _ k (h .valid .room) _ l (h .fine) (h .target) _ (c .before .asks .ensures) (w .0 .taken) _ (w .1 .ensures) _ _ (w .4 .ensures)))
+    (λ w. swept-at _ _ _ _ _ _ _ _ _ _ (w .2) (ap (viewOf _) (w .1)) refl (swept-none _ _ _ _ _ _ k (h .valid .room) _ l))
+    (c .if11 .came)
+
+-- Where a row and a step meet: the state is taken up, and choices may be passed over or taken up.
 met : (c : tie.Joined7 Inv-loop2 μ-loop2 Inv-loop μ-loop)
-    → Swept (program (c .before .before .before .before .before)) (current (c .before .before .before .before .before)) (c .before .before .before .before .before .before .before .before .args .terms .budget) (c .if7 .x) (viewOf (columnsOf (c .before .before .before .before .before .before .before .before .args .lines .now) .arg) (c .if7 .slots)) (c .before .if2 .b) (c .if7 .room)
+    → Swept (program (c .before .before .before .before .before)) (current (c .before .before .before .before .before)) (c .before .before .before .before .before .before .before .before .args .terms .budget) (c .if7 .x) (viewOf (columnsOf (c .before .before .before .before .before .before .before .before .args .lines .now) .arg) (c .if7 .slots)) (c .if7 .b) (c .if7 .room)
 met c = let h = stands (c .before .before .before) in let p = c .before .before .op-at .ensures in let l = less (c .before .before .before) in ⊎-elim
-    (λ w. swept-none _ _ _ _ _ _ (taken-is _ _ _ _ _ _ _ (joined (c .before)) (h .fine) (h .target) (h .valid) (h .count) (h .live) _ _ _
-    (took-full _ _ _ _ _ _ _ (joined (c .before)) _ _ _ (sym p ∙ w .0 .taken) (ltb-true _ _ (sym (w .1 .ensures) ∙ w .2 .taken)) (w .6 ∙ w .3 .ensures) (ap (viewOf _) (w .4)) (w .5))) (h .valid .room) _ l)
+    (λ w. swept-as _ _ _ _ _ _ _ _ _ _ _ refl refl (w .7) refl (swept-none _ _ _ _ _ _ (taken-is _ _ _ _ _ _ _ (joined (c .before)) (h .fine) (h .target) (h .valid) (h .count) (h .live) _ _ _
+    (took-full _ _ _ _ _ _ _ (joined (c .before)) _ _ _ (sym p ∙ w .0 .taken) (ltb-true _ _ (sym (w .1 .ensures) ∙ w .2 .taken)) (w .6 ∙ w .3 .ensures) (ap (viewOf _) (w .4)) (w .5))) (h .valid .room) _ l))
     (⊎-elim
     (λ w. let k = rows (record { before = c .before; if7 = w .0 }) .bound in
     let i = w .3 .inv in
-    swept-none _ _ _ _ _ _ (taken-is _ _ _ _ _ _ _ (joined (c .before)) (h .fine) (h .target) (h .valid) (h .count) (h .live) _ _ _
+    swept-as _ _ _ _ _ _ _ _ _ _ _ refl refl (w .10) refl (swept-none _ _ _ _ _ _ (taken-is _ _ _ _ _ _ _ (joined (c .before)) (h .fine) (h .target) (h .valid) (h .count) (h .live) _ _ _
     (took-wrote _ _ _ _ _ _ _ (joined (c .before)) _ _ _ _ (sym p ∙ w .0 .taken) (ltb-false _ _ (sym (w .1 .ensures) ∙ w .2 .left)) (w .9 ∙ w .6 .ensures)
-    (row-out-size _ _ _ _ _ _ _ k (i .3) (w .5 .left)) (ap (viewOf _) (w .7)) (w .8 ∙ row-out _ _ _ _ _ _ _ _ k (i .4) (w .5 .left)))) (h .valid .room) _ l)
+    (row-out-size _ _ _ _ _ _ _ k (i .3) (w .5 .left)) (ap (viewOf _) (w .7)) (w .8 ∙ row-out _ _ _ _ _ _ _ _ k (i .4) (w .5 .left)))) (h .valid .room) _ l))
     (⊎-elim
-    (λ w. let k = narrows (record { before = record { before = c .before; if7 = w .0 }; step-arg = w .1 }) _ _ _ (w .3 .taken) (w .2 .ensures) (w .5 .ensures) in
-    swept-at _ _ _ _ _ _ _ _ _ _ (w .14) (ap (viewOf _) (w .12)) (w .13) (swept-over _ _ _ _ _ _ k (h .valid .room) _ l (h .fine) (h .target) _ (w .6 .ensures) (w .7 .taken) _ (w .8 .ensures) _ _ (w .11 .ensures)))
+    (λ w. let q = sought (record { before = record { before = record { before = record { before = record { before = record { before = record { before = record { before = c .before; if7 = w .0 }; step-arg = w .1 }; step = w .2 }; if10 = w .3 }; narrow-arg = w .4 }; narrow = w .5 }; asks = w .6 }; if11 = w .7 }) in
+    swept-as _ _ _ _ _ _ _ _ _ _ _ (w .20) (ap (viewOf _) (w .18)) (w .21) (w .19) (swept-leaf _ _ _ _ _ (c .before .before .before .before .before .loop .inv) (h .fine) (h .target) (h .live) _ _ _ _ q _ (w .9 .ensures (w .10 .taken)) _ refl _ _ _ _ _ (w .11 .ensures) (w .14 .ensures)))
     (⊎-elim
-    (λ w. let k = narrows (record { before = record { before = c .before; if7 = w .0 }; step-arg = w .1 }) _ _ _ (w .3 .taken) (w .2 .ensures) (w .5 .ensures) in
-    swept-at _ _ _ _ _ _ _ _ _ _ (w .10) (ap (viewOf _) (w .8)) (w .9) (swept-none _ _ _ _ _ _ k (h .valid .room) _ l))
+    (λ w. let q = sought (record { before = record { before = record { before = record { before = record { before = record { before = record { before = record { before = c .before; if7 = w .0 }; step-arg = w .1 }; step = w .2 }; if10 = w .3 }; narrow-arg = w .4 }; narrow = w .5 }; asks = w .6 }; if11 = w .7 }) in
+    swept-as _ _ _ _ _ _ _ _ _ _ _ (w .13) (ap (viewOf _) (w .11)) (w .14) (w .12) q)
     (λ w. let k = took (record { before = record { before = c .before; if7 = w .0 }; step-arg = w .1 }) _ _ (w .3 .left) (w .2 .ensures) in
-    swept-at _ _ _ _ _ _ _ _ _ _ (w .6) (ap (viewOf _) (w .4)) (w .5) (swept-none _ _ _ _ _ _ k (h .valid .room) _ l)))))
+    swept-as _ _ _ _ _ _ _ _ _ _ _ (w .6) (ap (viewOf _) (w .4)) (w .7) (w .5) (swept-none _ _ _ _ _ _ k (h .valid .room) _ l)))))
     (c .if7 .came)
 
 loop-holds : tie.Need-loop-holds Inv-loop2 μ-loop2 Inv-loop μ-loop
-loop-holds c = here-start _ _ _ (c .before .before .pre .1 .1)
+loop-holds c = here-start _ _ _ (c .before .before .pre .1 .1 .0)
 
 goes-on-requires : tie.Need-goes-on-requires Inv-loop2 μ-loop2 Inv-loop μ-loop
 goes-on-requires c κs = search needs
@@ -236,8 +249,11 @@ narrow-requires c κs =
     let o : c .before .before .before .before .before .before .op-at .result ≡ 9 = c .before .if10 .taken in
     let z = sym (c .before .before .before .before .before .before .op-at .ensures) ∙ o in (
       c .before .before .before .before .before .before .before .before .before .before .before .before .pre .0,
-      narrow-asks _ _ _ (columnsOf (c .before .before .before .before .before .before .before .before .before .before .before .before .args .lines .now) .mat) _ _ (c .before .before .before .before .before .before .before .before .before .before .before .before .args .mt .now) _ _ _ _ z (h .valid .long) (h .valid .place) _ _ (c .before .before .step .ensures) (h .valid .held) _ refl
-          (h .fine .slot _) (h .fine .alone _ (h .valid .place) (omega (arith, z)) (omega (arith, z))),
+      (
+        narrow-asks _ _ _ (columnsOf (c .before .before .before .before .before .before .before .before .before .before .before .before .args .lines .now) .mat) _ _ (c .before .before .before .before .before .before .before .before .before .before .before .before .args .mt .now) _ _ _ _ z (h .valid .long) (h .valid .place) _ _ (c .before .before .step .ensures) (h .valid .held) _ refl
+            (h .fine .slot _) (h .fine .alone _ (h .valid .place) (omega (arith, z)) (omega (arith, z))),
+        c .before .before .before .before .before .before .before .before .before .before .before .before .pre .1 .1 .1,
+      ),
     )
 
 asks-requires : tie.Need-asks-requires Inv-loop2 μ-loop2 Inv-loop μ-loop
@@ -277,6 +293,33 @@ pass-over-requires c κs =
         ),
       ),
     )
+
+leaf-at-requires : tie.Need-leaf-at-requires Inv-loop2 μ-loop2 Inv-loop μ-loop
+leaf-at-requires c κs = let h = stands (c .before .before .before .before .before .before .before .before .before .before .before) in leaf-looks _ _ _ _ _ (c .before .before .before .before .before .before .before .before .before .before .before .before .before .loop .inv) (h .fine) (h .target) (h .live) _ _ _ _ (sought (c .before)) _ refl
+
+arg-at-requires-5 : tie.Need-arg-at-requires-5 Inv-loop2 μ-loop2 Inv-loop μ-loop
+arg-at-requires-5 c κs = c .before .leaf-at .ensures (c .if12 .taken) .tested .place
+
+take-requires : tie.Need-take-requires Inv-loop2 μ-loop2 Inv-loop μ-loop
+take-requires c κs =
+    let h = stands (c .before .before .before .before .before .before .before .before .before .before .before .before .before .before .before .before) in
+    let q = sought (c .before .before .before .before .before .before) in
+    let i = c .before .before .before .before .leaf-at .ensures (c .before .before .before .if12 .taken) in (
+      h .target,
+      (
+        c .before .before .before .before .before .before .before .before .before .before .before .before .before .before .before .before .before .before .before .before .before .pre .0 .placed,
+        (
+          leaf-takes _ _ _ _ _ (c .before .before .before .before .before .before .before .before .before .before .before .before .before .before .before .before .before .before .loop .inv) (h .fine) (h .target) (h .live) _ _ _ _ q _ i,
+          (leaf-slotted _ _ _ _ _ (c .before .before .before .before .before .before .before .before .before .before .before .before .before .before .before .before .before .before .loop .inv) (h .fine) (h .target) (h .live) _ _ _ _ q _ i _ refl, leaf-alone _ _ _ _ _ (c .before .before .before .before .before .before .before .before .before .before .before .before .before .before .before .before .before .before .loop .inv) (h .fine) (h .target) (h .live) _ _ _ _ q _ i),
+        ),
+      ),
+    )
+
+array-set-from-b-2 : tie.Need-array-set-from-b-2 Inv-loop2 μ-loop2 Inv-loop μ-loop
+array-set-from-b-2 c = let h = stands (c .before .before .before .before .before .before .before .before .before .before .before .before .before .before .before .before .before .before .before .before) in leaf-number _ _ _ _ _ (c .before .before .before .before .before .before .before .before .before .before .before .before .before .before .before .before .before .before .before .before .before .before .loop .inv) (h .fine) (h .target) (h .live) _ _ _ _ (sought (c .before .before .before .before .before .before .before .before .before .before)) _ (c .before .before .before .before .before .before .before .before .leaf-at .ensures (c .before .before .before .before .before .before .before .if12 .taken)) _ (c .before .before .before .before .before .before .arg-at5 .ensures)
+
+mul-b-2 : tie.Need-mul-b-2 Inv-loop2 μ-loop2 Inv-loop μ-loop
+mul-b-2 c = let l = array-set-from-b-2 c in record { fits = omega (arith, l) }
 
 settle-requires : tie.Need-settle-requires Inv-loop2 μ-loop2 Inv-loop μ-loop
 settle-requires c κs =
@@ -341,6 +384,11 @@ advance-spec =
     mul-y-2
     array-copy-out-y-2
     pass-over-requires
+    leaf-at-requires
+    arg-at-requires-5
+    take-requires
+    mul-b-2
+    array-set-from-b-2
     settle-requires
     loop-less
     loop-again

@@ -8,10 +8,10 @@ use Rattle.value_firsts.proofs.firsts_above.Statement.{statement}
 use Rattle.value_firsts.proofs.firsts_above.Tie as tie
 
 abbrev Inv-loop : tie.InvT-loop
-Inv-loop mt i s places at m stop left₀ out₀ left out = (firstsAt mt i s at m ≡ out + firstsAt mt i s at left) × Held s at left × (out + left ≤ m) × Lower left stop
+Inv-loop mt i s places at span left₀ out₀ left out = (firstsAt mt i s at (span .marks) ≡ out + firstsAt mt i s at left) × Held s at left × (out + left ≤ span .marks) × Lower left (span .stop)
 
 abbrev μ-loop : tie.MeasureT-loop
-μ-loop mt i s places at m stop left₀ out₀ left out = left
+μ-loop mt i s places at span left₀ out₀ left out = left
 
 pub firsts-above-spec : {M : Type 1} → statement M
 firsts-above-spec = tie.close (tie.spec
@@ -21,7 +21,7 @@ firsts-above-spec = tie.close (tie.spec
     (λ c κs. search above-rules)
     (λ c κs. search above-rules)
     (λ c. search above-rules)
-    (λ c κs. search above-rules)
+    (λ c κs. (search above-rules, (search above-rules, (search above-rules, ((search above-rules, search above-rules, search above-rules), search above-rules)))))
     (λ c κs. search above-rules)
     (λ c. search above-rules)
     (λ c. (search above-rules, search above-rules, search above-rules, search above-rules))

@@ -10,12 +10,12 @@ try-on-spec = tie.close (tie.spec
     (λ c κs.
     let p = c .before .before .before .before .before .before .before .pre in
     let i = c .before .before .before .before .is-sound in
-    (p .0, (p .1 .0, try-valid _ _ _ _ _ (p .1 .1 .1 .1) (i .result) (i .ensures) (p .1 .1 .0) (c .before .before .before .if1 .left))))
+    (p .0, (p .1 .0, (try-valid _ _ _ _ _ (p .1 .1 .1 .1 .0) (i .result) (i .ensures) (p .1 .1 .0) (c .before .before .before .if1 .left), p .1 .1 .1 .1 .1))))
     (λ c. search try-rules)
     (λ c. search try-rules)
     (λ c κs.
     let p = c .before .before .before .before .before .before .before .pre in
     let i = c .before .before .before .before .is-sound in
-    (p .0, (p .1 .0, try-valid _ _ _ _ _ (p .1 .1 .1 .1) (i .result) (i .ensures) (p .1 .1 .0) (c .before .before .before .if1 .left))))
+    (p .0, (p .1 .0, (try-valid _ _ _ _ _ (p .1 .1 .1 .1 .0) (i .result) (i .ensures) (p .1 .1 .0) (c .before .before .before .if1 .left), p .1 .1 .1 .1 .1))))
     (λ c. search try-rules)
     (λ c. search try-rules))
