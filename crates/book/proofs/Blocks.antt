@@ -8,14 +8,14 @@ use mathlib.Core.List.{List, [], _∷_}
 use lib.ListN.{length, getD}
 use lib.Dec.{eqb, T}
 use borrow.Author.Tests.{ne-eqb}
-use Rattle.book_rules.specs.Sums.{word, checked}
-use Rattle.book_rules.specs.Blocks.{Block, badgeOf, both, unless, orElse, known, formed, liveFormed, holds, taken, verdict}
+use Rattle.book_rules.specs.Sums.{word, checked, andAlso}
+use Rattle.book_rules.specs.Blocks.{Block, badgeOf, unless, orElse, known, formed, liveFormed, holds, taken, verdict}
 use Rattle.book_rules.specs.Books.{inUse, fault, walk, place}
 use Rattle.book_rules.specs.Bytes.{blockAt, blocksFrom, bookOf}
 use Rattle.book_rules.specs.Round.{holds-true}
 use Rattle.book_rules.specs.Noticed.{good-number}
 use Rattle.book_rules.specs.Views.{Bytes, block-of, block-sized, length-blocks}
-use Rattle.book_rules.specs.Walks.{First, place-some, walk-at, or-second, last-test, both-fst, held-is, holds-zero}
+use Rattle.book_rules.specs.Walks.{First, place-some, walk-at, or-second, last-test, andAlso-fst, held-is, holds-zero}
 use Rattle.book_rules.specs.Kept.{good-walk}
 use Rattle.book.specs.Testing.{found}
 use Rattle.book.specs.declared.testing.Found.{Found}
@@ -42,7 +42,7 @@ good-formed k ys b h =
     let r1 = or-second (unless (checked b) 12) _ h in
     let r2 = or-second (unless (eqb (word b 0) k) 13) _ r1 in
     let r3 = or-second (unless (known (word b 1)) 14) _ r2 in
-    both-fst (formed b) _ (last-test (both (formed b) (not (taken (badgeOf b) ys))) 15 (omega arith) r3)
+    andAlso-fst (formed b) _ (last-test (andAlso (formed b) (not (taken (badgeOf b) ys))) 15 (omega arith) r3)
 
 pub formed-live : (b : Block) → formed b ≡ true → (badgeOf b ≡ 0 → ⊥) → liveFormed b ≡ true
 unfolding formed

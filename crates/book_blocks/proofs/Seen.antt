@@ -8,8 +8,8 @@ use lib.ListN.{length, drop, take}
 use lib.Seq.{sets, sets-eq, take-at, take-take, take-nil}
 use lib.Dec.{eqb}
 use lib.IntN.{ℤ}
-use Rattle.book_rules.specs.Sums.{word}
-use Rattle.book_rules.specs.Blocks.{both, zeros, signed, joined}
+use Rattle.book_rules.specs.Sums.{word, andAlso}
+use Rattle.book_rules.specs.Blocks.{zeros, signed, joined}
 use Rattle.book_rules.specs.Bytes.{wordAt, wordsFrom, blockAt}
 use Rattle.book_rules.specs.Views.{word-of}
 
@@ -31,7 +31,7 @@ unfolding zeros wordsFrom
 zeros-front s at zero d = refl
 zeros-front s at (suc n) d =
     let a : suc n + d ≡ suc (n + d) = omega arith in
-    ap (λ (m : ℕ). zeros (suc n) (wordsFrom s at m)) a ∙ ap (λ (t : Bool). both (eqb (wordAt s at) 0) t) (zeros-front s (2 + at) n d)
+    ap (λ (m : ℕ). zeros (suc n) (wordsFrom s at m)) a ∙ ap (λ (t : Bool). andAlso (eqb (wordAt s at) 0) t) (zeros-front s (2 + at) n d)
 
 -- n words from word j on, whatever follows them.
 pub zeros-seen : (s : List ℕ) (at j n m : ℕ) → j + n ≤ 256 → at + 2 * j ≡ m → zeros n (drop j (wordsFrom s at 256)) ≡ zeros n (wordsFrom s m n)

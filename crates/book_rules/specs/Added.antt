@@ -12,7 +12,7 @@ use lib.Dec.{eqb, leb, T, leb→le}
 use Rattle.book_rules.specs.Blocks.{Block, Entry, counts, written, badgeOf, entryOf, unless, orElse, known, holds, taken, verdict}
 use Rattle.book_rules.specs.Books.{Book, inUse, walk, fault, Told, unlessRefused, changed, place, withdrawn, live, total, readAt, read, dialectFor, proper, slot, isSome, addFault, addAt, addIn, add}
 use Rattle.book_rules.specs.Round.{is-false, holds-true, eqb-other, Ranged, Fit, entry-back, written-badge, written-good}
-use Rattle.book_rules.specs.Walks.{place-other, stored, take-stored, holds-own, held-is, walk-stored, place-some, place-stored, live-added, or-first, or-second, last-test, both-fst, both-snd}
+use Rattle.book_rules.specs.Walks.{place-other, stored, take-stored, holds-own, held-is, walk-stored, place-some, place-stored, live-added, or-first, or-second, last-test, andAlso-fst, andAlso-snd}
 use Rattle.book_rules.specs.Kept.{good-walk, good-lent, good-book, Slot, lowest, slot-is, Place, placed-by, total-is, found-is, withdrawn-holds}
 
 some-is : (o : Option ℕ) → isSome o ≡ true → (i : ℕ) × (o ≡ some i)
@@ -59,17 +59,17 @@ module _ (e : Entry) (b : Book) (ok : addFault e b ≡ 0) where
 
   add-badge : e .badge ≢ 0
   unfolding proper
-  add-badge z = subst T (sym (ap (λ (x : ℕ). eqb x 0) z) ∙ not-true (eqb (e .badge) 0) (both-fst (not (eqb (e .badge) 0)) _ add-proper)) tt
+  add-badge z = subst T (sym (ap (λ (x : ℕ). eqb x 0) z) ∙ not-true (eqb (e .badge) 0) (andAlso-fst (not (eqb (e .badge) 0)) _ add-proper)) tt
 
   pub fit : Ranged (e .matcher) → Ranged (e .pattern) → Fit e
   unfolding proper
   fit rm rp =
-      let r = both-snd (not (eqb (e .badge) 0)) _ add-proper in
+      let r = andAlso-snd (not (eqb (e .badge) 0)) _ add-proper in
       record {
         version = add-version;
         badge = add-badge;
-        dialect = both-fst (dialectFor (e .version) (e .dialect)) _ r;
-        rule = both-snd (dialectFor (e .version) (e .dialect)) _ r;
+        dialect = andAlso-fst (dialectFor (e .version) (e .dialect)) _ r;
+        rule = andAlso-snd (dialectFor (e .version) (e .dialect)) _ r;
         short = add-short;
         matcher = rm;
         pattern = rp;

@@ -8,7 +8,7 @@ use lib.Dec.{eqb, leb, ltb}
 use lib.IntN.{ℤ, pos, negsuc}
 use Rattle.rules.specs.Dialects.{dialectOf}
 use Rattle.rules.specs.Services.{Judged, accepted, refused, Rule, ruleIn}
-use Rattle.book_rules.specs.Sums.{word, due, checked}
+use Rattle.book_rules.specs.Sums.{word, due, checked, andAlso}
 
 abbrev pub Block : Type 0
 Block = List ℕ
@@ -88,10 +88,6 @@ entryOf b = record {
 
 -- ---- 12 check, 13 block number, 14 version, 15 form.
 
-unfoldable pub both : Bool → Bool → Bool
-both true b = b
-both false b = false
-
 -- 0, or the refusal if the test fails; the first of two refusals.
 unfoldable pub unless : Bool → ℕ → ℕ
 unless true n = 0
@@ -105,10 +101,10 @@ unfoldable pub known : ℕ → Bool
 known v = elim (eqb v 1) [ true ↦ true | false ↦ eqb v 2 ]
 
 unfoldable pub zeros : ℕ → List ℕ → Bool
-unfolding both
+unfolding andAlso
 zeros zero ws = true
 zeros (suc n) [] = true
-zeros (suc n) (w ∷ ws) = both (eqb w 0) (zeros n ws)
+zeros (suc n) (w ∷ ws) = andAlso (eqb w 0) (zeros n ws)
 
 unfoldable pub isAccepted : Judged Rule → Bool
 isAccepted (accepted r) = true
@@ -121,9 +117,9 @@ isRule dialect ms ps = elim (dialectOf dialect) [ none ↦ false | some d ↦ is
 
 -- A live block: n at most 124, the matcher's length at most n, every word after the rule zero, and review's 1 to 4 (reading 69).
 unfoldable pub liveFormed : Block → Bool
-unfolding both zeros lengthIn isRule entryOf
-liveFormed b = both (leb (word b 3) 124) (both (leb (lengthIn (word b 1) (word b 4)) (word b 3))
-    (both (zeros (249 - 2 * word b 3) (drop (5 + 2 * word b 3) b)) (isRule (entryOf b .dialect) (entryOf b .matcher) (entryOf b .pattern))))
+unfolding andAlso zeros lengthIn isRule entryOf
+liveFormed b = andAlso (leb (word b 3) 124) (andAlso (leb (lengthIn (word b 1) (word b 4)) (word b 3))
+    (andAlso (zeros (249 - 2 * word b 3) (drop (5 + 2 * word b 3) b)) (isRule (entryOf b .dialect) (entryOf b .matcher) (entryOf b .pattern))))
 
 -- A withdrawn one: "all words from 3 to the check zero".
 unfoldable pub formed : Block → Bool
@@ -132,8 +128,8 @@ formed b = elim (eqb (badgeOf b) 0) [ true ↦ zeros 251 (drop 3 b) | false ↦ 
 
 -- A live rule of this badge; 0 is none.
 unfoldable pub holds : ℕ → Block → Bool
-unfolding both
-holds badge b = both (not (eqb badge 0)) (eqb (badgeOf b) badge)
+unfolding andAlso
+holds badge b = andAlso (not (eqb badge 0)) (eqb (badgeOf b) badge)
 
 unfoldable pub taken : ℕ → List Block → Bool
 unfolding holds
@@ -142,9 +138,9 @@ taken badge (b ∷ bs) = elim (holds badge b) [ true ↦ true | false ↦ taken 
 
 -- Block k, after these: "a badge live twice" is told at the second (reading 66).
 unfoldable pub verdict : ℕ → List Block → Block → ℕ
-unfolding checked unless orElse known both formed taken
+unfolding checked unless orElse known andAlso formed taken
 verdict k earlier b =
     orElse (unless (checked b) 12)
     (orElse (unless (eqb (word b 0) k) 13)
     (orElse (unless (known (word b 1)) 14)
-    (unless (both (formed b) (not (taken (badgeOf b) earlier))) 15)))
+    (unless (andAlso (formed b) (not (taken (badgeOf b) earlier))) 15)))

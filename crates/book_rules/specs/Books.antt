@@ -5,8 +5,8 @@ use mathlib.Core.Option.{Option, none, some}
 use mathlib.Core.List.{List, [], _∷_}
 use lib.ListN.{length, take, set, getD}
 use lib.Dec.{eqb, leb, ltb}
-use Rattle.book_rules.specs.Sums.{word}
-use Rattle.book_rules.specs.Blocks.{Block, Entry, counts, written, emptied, badgeOf, entryOf, both, unless, orElse, known, isRule, holds, taken, verdict}
+use Rattle.book_rules.specs.Sums.{word, andAlso}
+use Rattle.book_rules.specs.Blocks.{Block, Entry, counts, written, emptied, badgeOf, entryOf, unless, orElse, known, isRule, holds, taken, verdict}
 
 pub record Book : Type 0 where
   pub lent : List Block
@@ -99,13 +99,13 @@ unfoldable pub dialectFor : (version dialect : ℕ) → Bool
 dialectFor v d = elim (eqb d 1) [ true ↦ true | false ↦ elim (eqb d 2) [ true ↦ eqb v 2 | false ↦ false ] ]
 
 unfoldable pub proper : Entry → Bool
-unfolding both dialectFor isRule
-proper e = both (not (eqb (e .badge) 0)) (both (dialectFor (e .version) (e .dialect)) (isRule (e .dialect) (e .matcher) (e .pattern)))
+unfolding andAlso dialectFor isRule
+proper e = andAlso (not (eqb (e .badge) 0)) (andAlso (dialectFor (e .version) (e .dialect)) (isRule (e .dialect) (e .matcher) (e .pattern)))
 
 -- "A new rule takes the lowest withdrawn block before the book grows." Blocks past number 65,535 count as not lent.
 unfoldable pub growth : Book → Option ℕ
-unfolding both
-growth b = elim (both (ltb (b .used) (length (b .lent))) (ltb (b .used) 65536)) [ true ↦ some (b .used) | false ↦ none ]
+unfolding andAlso
+growth b = elim (andAlso (ltb (b .used) (length (b .lent))) (ltb (b .used) 65536)) [ true ↦ some (b .used) | false ↦ none ]
 
 unfoldable pub slotOr : Option ℕ → Option ℕ → Option ℕ
 slotOr (some i) other = some i

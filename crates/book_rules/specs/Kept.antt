@@ -8,10 +8,11 @@ use mathlib.Core.Logic.{_≢_}
 use mathlib.Core.List.{[]}
 use lib.ListN.{length, getD, length-take}
 use lib.Dec.{leb, ltb, T, eqb→eq, leb→le, le→leb, ltb→lt}
-use Rattle.book_rules.specs.Blocks.{Block, Entry, badgeOf, both, unless, orElse, holds, taken}
+use Rattle.book_rules.specs.Sums.{andAlso}
+use Rattle.book_rules.specs.Blocks.{Block, Entry, badgeOf, unless, orElse, holds, taken}
 use Rattle.book_rules.specs.Books.{Book, inUse, walk, fault, Told, unlessRefused, changed, place, withdrawn, live, total, readAt, read, withdrawFrom, withdraw, growth, slotOr, slot, addFault, addIn, add}
 use Rattle.book_rules.specs.Round.{is-true, is-false, holds-true}
-use Rattle.book_rules.specs.Walks.{holds-zero, held-is, First, place-some, place-none, or-first, or-second, or-both, last-test, both-fst, both-snd}
+use Rattle.book_rules.specs.Walks.{holds-zero, held-is, First, place-some, place-none, or-first, or-second, or-both, last-test, andAlso-fst, andAlso-snd}
 
 -- ---- (e) A refused call changes no block.
 
@@ -93,14 +94,14 @@ pub slot-is : (b : Book) (i : ℕ) → slot b ≡ some i → Slot b i
 unfolding slot
 slot-is b i h = by (place withdrawn (inUse b)) refl h
   where
-    next : (t : Bool) → both (ltb (b .used) (length (b .lent))) (ltb (b .used) 65536) ≡ t → place withdrawn (inUse b) ≡ none → growth b ≡ some i → Slot b i
+    next : (t : Bool) → andAlso (ltb (b .used) (length (b .lent))) (ltb (b .used) 65536) ≡ t → place withdrawn (inUse b) ≡ none → growth b ≡ some i → Slot b i
     next true p e q =
         let c : growth b ≡ some (b .used) = unfold growth in rw (p, growth) in
         let s : some (b .used) ≡ some i = sym c ∙ q in
         let u : b .used ≡ i = cc in
         grown (place-none withdrawn (inUse b) e) (sym u)
-        (ltb→lt (b .used) (length (b .lent)) (holds-true (both-fst (ltb (b .used) (length (b .lent))) (ltb (b .used) 65536) p)))
-        (ltb→lt (b .used) 65536 (holds-true (both-snd (ltb (b .used) (length (b .lent))) (ltb (b .used) 65536) p)))
+        (ltb→lt (b .used) (length (b .lent)) (holds-true (andAlso-fst (ltb (b .used) (length (b .lent))) (ltb (b .used) 65536) p)))
+        (ltb→lt (b .used) 65536 (holds-true (andAlso-snd (ltb (b .used) (length (b .lent))) (ltb (b .used) 65536) p)))
     next false p e q =
         let c : growth b ≡ none = unfold growth in rw (p, growth) in
         let s : none ≡ some i = sym c ∙ q in
@@ -115,7 +116,7 @@ slot-is b i h = by (place withdrawn (inUse b)) refl h
         let s : some j ≡ some i = sym (unfold slotOr in ap (λ (x : Option ℕ). slotOr x (growth b)) e) ∙ h in
         let u : j ≡ i = cc in
         lowest (place-some withdrawn (inUse b) i (e ∙ ap some u))
-    by none e h = next (both (ltb (b .used) (length (b .lent))) (ltb (b .used) 65536)) refl e (sym (unfold slotOr in ap (λ (x : Option ℕ). slotOr x (growth b)) e) ∙ h)
+    by none e h = next (andAlso (ltb (b .used) (length (b .lent))) (ltb (b .used) 65536)) refl e (sym (unfold slotOr in ap (λ (x : Option ℕ). slotOr x (growth b)) e) ∙ h)
 
 pub record Place (b : Book) (i : ℕ) : Type 0 where
   pub low : i ≤ b .used

@@ -8,8 +8,8 @@ use mathlib.Core.List.{List, [], _∷_}
 use lib.ListN.{length, set, length-set}
 use lib.Seq.{getD-set-same, getD-set-other}
 use lib.Dec.{eqb, T, eqb→eq}
-use Rattle.book_rules.specs.Sums.{word, checked, change-noticed, exchanged, exchange-noticed, Alike, same-place, first-last, last-first}
-use Rattle.book_rules.specs.Blocks.{Block, unless, orElse, known, both, formed, taken, verdict}
+use Rattle.book_rules.specs.Sums.{word, checked, change-noticed, exchanged, exchange-noticed, Alike, same-place, first-last, last-first, andAlso}
+use Rattle.book_rules.specs.Blocks.{Block, unless, orElse, known, formed, taken, verdict}
 
 -- A block as the game lends it: 256 words of 16 bits.
 pub record Sized (b : Block) : Type 0 where

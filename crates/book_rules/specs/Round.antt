@@ -9,8 +9,8 @@ use lib.ListN.{length, getD, take, drop, replicate, length-append, length-replic
 use lib.Dec.{eqb, leb, ltb, T, eqb→eq, eqb-refl, lt→ltb, ltb→lt, leb→le, le→leb, nltb→le}
 use lib.IntN.{ℤ, pos, negsuc}
 use Rattle.rules.specs.Numbers.{inRange}
-use Rattle.book_rules.specs.Sums.{word, placed, due, said, checked}
-use Rattle.book_rules.specs.Blocks.{Block, unsigned, signed, split, joined, Entry, counts, laid, sealed, written, emptied, lengthIn, dialectIn, badgeOf, entryOf, both, unless, orElse, known, zeros, isRule, liveFormed, formed, holds, taken, verdict}
+use Rattle.book_rules.specs.Sums.{word, placed, due, said, checked, andAlso}
+use Rattle.book_rules.specs.Blocks.{Block, unsigned, signed, split, joined, Entry, counts, laid, sealed, written, emptied, lengthIn, dialectIn, badgeOf, entryOf, unless, orElse, known, zeros, isRule, liveFormed, formed, holds, taken, verdict}
 use Rattle.book_rules.specs.Books.{dialectFor}
 
 -- ---- Tests that hold.
@@ -44,9 +44,9 @@ ltb-false m n h = is-false (ltb m n) (λ t. absurd (clash (ltb→lt m n t) h))
     clash : m < n → n ≤ m → ⊥
     clash p q = omega arith
 
-pub both-true : {a b : Bool} → a ≡ true → b ≡ true → both a b ≡ true
-unfolding both
-both-true {b = b} p q = ap (λ (x : Bool). both x b) p ∙ q
+pub andAlso-true : {a b : Bool} → a ≡ true → b ≡ true → andAlso a b ≡ true
+unfolding andAlso
+andAlso-true {b = b} p q = ap (λ (x : Bool). andAlso x b) p ∙ q
 
 -- ---- Halves.
 
@@ -101,7 +101,7 @@ module _ {A : Type 0} where
   drop-first (x ∷ xs) ys = drop-first xs ys
 
 zeros-replicate : (n : ℕ) (rest : List ℕ) → zeros n (replicate n 0 ++ rest) ≡ true
-unfolding zeros both
+unfolding zeros andAlso
 zeros-replicate zero rest = refl
 zeros-replicate (suc n) rest = zeros-replicate n rest
 
@@ -197,16 +197,16 @@ entry-is {v} {b} p q r = λ i. record { version = v; badge = b; dialect = p i; m
 formed-by : (b : Block) → eqb (badgeOf b) 0 ≡ false → leb (word b 3) 124 ≡ true → leb (lengthIn (word b 1) (word b 4)) (word b 3) ≡ true
     → zeros (249 - 2 * word b 3) (drop (5 + 2 * word b 3) b) ≡ true → isRule (entryOf b .dialect) (entryOf b .matcher) (entryOf b .pattern) ≡ true → formed b ≡ true
 unfolding formed liveFormed
-formed-by b p q r s t = ap (λ (x : Bool). elim x as (λ _. Bool) [ true ↦ zeros 251 (drop 3 b) | false ↦ liveFormed b ]) p ∙ both-true q (both-true r (both-true s t))
+formed-by b p q r s t = ap (λ (x : Bool). elim x as (λ _. Bool) [ true ↦ zeros 251 (drop 3 b) | false ↦ liveFormed b ]) p ∙ andAlso-true q (andAlso-true r (andAlso-true s t))
 
 good-by : (k : ℕ) (earlier : List Block) (b : Block) → checked b ≡ true → word b 0 ≡ k → known (word b 1) ≡ true → formed b ≡ true
     → taken (badgeOf b) earlier ≡ false → verdict k earlier b ≡ 0
-unfolding verdict orElse unless both
+unfolding verdict orElse unless andAlso
 good-by k earlier b c n v f t = rw (c, n, eqb-self k, v, f, t)
 
 -- Badge 0 is never live.
 pub none-taken : (bs : List Block) → taken 0 bs ≡ false
-unfolding taken holds both
+unfolding taken holds andAlso
 none-taken [] = refl
 none-taken (b ∷ bs) = none-taken bs
 

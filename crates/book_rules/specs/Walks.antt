@@ -8,8 +8,8 @@ use mathlib.Core.Logic.{_≢_}
 use mathlib.Core.List.{List, [], _∷_, _++_}
 use lib.ListN.{length, getD, take, set}
 use lib.Dec.{eqb, T, eqb→eq}
-use Rattle.book_rules.specs.Sums.{word, checked}
-use Rattle.book_rules.specs.Blocks.{Block, badgeOf, both, unless, orElse, known, formed, holds, taken, verdict}
+use Rattle.book_rules.specs.Sums.{word, checked, andAlso}
+use Rattle.book_rules.specs.Blocks.{Block, badgeOf, unless, orElse, known, formed, holds, taken, verdict}
 use Rattle.book_rules.specs.Books.{walk, place, withdrawn, live}
 use Rattle.book_rules.specs.Round.{is-true, is-false, holds-true, eqb-self, eqb-other, none-taken}
 
@@ -60,7 +60,7 @@ taken-there x b bs h = by (holds x b) refl
     by false p = rw (p, taken) h
 
 pub holds-own : (b : Block) → badgeOf b ≢ 0 → holds (badgeOf b) b ≡ true
-unfolding holds both
+unfolding holds andAlso
 holds-own b h = rw (eqb-other (badgeOf b) 0 h, eqb-self (badgeOf b))
 
 pub taken-own : (b : Block) (bs : List Block) → badgeOf b ≢ 0 → taken (badgeOf b) (b ∷ bs) ≡ true
@@ -69,15 +69,15 @@ taken-own b bs h = rw (holds-own b h, taken)
 
 -- A block holds no other badge than its own.
 pub held-is : (x : ℕ) (b : Block) → T (holds x b) → badgeOf b ≡ x
-unfolding holds both
+unfolding holds andAlso
 held-is x b h = by (eqb x 0) h
   where
-    by : (t : Bool) → T (both (not t) (eqb (badgeOf b) x)) → badgeOf b ≡ x
+    by : (t : Bool) → T (andAlso (not t) (eqb (badgeOf b) x)) → badgeOf b ≡ x
     by true h = absurd h
     by false h = eqb→eq (badgeOf b) x h
 
 pub holds-zero : (b : Block) → holds 0 b ≡ false
-unfolding holds both
+unfolding holds andAlso
 holds-zero b = refl
 
 -- ---- The walk.
@@ -104,15 +104,15 @@ unfolding unless
 last-test true n h e = refl
 last-test false n h e = absurd (h e)
 
-pub both-fst : (a b : Bool) → both a b ≡ true → a ≡ true
-unfolding both
-both-fst true b h = refl
-both-fst false b h = h
+pub andAlso-fst : (a b : Bool) → andAlso a b ≡ true → a ≡ true
+unfolding andAlso
+andAlso-fst true b h = refl
+andAlso-fst false b h = h
 
-pub both-snd : (a b : Bool) → both a b ≡ true → b ≡ true
-unfolding both
-both-snd true b h = h
-both-snd false b h = absurd (subst T (sym h) tt)
+pub andAlso-snd : (a b : Bool) → andAlso a b ≡ true → b ≡ true
+unfolding andAlso
+andAlso-snd true b h = h
+andAlso-snd false b h = absurd (subst T (sym h) tt)
 
 -- A verdict hangs on the blocks before only by the badge.
 pub verdict-moved : (k : ℕ) (xs ys : List Block) (b : Block) → (taken (badgeOf b) xs ≡ false → taken (badgeOf b) ys ≡ false) → verdict k xs b ≡ 0 → verdict k ys b ≡ 0
@@ -124,15 +124,15 @@ verdict-moved k xs ys b f h =
     let r2 = or-second (unless (eqb (word b 0) k) 13) _ r1 in
     let three = or-first (unless (known (word b 1)) 14) _ r2 in
     let r3 = or-second (unless (known (word b 1)) 14) _ r2 in
-    let both-hold = last-test (both (formed b) (not (taken (badgeOf b) xs))) 15 (omega arith) r3 in
-    or-both one (or-both two (or-both three (fifteen (both-fst (formed b) _ both-hold) (f (untaken (taken (badgeOf b) xs) (both-snd (formed b) _ both-hold))))))
+    let both-hold = last-test (andAlso (formed b) (not (taken (badgeOf b) xs))) 15 (omega arith) r3 in
+    or-both one (or-both two (or-both three (fifteen (andAlso-fst (formed b) _ both-hold) (f (untaken (taken (badgeOf b) xs) (andAlso-snd (formed b) _ both-hold))))))
   where
     untaken : (t : Bool) → not t ≡ true → t ≡ false
     untaken true h = absurd (subst T (sym h) tt)
     untaken false h = refl
 
-    fifteen : formed b ≡ true → taken (badgeOf b) ys ≡ false → unless (both (formed b) (not (taken (badgeOf b) ys))) 15 ≡ 0
-    fifteen p q = ap₂ (λ (x y : Bool). unless (both x (not y)) 15) p q ∙ unfold unless both in refl
+    fifteen : formed b ≡ true → taken (badgeOf b) ys ≡ false → unless (andAlso (formed b) (not (taken (badgeOf b) ys))) 15 ≡ 0
+    fifteen p q = ap₂ (λ (x y : Bool). unless (andAlso x (not y)) 15) p q ∙ unfold unless andAlso in refl
 
 pub walk-moved : (k : ℕ) (xs ys bs : List Block) → ((x : ℕ) → taken x bs ≡ true → taken x xs ≡ false → taken x ys ≡ false) → walk k xs bs ≡ 0 → walk k ys bs ≡ 0
 unfolding walk
@@ -349,7 +349,7 @@ verdict-new k xs b h =
     let r1 = or-second (unless (checked b) 12) _ h in
     let r2 = or-second (unless (eqb (word b 0) k) 13) _ r1 in
     let r3 = or-second (unless (known (word b 1)) 14) _ r2 in
-    untaken (taken (badgeOf b) xs) (both-snd (formed b) _ (last-test (both (formed b) (not (taken (badgeOf b) xs))) 15 (omega arith) r3))
+    untaken (taken (badgeOf b) xs) (andAlso-snd (formed b) _ (last-test (andAlso (formed b) (not (taken (badgeOf b) xs))) 15 (omega arith) r3))
   where
     untaken : (t : Bool) → not t ≡ true → t ≡ false
     untaken true h = absurd (subst T (sym h) tt)

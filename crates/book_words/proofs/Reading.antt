@@ -14,8 +14,8 @@ use borrow.Author.Tests.{eq-eqb, ne-eqb, ltb-true, ltb-false}
 use mir.Syntax.{w16, w32}
 use mir.Val.{Fits, toZ, ofZ}
 use mir.Facts.{ofZ-toZ, toZ-pos, toZ-neg}
-use Rattle.book_rules.specs.Sums.{placed, due, said, checked}
-use Rattle.book_rules.specs.Blocks.{both, zeros, signed, joined}
+use Rattle.book_rules.specs.Sums.{placed, due, said, checked, andAlso}
+use Rattle.book_rules.specs.Blocks.{zeros, signed, joined}
 use Rattle.book_rules.specs.Bytes.{wordAt, wordsFrom}
 use Rattle.book_rules.specs.Views.{word-of}
 use Rattle.book_words.specs.Halves.{Placed, halves}
@@ -111,28 +111,28 @@ check-is s at a b e f =
 
 -- ---- Zeros.
 
-zeros-step : (s : List ℕ) (at n : ℕ) → zeros (suc n) (wordsFrom s at (suc n)) ≡ both (eqb (wordAt s at) 0) (zeros n (wordsFrom s (2 + at) n))
+zeros-step : (s : List ℕ) (at n : ℕ) → zeros (suc n) (wordsFrom s at (suc n)) ≡ andAlso (eqb (wordAt s at) 0) (zeros n (wordsFrom s (2 + at) n))
 unfolding zeros wordsFrom
 zeros-step s at n = refl
 
 abbrev pub zerosFrom : List ℕ → ℕ → ℕ → ℕ → Bool
 zerosFrom s at n i = zeros (n - i) (wordsFrom s (at + 2 * i) (n - i))
 
-zeros-on : (s : List ℕ) (at n i : ℕ) → i < n → zerosFrom s at n i ≡ both (eqb (wordAt s (at + 2 * i)) 0) (zerosFrom s at n (i + 1))
+zeros-on : (s : List ℕ) (at n i : ℕ) → i < n → zerosFrom s at n i ≡ andAlso (eqb (wordAt s (at + 2 * i)) 0) (zerosFrom s at n (i + 1))
 zeros-on s at n i h =
     let a : n - i ≡ suc (n - (i + 1)) = omega arith in
     let c : 2 + (at + 2 * i) ≡ at + 2 * (i + 1) = omega arith in
     ap (λ (m : ℕ). zeros m (wordsFrom s (at + 2 * i) m)) a ∙ zeros-step s (at + 2 * i) (n - (i + 1))
-    ∙ ap (λ (j : ℕ). both (eqb (wordAt s (at + 2 * i)) 0) (zeros (n - (i + 1)) (wordsFrom s j (n - (i + 1))))) c
+    ∙ ap (λ (j : ℕ). andAlso (eqb (wordAt s (at + 2 * i)) 0) (zeros (n - (i + 1)) (wordsFrom s j (n - (i + 1))))) c
 
 module _ (s : List ℕ) (at n i w : ℕ) (t : Bool) (e : t ≡ zerosFrom s at n i) (h : i < n) (k : w ≡ wordAt s (at + 2 * i)) where
   pub zeros-turn : w ≡ 0 → t ≡ zerosFrom s at n (i + 1)
-  unfolding both
-  zeros-turn z = e ∙ zeros-on s at n i h ∙ ap (λ (b : Bool). both b (zerosFrom s at n (i + 1))) (eq-eqb (wordAt s (at + 2 * i)) 0 (sym k ∙ z))
+  unfolding andAlso
+  zeros-turn z = e ∙ zeros-on s at n i h ∙ ap (λ (b : Bool). andAlso b (zerosFrom s at n (i + 1))) (eq-eqb (wordAt s (at + 2 * i)) 0 (sym k ∙ z))
 
   pub zeros-ends : (w ≡ 0 → ⊥) → false ≡ t
-  unfolding both
-  zeros-ends z = sym (e ∙ zeros-on s at n i h ∙ ap (λ (b : Bool). both b (zerosFrom s at n (i + 1))) (ne-eqb (wordAt s (at + 2 * i)) 0 (λ q. z (k ∙ q))))
+  unfolding andAlso
+  zeros-ends z = sym (e ∙ zeros-on s at n i h ∙ ap (λ (b : Bool). andAlso b (zerosFrom s at n (i + 1))) (ne-eqb (wordAt s (at + 2 * i)) 0 (λ q. z (k ∙ q))))
 
 pub zeros-begin : (s : List ℕ) (at n : ℕ) → zeros n (wordsFrom s at n) ≡ zerosFrom s at n 0
 zeros-begin s at n = let a : at ≡ at + 2 * 0 = omega arith in let b : n ≡ n - 0 = omega arith in ap₂ (λ (j m : ℕ). zeros m (wordsFrom s j m)) a b

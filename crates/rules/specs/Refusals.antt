@@ -66,99 +66,99 @@ pair = nums (4 ∷ 2 ∷ 1 ∷ 1 ∷ [])
 abbrev wildcard : List ℤ
 wildcard = nums (0 ∷ [])
 
-abbrev none : List ℤ
-none = []
+abbrev noWords : List ℤ
+noWords = []
 
 unfoldable pub table : List Case
 table =
     -- 1 matcher
-    refuses none none none 1 0  -- cut short
-    ∷ refuses (nums (2 ∷ 3 ∷ [])) none none 1 2
-    ∷ refuses (nums (5 ∷ [])) none none 1 0  -- a wrong tag
-    ∷ refuses (minus 1 ∷ []) none none 1 0
-    ∷ refuses (nums (3 ∷ 9 ∷ [])) none none 1 1
-    ∷ refuses (nums (1 ∷ 1 ∷ [])) none none 1 1  -- left over
-    ∷ refuses (nums (3 ∷ 0 ∷ 5 ∷ 5 ∷ [])) none none 1 2
+    refuses noWords noWords noWords 1 0  -- cut short
+    ∷ refuses (nums (2 ∷ 3 ∷ [])) noWords noWords 1 2
+    ∷ refuses (nums (5 ∷ [])) noWords noWords 1 0  -- a wrong tag
+    ∷ refuses (minus 1 ∷ []) noWords noWords 1 0
+    ∷ refuses (nums (3 ∷ 9 ∷ [])) noWords noWords 1 1
+    ∷ refuses (nums (1 ∷ 1 ∷ [])) noWords noWords 1 1  -- left over
+    ∷ refuses (nums (3 ∷ 0 ∷ 5 ∷ 5 ∷ [])) noWords noWords 1 2
     ∷ passes (nums (2 ∷ 2 ∷ 2 ∷ 2 ∷ 1 ∷ [])) wildcard (braces []) 1 3  -- four tags 2 or 3
     ∷ refuses (nums (2 ∷ 2 ∷ 2 ∷ 2 ∷ 2 ∷ 1 ∷ [])) wildcard (braces []) 1 4  -- a fifth
     ∷ refuses (nums (2 ∷ 3 ∷ 2 ∷ 3 ∷ 3 ∷ [])) wildcard (braces []) 1 4  -- a fifth that also ends the slice
-    ∷ refuses (replicate 64 (pos 1)) none none 1 1  -- 64 words, left over
-    ∷ refuses (replicate 65 (pos 1)) none none 1 64  -- 65 words, before any other look
-    ∷ refuses (nums (4 ∷ [])) none none 1 1  -- a tuple cut short
-    ∷ refuses (nums (4 ∷ 2 ∷ 1 ∷ [])) none none 1 3
-    ∷ refuses (nums (4 ∷ 1 ∷ 1 ∷ [])) none none 1 1  -- a width out of range
-    ∷ refuses (nums (4 ∷ 5 ∷ 1 ∷ [])) none none 1 1
-    ∷ refuses (pos 4 ∷ minus 2 ∷ []) none none 1 1
+    ∷ refuses (replicate 64 (pos 1)) noWords noWords 1 1  -- 64 words, left over
+    ∷ refuses (replicate 65 (pos 1)) noWords noWords 1 64  -- 65 words, before any other look
+    ∷ refuses (nums (4 ∷ [])) noWords noWords 1 1  -- a tuple cut short
+    ∷ refuses (nums (4 ∷ 2 ∷ 1 ∷ [])) noWords noWords 1 3
+    ∷ refuses (nums (4 ∷ 1 ∷ 1 ∷ [])) noWords noWords 1 1  -- a width out of range
+    ∷ refuses (nums (4 ∷ 5 ∷ 1 ∷ [])) noWords noWords 1 1
+    ∷ refuses (pos 4 ∷ minus 2 ∷ []) noWords noWords 1 1
     ∷ passes (nums (4 ∷ 2 ∷ 2 ∷ 2 ∷ 2 ∷ 1 ∷ 2 ∷ 2 ∷ 2 ∷ 1 ∷ [])) wildcard (nums (2 ∷ 2 ∷ []) ++ braces [] ++ braces []) 1 3  -- four levels along each path
-    ∷ refuses (nums (2 ∷ 2 ∷ 2 ∷ 4 ∷ 2 ∷ 2 ∷ 1 ∷ 1 ∷ [])) none none 1 5  -- a fifth level
-    ∷ refuses (nums (2 ∷ 2 ∷ 2 ∷ 2 ∷ 4 ∷ [])) none none 1 4
+    ∷ refuses (nums (2 ∷ 2 ∷ 2 ∷ 4 ∷ 2 ∷ 2 ∷ 1 ∷ 1 ∷ [])) noWords noWords 1 5  -- a fifth level
+    ∷ refuses (nums (2 ∷ 2 ∷ 2 ∷ 2 ∷ 4 ∷ [])) noWords noWords 1 4
     -- 2 pattern
-    ∷ refuses integer none none 2 0  -- cut short
-    ∷ refuses integer (nums (1 ∷ [])) none 2 1
-    ∷ refuses integer (nums (3 ∷ 0 ∷ [])) none 2 2
-    ∷ refuses integer (nums (5 ∷ 0 ∷ [])) none 2 2
-    ∷ refuses integer (nums (11 ∷ [])) none 2 0  -- a wrong tag
-    ∷ refuses integer (nums (7 ∷ [])) none 2 1  -- a tuple cut short
-    ∷ refuses integer (nums (7 ∷ 3 ∷ 0 ∷ 0 ∷ [])) none 2 4
-    ∷ refuses integer (nums (7 ∷ 1 ∷ 0 ∷ [])) none 2 1  -- a width out of range
-    ∷ refuses integer (nums (7 ∷ 5 ∷ 0 ∷ [])) none 2 1
-    ∷ refuses integer (nums (8 ∷ 0 ∷ [])) none 2 2  -- and, or, not cut short
-    ∷ refuses integer (nums (9 ∷ 0 ∷ [])) none 2 2
-    ∷ refuses integer (nums (10 ∷ [])) none 2 1
-    ∷ refuses integer (nums (10 ∷ 0 ∷ 0 ∷ [])) none 2 2
-    ∷ refuses integer (pos 5 ∷ pos 0 ∷ minus 1 ∷ []) none 2 2
-    ∷ refuses integer (nums (0 ∷ 0 ∷ [])) none 2 1  -- left over
+    ∷ refuses integer noWords noWords 2 0  -- cut short
+    ∷ refuses integer (nums (1 ∷ [])) noWords 2 1
+    ∷ refuses integer (nums (3 ∷ 0 ∷ [])) noWords 2 2
+    ∷ refuses integer (nums (5 ∷ 0 ∷ [])) noWords 2 2
+    ∷ refuses integer (nums (11 ∷ [])) noWords 2 0  -- a wrong tag
+    ∷ refuses integer (nums (7 ∷ [])) noWords 2 1  -- a tuple cut short
+    ∷ refuses integer (nums (7 ∷ 3 ∷ 0 ∷ 0 ∷ [])) noWords 2 4
+    ∷ refuses integer (nums (7 ∷ 1 ∷ 0 ∷ [])) noWords 2 1  -- a width out of range
+    ∷ refuses integer (nums (7 ∷ 5 ∷ 0 ∷ [])) noWords 2 1
+    ∷ refuses integer (nums (8 ∷ 0 ∷ [])) noWords 2 2  -- and, or, not cut short
+    ∷ refuses integer (nums (9 ∷ 0 ∷ [])) noWords 2 2
+    ∷ refuses integer (nums (10 ∷ [])) noWords 2 1
+    ∷ refuses integer (nums (10 ∷ 0 ∷ 0 ∷ [])) noWords 2 2
+    ∷ refuses integer (pos 5 ∷ pos 0 ∷ minus 1 ∷ []) noWords 2 2
+    ∷ refuses integer (nums (0 ∷ 0 ∷ [])) noWords 2 1  -- left over
     ∷ passes multisetInteger (chain 127) (braces []) 0 1  -- 255 words
     ∷ passes multisetInteger (nums (5 ∷ 1 ∷ 0 ∷ []) ++ chain 126) (braces []) 0 1  -- 256 words
-    ∷ refuses integer (replicate 256 (pos 5)) none 2 256  -- 256 words, cut short
-    ∷ refuses integer (replicate 257 (pos 99)) none 2 256  -- 257 words, before any other look
-    ∷ refuses multisetInteger (chain 128) none 2 256
+    ∷ refuses integer (replicate 256 (pos 5)) noWords 2 256  -- 256 words, cut short
+    ∷ refuses integer (replicate 257 (pos 99)) noWords 2 256  -- 257 words, before any other look
+    ∷ refuses multisetInteger (chain 128) noWords 2 256
     -- 3 variable
-    ∷ refuses multisetInteger (nums (5 ∷ 0 ∷ 5 ∷ 1 ∷ 1 ∷ 4 ∷ [])) none 3 3  -- the first is not 0
-    ∷ refuses multisetInteger (nums (5 ∷ 1 ∷ 0 ∷ 1 ∷ 0 ∷ [])) none 3 3  -- one stands twice
-    ∷ refuses multisetInteger (pos 1 ∷ minus 1 ∷ []) none 3 0
-    ∷ refuses multisetInteger (nums (5 ∷ 3 ∷ 0 ∷ 0 ∷ 1 ∷ 0 ∷ [])) none 3 1  -- a tag 3 before its variable
-    ∷ refuses multisetInteger (pos 5 ∷ pos 3 ∷ minus 1 ∷ pos 0 ∷ pos 0 ∷ []) none 3 1
-    ∷ matching multisetInteger (binding 0 16) none 100000 3 ⇒ (5 ∷ 0 ∷ 0 ∷ 0 ∷ 0 ∷ 5 ∷ []) writing []  -- sixteen variables
-    ∷ refuses multisetInteger (binding 0 17) none 3 49  -- a seventeenth
-    ∷ refuses multisetInteger (nums (5 ∷ 4 ∷ 1 ∷ 1 ∷ [])) none 3 2  -- a misfit stands to its left
-    ∷ refuses integer (nums (10 ∷ 1 ∷ 0 ∷ [])) none 3 1  -- inside a not
-    ∷ refuses multisetInteger (nums (10 ∷ 5 ∷ 1 ∷ 0 ∷ 0 ∷ [])) none 3 2
-    ∷ refuses integer (nums (9 ∷ 1 ∷ 0 ∷ 0 ∷ [])) none 3 1  -- inside an or
-    ∷ refuses integer (nums (8 ∷ 1 ∷ 0 ∷ 9 ∷ 3 ∷ 0 ∷ 0 ∷ 1 ∷ 1 ∷ [])) none 3 7
-    ∷ refuses integer (nums (9 ∷ 0 ∷ 8 ∷ 0 ∷ 1 ∷ 0 ∷ [])) none 3 4  -- inside an and that stands inside an or
-    ∷ refuses integer (nums (9 ∷ 3 ∷ 0 ∷ 0 ∷ 1 ∷ 0 ∷ [])) none 3 1  -- the first fault of the two
-    ∷ refuses integer (nums (8 ∷ 10 ∷ 0 ∷ 1 ∷ 1 ∷ [])) none 3 3  -- after a not the numbers go on from 0
+    ∷ refuses multisetInteger (nums (5 ∷ 0 ∷ 5 ∷ 1 ∷ 1 ∷ 4 ∷ [])) noWords 3 3  -- the first is not 0
+    ∷ refuses multisetInteger (nums (5 ∷ 1 ∷ 0 ∷ 1 ∷ 0 ∷ [])) noWords 3 3  -- one stands twice
+    ∷ refuses multisetInteger (pos 1 ∷ minus 1 ∷ []) noWords 3 0
+    ∷ refuses multisetInteger (nums (5 ∷ 3 ∷ 0 ∷ 0 ∷ 1 ∷ 0 ∷ [])) noWords 3 1  -- a tag 3 before its variable
+    ∷ refuses multisetInteger (pos 5 ∷ pos 3 ∷ minus 1 ∷ pos 0 ∷ pos 0 ∷ []) noWords 3 1
+    ∷ matching multisetInteger (binding 0 16) noWords 100000 3 ⇒ (5 ∷ 0 ∷ 0 ∷ 0 ∷ 0 ∷ 5 ∷ []) writing []  -- sixteen variables
+    ∷ refuses multisetInteger (binding 0 17) noWords 3 49  -- a seventeenth
+    ∷ refuses multisetInteger (nums (5 ∷ 4 ∷ 1 ∷ 1 ∷ [])) noWords 3 2  -- a misfit stands to its left
+    ∷ refuses integer (nums (10 ∷ 1 ∷ 0 ∷ [])) noWords 3 1  -- inside a not
+    ∷ refuses multisetInteger (nums (10 ∷ 5 ∷ 1 ∷ 0 ∷ 0 ∷ [])) noWords 3 2
+    ∷ refuses integer (nums (9 ∷ 1 ∷ 0 ∷ 0 ∷ [])) noWords 3 1  -- inside an or
+    ∷ refuses integer (nums (8 ∷ 1 ∷ 0 ∷ 9 ∷ 3 ∷ 0 ∷ 0 ∷ 1 ∷ 1 ∷ [])) noWords 3 7
+    ∷ refuses integer (nums (9 ∷ 0 ∷ 8 ∷ 0 ∷ 1 ∷ 0 ∷ [])) noWords 3 4  -- inside an and that stands inside an or
+    ∷ refuses integer (nums (9 ∷ 3 ∷ 0 ∷ 0 ∷ 1 ∷ 0 ∷ [])) noWords 3 1  -- the first fault of the two
+    ∷ refuses integer (nums (8 ∷ 10 ∷ 0 ∷ 1 ∷ 1 ∷ [])) noWords 3 3  -- after a not the numbers go on from 0
     -- 4 misfit
-    ∷ refuses something (nums (2 ∷ 7 ∷ [])) none 4 0
-    ∷ refuses something (nums (4 ∷ [])) none 4 0
-    ∷ refuses something (nums (5 ∷ 0 ∷ 0 ∷ [])) none 4 0
-    ∷ refuses integer (nums (4 ∷ [])) none 4 0
-    ∷ refuses integer (nums (5 ∷ 0 ∷ 0 ∷ [])) none 4 0
-    ∷ refuses listInteger (nums (2 ∷ 7 ∷ [])) none 4 0
-    ∷ refuses multisetInteger (nums (2 ∷ 7 ∷ [])) none 4 0
-    ∷ refuses multisetInteger (nums (6 ∷ 0 ∷ 0 ∷ [])) none 4 0  -- join under a multiset
-    ∷ refuses listInteger (nums (6 ∷ 0 ∷ 5 ∷ 4 ∷ 0 ∷ [])) none 4 3  -- nil under integer
-    ∷ refuses listInteger (nums (6 ∷ 1 ∷ 0 ∷ 3 ∷ 0 ∷ 1 ∷ [])) none 4 3  -- c is not 0 at a list
-    ∷ refuses (nums (4 ∷ 2 ∷ 3 ∷ 1 ∷ 3 ∷ 1 ∷ [])) (nums (7 ∷ 2 ∷ 1 ∷ 0 ∷ 3 ∷ 0 ∷ 1 ∷ [])) none 4 4  -- at a multiset
-    ∷ refuses (nums (4 ∷ 2 ∷ 4 ∷ 2 ∷ 1 ∷ 1 ∷ 4 ∷ 2 ∷ 1 ∷ 1 ∷ [])) (nums (7 ∷ 2 ∷ 1 ∷ 0 ∷ 3 ∷ 0 ∷ 1 ∷ [])) none 4 4  -- at a tuple
-    ∷ refuses (nums (2 ∷ 0 ∷ [])) (nums (6 ∷ 1 ∷ 0 ∷ 3 ∷ 0 ∷ 0 ∷ [])) none 4 3  -- something occurs
-    ∷ refuses (nums (2 ∷ 4 ∷ 2 ∷ 1 ∷ 0 ∷ [])) (nums (6 ∷ 1 ∷ 0 ∷ 3 ∷ 0 ∷ 0 ∷ [])) none 4 3  -- inside a tuple
-    ∷ refuses listInteger (nums (5 ∷ 1 ∷ 0 ∷ 3 ∷ 0 ∷ 0 ∷ [])) none 4 3  -- the variable stands under a matcher of another shape
-    ∷ refuses (nums (4 ∷ 2 ∷ 2 ∷ 0 ∷ 2 ∷ 1 ∷ [])) (nums (7 ∷ 2 ∷ 1 ∷ 0 ∷ 3 ∷ 0 ∷ 0 ∷ [])) none 4 4  -- something is a shape of its own
-    ∷ refuses (nums (4 ∷ 2 ∷ 4 ∷ 2 ∷ 1 ∷ 1 ∷ 4 ∷ 2 ∷ 1 ∷ 2 ∷ 1 ∷ [])) (nums (7 ∷ 2 ∷ 1 ∷ 0 ∷ 3 ∷ 0 ∷ 0 ∷ [])) none 4 4  -- so is each part of a tuple
-    ∷ refuses pair (nums (7 ∷ 3 ∷ 0 ∷ 0 ∷ 0 ∷ [])) none 4 0  -- unequal widths
-    ∷ refuses integer (nums (7 ∷ 2 ∷ 0 ∷ 0 ∷ [])) none 4 0
-    ∷ refuses pair (nums (5 ∷ 0 ∷ 0 ∷ [])) none 4 0
-    ∷ refuses pair (nums (2 ∷ 7 ∷ [])) none 4 0
-    ∷ refuses pair (nums (4 ∷ [])) none 4 0
-    ∷ refuses pair (nums (7 ∷ 2 ∷ 0 ∷ 4 ∷ [])) none 4 3
-    ∷ refuses integer (nums (8 ∷ 0 ∷ 4 ∷ [])) none 4 2  -- inside and, or, not
-    ∷ refuses integer (nums (9 ∷ 4 ∷ 0 ∷ [])) none 4 1
-    ∷ refuses something (nums (10 ∷ 2 ∷ 5 ∷ [])) none 4 1
-    ∷ refuses listInteger (nums (8 ∷ 1 ∷ 0 ∷ 5 ∷ 3 ∷ 0 ∷ 0 ∷ 0 ∷ [])) none 4 4
+    ∷ refuses something (nums (2 ∷ 7 ∷ [])) noWords 4 0
+    ∷ refuses something (nums (4 ∷ [])) noWords 4 0
+    ∷ refuses something (nums (5 ∷ 0 ∷ 0 ∷ [])) noWords 4 0
+    ∷ refuses integer (nums (4 ∷ [])) noWords 4 0
+    ∷ refuses integer (nums (5 ∷ 0 ∷ 0 ∷ [])) noWords 4 0
+    ∷ refuses listInteger (nums (2 ∷ 7 ∷ [])) noWords 4 0
+    ∷ refuses multisetInteger (nums (2 ∷ 7 ∷ [])) noWords 4 0
+    ∷ refuses multisetInteger (nums (6 ∷ 0 ∷ 0 ∷ [])) noWords 4 0  -- join under a multiset
+    ∷ refuses listInteger (nums (6 ∷ 0 ∷ 5 ∷ 4 ∷ 0 ∷ [])) noWords 4 3  -- nil under integer
+    ∷ refuses listInteger (nums (6 ∷ 1 ∷ 0 ∷ 3 ∷ 0 ∷ 1 ∷ [])) noWords 4 3  -- c is not 0 at a list
+    ∷ refuses (nums (4 ∷ 2 ∷ 3 ∷ 1 ∷ 3 ∷ 1 ∷ [])) (nums (7 ∷ 2 ∷ 1 ∷ 0 ∷ 3 ∷ 0 ∷ 1 ∷ [])) noWords 4 4  -- at a multiset
+    ∷ refuses (nums (4 ∷ 2 ∷ 4 ∷ 2 ∷ 1 ∷ 1 ∷ 4 ∷ 2 ∷ 1 ∷ 1 ∷ [])) (nums (7 ∷ 2 ∷ 1 ∷ 0 ∷ 3 ∷ 0 ∷ 1 ∷ [])) noWords 4 4  -- at a tuple
+    ∷ refuses (nums (2 ∷ 0 ∷ [])) (nums (6 ∷ 1 ∷ 0 ∷ 3 ∷ 0 ∷ 0 ∷ [])) noWords 4 3  -- something occurs
+    ∷ refuses (nums (2 ∷ 4 ∷ 2 ∷ 1 ∷ 0 ∷ [])) (nums (6 ∷ 1 ∷ 0 ∷ 3 ∷ 0 ∷ 0 ∷ [])) noWords 4 3  -- inside a tuple
+    ∷ refuses listInteger (nums (5 ∷ 1 ∷ 0 ∷ 3 ∷ 0 ∷ 0 ∷ [])) noWords 4 3  -- the variable stands under a matcher of another shape
+    ∷ refuses (nums (4 ∷ 2 ∷ 2 ∷ 0 ∷ 2 ∷ 1 ∷ [])) (nums (7 ∷ 2 ∷ 1 ∷ 0 ∷ 3 ∷ 0 ∷ 0 ∷ [])) noWords 4 4  -- something is a shape of its own
+    ∷ refuses (nums (4 ∷ 2 ∷ 4 ∷ 2 ∷ 1 ∷ 1 ∷ 4 ∷ 2 ∷ 1 ∷ 2 ∷ 1 ∷ [])) (nums (7 ∷ 2 ∷ 1 ∷ 0 ∷ 3 ∷ 0 ∷ 0 ∷ [])) noWords 4 4  -- so is each part of a tuple
+    ∷ refuses pair (nums (7 ∷ 3 ∷ 0 ∷ 0 ∷ 0 ∷ [])) noWords 4 0  -- unequal widths
+    ∷ refuses integer (nums (7 ∷ 2 ∷ 0 ∷ 0 ∷ [])) noWords 4 0
+    ∷ refuses pair (nums (5 ∷ 0 ∷ 0 ∷ [])) noWords 4 0
+    ∷ refuses pair (nums (2 ∷ 7 ∷ [])) noWords 4 0
+    ∷ refuses pair (nums (4 ∷ [])) noWords 4 0
+    ∷ refuses pair (nums (7 ∷ 2 ∷ 0 ∷ 4 ∷ [])) noWords 4 3
+    ∷ refuses integer (nums (8 ∷ 0 ∷ 4 ∷ [])) noWords 4 2  -- inside and, or, not
+    ∷ refuses integer (nums (9 ∷ 4 ∷ 0 ∷ [])) noWords 4 1
+    ∷ refuses something (nums (10 ∷ 2 ∷ 5 ∷ [])) noWords 4 1
+    ∷ refuses listInteger (nums (8 ∷ 1 ∷ 0 ∷ 5 ∷ 3 ∷ 0 ∷ 0 ∷ 0 ∷ [])) noWords 4 4
     -- 5 target
-    ∷ spoilt none 0 5  -- cut short
+    ∷ spoilt noWords 0 5  -- cut short
     ∷ spoilt (nums (0 ∷ [])) 1 5
     ∷ spoilt (nums (1 ∷ [])) 1 5
     ∷ spoilt (nums (1 ∷ 2 ∷ 0 ∷ 7 ∷ [])) 4 5
@@ -192,7 +192,7 @@ table =
     ∷ refuses listInteger wildcard (nums (2 ∷ 2 ∷ 0 ∷ 1 ∷ 0 ∷ 2 ∷ [])) 6 0
     ∷ refuses (nums (3 ∷ 2 ∷ 1 ∷ [])) wildcard (nums (1 ∷ 2 ∷ 1 ∷ 1 ∷ 0 ∷ 5 ∷ 0 ∷ 7 ∷ [])) 6 6
     -- the order of the tests
-    ∷ refuses (nums (9 ∷ [])) (replicate 257 (pos 0)) none 1 0
+    ∷ refuses (nums (9 ∷ [])) (replicate 257 (pos 0)) noWords 1 0
     ∷ refuses integer (nums (1 ∷ 1 ∷ [])) (replicate 1025 (pos 0)) 3 0
     -- review: 1 to 4, then 11, then 9, then 10
     ∷ declines (nums (9 ∷ [])) wildcard (pos 65) 1 0

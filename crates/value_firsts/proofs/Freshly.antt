@@ -144,6 +144,6 @@ tag-is mt i t e h = sym e ∙ h
 
 pub ruleset number-rules = (less-in, tag-at, not-so, next-le, next-fits, next-less, new-none, number-more, new-all, needs)
 
-pub ruleset old-rules = (tag-is, less-in, tag-at, not-so, next-le, next-fits, next-less, new-none, new-more, new-all, needs)
+pub ruleset old-rules = (tag-is, needs)
 
 pub ruleset fresh-rules = (kept-64, kept-in, kept-fits, kept-less, none-less, next-le, next-fits, next-less, fresh-zero, fresh-kept, needs)

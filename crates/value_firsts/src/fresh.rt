@@ -1,6 +1,5 @@
 // The fresh places of a collection: those whose elements are equal to none before them. Whatever is left of it, they are first places.
 use super::kept;
-use super::same_values;
 use tables::place::Places;
 use value_equality::same_integers;
 use value_places::places::count_at;
@@ -32,7 +31,8 @@ fn is_old_integer(mt: &[i32], i: usize, s: &[i32], places: &Places, at: usize, k
     false
 }
 
-// Whether an element before element k is equal to it.
+// Whether an element before element k is equal to it, or is not asked: of integers alone it is, since a second caller of the comparison of
+// nested values would cost the search's own more than fresh places save.
 fn is_old(mt: &[i32], i: usize, s: &[i32], places: &Places, at: usize, k: u32) -> bool
     requires { ⌜ Target (now s) ⌝ ∗ ⌜ Placed (now s) (now places) ⌝ ∗ ⌜ Tag (now s) at ⌝ ∗ ⌜ k < countAt (now s) at ⌝ }
     ensures { λ r. ⌜ (r ≡ false → New (now (mt .entry)) i (now (s .entry)) at k k) ⌝ }
@@ -40,16 +40,7 @@ fn is_old(mt: &[i32], i: usize, s: &[i32], places: &Places, at: usize, k: u32) -
     if tag_at(mt, i) == matcher::INTEGER {
         return is_old_integer(mt, i, s, places, at, k);
     }
-    let e = element(s, places, at, k);
-    let mut j: u32 = 0;
-    while j < k {
-        let f = element(s, places, at, j);
-        if same_values(mt, i, s, places, f, e) {
-            return true;
-        }
-        j += 1;
-    }
-    false
+    true
 }
 
 // By the element matcher at an index. (Not by the first places of them all: the search's own would no longer be one function with their loop.)

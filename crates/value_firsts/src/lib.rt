@@ -30,7 +30,7 @@ fn highest(m: u64) -> u32
 }
 
 // Two whole values under the matcher at an index; integers without a call of the comparison of nested values.
-pub fn same_values(mt: &[i32], i: usize, s: &[i32], places: &Places, a: usize, b: usize) -> bool
+fn same_values(mt: &[i32], i: usize, s: &[i32], places: &Places, a: usize, b: usize) -> bool
     requires { ⌜ Target (now s) ⌝ ∗ ⌜ Placed (now s) (now places) ⌝ ∗ ⌜ Tag (now s) a ⌝ ∗ ⌜ Tag (now s) b ⌝ }
     ensures { λ r. ⌜ r ≡ wholesEqual (now (mt .entry)) i (now (s .entry)) a b ⌝ }
 {

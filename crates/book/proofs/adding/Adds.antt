@@ -10,15 +10,15 @@ use lib.Seq.{sets}
 use lib.Dec.{eqb, leb}
 use borrow.Author.Needs.{needs}
 use borrow.Author.Tests.{leb-true}
-use Rattle.book_rules.specs.Sums.{word}
-use Rattle.book_rules.specs.Blocks.{Block, split, Entry, counts, laid, written, both, unless, orElse, known, taken}
+use Rattle.book_rules.specs.Sums.{word, andAlso}
+use Rattle.book_rules.specs.Blocks.{Block, split, Entry, counts, laid, written, unless, orElse, known, taken}
 use Rattle.book_rules.specs.Books.{Book, Told, inUse, fault, unlessRefused, changed, dialectFor, proper, isSome, slot, addFault, addAt, addIn, add}
 use Rattle.book_rules.specs.Bytes.{wordsFrom, blockAt, blocksFrom, bookOf, bytesOf, holding}
 use Rattle.book_rules.specs.Kept.{Slot, lowest, grown, slot-is}
 use Rattle.book_rules.specs.Noticed.{Sized, good-number}
 use Rattle.book_rules.specs.Round.{Dialect, first, second, dialect-is, length-split, length-sealed}
 use Rattle.book_rules.specs.Views.{Bytes, length-bytes, length-blocks, block-sized, within-sets, words-back}
-use Rattle.book_rules.specs.Walks.{First, or-second, last-test, both-fst, both-snd}
+use Rattle.book_rules.specs.Walks.{First, or-second, last-test, andAlso-fst, andAlso-snd}
 use Rattle.book_rules.specs.Walks as walks
 use Rattle.book.specs.Testing.{found, Answered}
 use Rattle.book.specs.Changes.{Refusal, ChangeTold, writtenAt, addedAt, ownRefusal}
@@ -175,7 +175,7 @@ module _ (s : List ℕ) (bytes : Bytes s) (used : ℕ) (e : Entry) (a j : ℕ) (
 
         pub add-dialect : (1 ≤ e .dialect) × (e .dialect ≤ 2)
         unfolding proper
-        add-dialect = dialects (dialect-is (e .version) (e .dialect) (both-fst (dialectFor (e .version) (e .dialect)) _ (both-snd (not (eqb (e .badge) 0)) _ is-proper)))
+        add-dialect = dialects (dialect-is (e .version) (e .dialect) (andAlso-fst (dialectFor (e .version) (e .dialect)) _ (andAlso-snd (not (eqb (e .badge) 0)) _ is-proper)))
 
         add-is : add e b ≡ changed (addAt e b k)
         unfolding add unlessRefused addIn

@@ -10,7 +10,8 @@ use lib.Dec.{eqb, leb, ltb}
 use lib.IntN.{ℤ}
 use borrow.Author.Needs.{needs}
 use borrow.Author.Tests.{eq-eqb, ne-eqb, lt-ltb, le-ltb, le-leb, lt-leb}
-use Rattle.book_rules.specs.Blocks.{Block, Entry, counts, both, unless, orElse, known, isRule, taken, badgeOf}
+use Rattle.book_rules.specs.Sums.{andAlso}
+use Rattle.book_rules.specs.Blocks.{Block, Entry, counts, unless, orElse, known, isRule, taken, badgeOf}
 use Rattle.book_rules.specs.Books.{Book, inUse, place, withdrawn, dialectFor, proper, growth, slotOr, slot}
 use Rattle.book_rules.specs.Bytes.{blocksFrom, bookOf}
 use Rattle.book_blocks.specs.Heads.{entry}
@@ -46,26 +47,26 @@ upheld true h = refl
 upheld false h = let z : _≡_ {A = ℕ} 0 1 = cc in absurd (omega arith)
 
 module _ (v x d : ℕ) (ms ps : List ℤ) where
-  proper-is : (t : Bool) → eqb x 0 ≡ t → proper (entry v x d ms ps) ≡ both (not t) (both (dialectFor v d) (isRule d ms ps))
+  proper-is : (t : Bool) → eqb x 0 ≡ t → proper (entry v x d ms ps) ≡ andAlso (not t) (andAlso (dialectFor v d) (isRule d ms ps))
   unfolding proper
-  proper-is t e = ap (λ (u : Bool). both (not u) (both (dialectFor v d) (isRule d ms ps))) e
+  proper-is t e = ap (λ (u : Bool). andAlso (not u) (andAlso (dialectFor v d) (isRule d ms ps))) e
 
   pub proper-badge : x ≡ 0 → false ≡ proper (entry v x d ms ps)
-  unfolding both
+  unfolding andAlso
   proper-badge e = sym (proper-is true (eq-eqb x 0 e))
 
   module _ (n : x ≡ 0 → ⊥) (t : Bool) (et : t ≡ dialectFor v d) where
-    proper-then : proper (entry v x d ms ps) ≡ both t (isRule d ms ps)
-    unfolding both
-    proper-then = proper-is false (ne-eqb x 0 n) ∙ ap (λ (u : Bool). both u (isRule d ms ps)) (sym et)
+    proper-then : proper (entry v x d ms ps) ≡ andAlso t (isRule d ms ps)
+    unfolding andAlso
+    proper-then = proper-is false (ne-eqb x 0 n) ∙ ap (λ (u : Bool). andAlso u (isRule d ms ps)) (sym et)
 
     pub proper-dialect : not t ≡ true → false ≡ proper (entry v x d ms ps)
-    unfolding both
-    proper-dialect h = sym (proper-then ∙ ap (λ (u : Bool). both u (isRule d ms ps)) (refuted t h))
+    unfolding andAlso
+    proper-dialect h = sym (proper-then ∙ ap (λ (u : Bool). andAlso u (isRule d ms ps)) (refuted t h))
 
     pub proper-rule : not t ≡ false → (r : Bool) → r ≡ isRule d ms ps → r ≡ proper (entry v x d ms ps)
-    unfolding both
-    proper-rule h r e = e ∙ sym (proper-then ∙ ap (λ (u : Bool). both u (isRule d ms ps)) (upheld t h))
+    unfolding andAlso
+    proper-rule h r e = e ∙ sym (proper-then ∙ ap (λ (u : Bool). andAlso u (isRule d ms ps)) (upheld t h))
 
 -- ---- 14, 15, 16, 18.
 
@@ -133,21 +134,21 @@ module _ (s : List ℕ) (used : ℕ) (fits : 512 * used ≤ length s) (f : Found
     grow : Bool → Option ℕ
     grow t = elim t [ true ↦ some used | false ↦ none ]
 
-    growth-is : growth b ≡ grow (both (ltb used (length s / 512)) (ltb used 65536))
+    growth-is : growth b ≡ grow (andAlso (ltb used (length s / 512)) (ltb used 65536))
     unfolding growth grow bookOf
-    growth-is = ap (λ (n : ℕ). grow (both (ltb used n) (ltb used 65536))) (lent-is s used)
+    growth-is = ap (λ (n : ℕ). grow (andAlso (ltb used n) (ltb used 65536))) (lent-is s used)
 
     pub slot-full : length s / 512 ≤ used → Nothing ≡ found (slot b)
-    unfolding found grow both
-    slot-full h = sym (ap found (next-is ∙ growth-is ∙ ap (λ (t : Bool). grow (both t (ltb used 65536))) (le-ltb used (length s / 512) h)))
+    unfolding found grow andAlso
+    slot-full h = sym (ap found (next-is ∙ growth-is ∙ ap (λ (t : Bool). grow (andAlso t (ltb used 65536))) (le-ltb used (length s / 512) h)))
 
     module _ (l : used < length s / 512) where
       pub slot-beyond : 65536 ≤ used → Nothing ≡ found (slot b)
-      unfolding found grow both
-      slot-beyond h = sym (ap found (next-is ∙ growth-is ∙ ap₂ (λ (t u : Bool). grow (both t u)) (lt-ltb used (length s / 512) l) (le-ltb used 65536 h)))
+      unfolding found grow andAlso
+      slot-beyond h = sym (ap found (next-is ∙ growth-is ∙ ap₂ (λ (t u : Bool). grow (andAlso t u)) (lt-ltb used (length s / 512) l) (le-ltb used 65536 h)))
 
       pub slot-next : used < 65536 → At used ≡ found (slot b)
-      unfolding found grow both
-      slot-next h = sym (ap found (next-is ∙ growth-is ∙ ap₂ (λ (t u : Bool). grow (both t u)) (lt-ltb used (length s / 512) l) (lt-ltb used 65536 h)))
+      unfolding found grow andAlso
+      slot-next h = sym (ap found (next-is ∙ growth-is ∙ ap₂ (λ (t u : Bool). grow (andAlso t u)) (lt-ltb used (length s / 512) l) (lt-ltb used 65536 h)))
 
 pub ruleset slot-rules = (slot-free, slot-full, slot-beyond, slot-next, needs)

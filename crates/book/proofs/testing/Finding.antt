@@ -8,7 +8,8 @@ use mathlib.Core.List.{List, [], _∷_, _++_}
 use lib.Dec.{eqb}
 use borrow.Author.Needs.{needs}
 use borrow.Author.Tests.{eq-eqb, ne-eqb}
-use Rattle.book_rules.specs.Blocks.{Block, badgeOf, both, holds, taken}
+use Rattle.book_rules.specs.Sums.{andAlso}
+use Rattle.book_rules.specs.Blocks.{Block, badgeOf, holds, taken}
 use Rattle.book_rules.specs.Books.{place}
 use Rattle.book_rules.specs.Bytes.{blockAt, blocksFrom}
 use Rattle.book_rules.specs.Round.{none-taken}
@@ -74,8 +75,8 @@ pub ruleset find-rules = (find-here, find-on, find-none, find-begins, needs)
 -- ---- A live badge.
 
 pub holds-bears : (x : ℕ) → (x ≡ 0 → ⊥) → (b : Block) → holds x b ≡ bears x b
-unfolding holds bears both
-holds-bears x n b = ap (λ (t : Bool). both (not t) (eqb (badgeOf b) x)) (ne-eqb x 0 n)
+unfolding holds bears andAlso
+holds-bears x n b = ap (λ (t : Bool). andAlso (not t) (eqb (badgeOf b) x)) (ne-eqb x 0 n)
 
 place-same : (f g : Block → Bool) → ((b : Block) → f b ≡ g b) → (bs : List Block) → place f bs ≡ place g bs
 unfolding place next

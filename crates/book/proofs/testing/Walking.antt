@@ -8,8 +8,8 @@ use lib.ListN.{length}
 use lib.Dec.{eqb, leb}
 use borrow.Author.Needs.{needs}
 use borrow.Author.Tests.{le-leb, lt-leb}
-use Rattle.book_rules.specs.Sums.{word, checked}
-use Rattle.book_rules.specs.Blocks.{Block, badgeOf, both, unless, orElse, known, formed, taken, verdict}
+use Rattle.book_rules.specs.Sums.{word, checked, andAlso}
+use Rattle.book_rules.specs.Blocks.{Block, badgeOf, unless, orElse, known, formed, taken, verdict}
 use Rattle.book_rules.specs.Books.{Book, inUse, walk, fault, passes, passed}
 use Rattle.book_rules.specs.Bytes.{blockAt, blocksFrom, bookOf}
 use Rattle.book.specs.Testing.{before, Answered}
@@ -22,16 +22,16 @@ chain : (c n v f : Bool) → ℕ
 chain c n v f = orElse (unless c 12) (orElse (unless n 13) (orElse (unless v 14) (unless f 15)))
 
 module _ (t : Bool) where
-  again : (c n v f : Bool) → (chain c n v f ≡ 0 → ⊥) → chain c n v (both f (not t)) ≡ chain c n v f
-  unfolding chain orElse unless both
+  again : (c n v f : Bool) → (chain c n v f ≡ 0 → ⊥) → chain c n v (andAlso f (not t)) ≡ chain c n v f
+  unfolding chain orElse unless andAlso
   again false n v f h = refl
   again true false v f h = refl
   again true true false f h = refl
   again true true true false h = refl
   again true true true true h = absurd (h refl)
 
-  late : (c n v f : Bool) → chain c n v f ≡ 0 → chain c n v (both f (not t)) ≡ unless (not t) 15
-  unfolding chain orElse unless both
+  late : (c n v f : Bool) → chain c n v f ≡ 0 → chain c n v (andAlso f (not t)) ≡ unless (not t) 15
+  unfolding chain orElse unless andAlso
   late false n v f h = let z : _≡_ {A = ℕ} 12 0 = h in absurd (omega arith)
   late true false v f h = let z : _≡_ {A = ℕ} 13 0 = h in absurd (omega arith)
   late true true false f h = let z : _≡_ {A = ℕ} 14 0 = h in absurd (omega arith)
@@ -43,11 +43,11 @@ module _ (k : ℕ) (b : Block) where
   unfolding verdict chain taken
   alone = ap (λ (t : Bool). chain (checked b) (eqb (word b 0) k) (known (word b 1)) t) (all (formed b))
     where
-      all : (t : Bool) → both t (not false) ≡ t
-      all true = unfold both in refl
-      all false = unfold both in refl
+      all : (t : Bool) → andAlso t (not false) ≡ t
+      all true = unfold andAlso in refl
+      all false = unfold andAlso in refl
 
-  after : (xs : List Block) → verdict k xs b ≡ chain (checked b) (eqb (word b 0) k) (known (word b 1)) (both (formed b) (not (taken (badgeOf b) xs)))
+  after : (xs : List Block) → verdict k xs b ≡ chain (checked b) (eqb (word b 0) k) (known (word b 1)) (andAlso (formed b) (not (taken (badgeOf b) xs)))
   unfolding verdict chain
   after xs = refl
 

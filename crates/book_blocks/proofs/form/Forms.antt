@@ -15,9 +15,9 @@ use Rattle.rules.specs.Services.{Judged, accepted, refused, Rule, ruleIn}
 use Rattle.tests.specs.Judgements.{judgement}
 use Rattle.tests.specs.declared.Judgement.{Judgement}
 use Rattle.tests.specs.declared.Judgement.the-variants.{Accepted, Refused}
-use Rattle.book_rules.specs.Sums.{word, checked}
+use Rattle.book_rules.specs.Sums.{word, checked, andAlso}
 use Rattle.words.specs.Dialects.{dialectBy}
-use Rattle.book_rules.specs.Blocks.{Block, joined, lengthIn, dialectIn, known, both, unless, orElse, zeros, isAccepted, isRule, entryOf, liveFormed, formed, badgeOf, taken, verdict}
+use Rattle.book_rules.specs.Blocks.{Block, joined, lengthIn, dialectIn, known, unless, orElse, zeros, isAccepted, isRule, entryOf, liveFormed, formed, badgeOf, taken, verdict}
 use Rattle.book_rules.specs.Bytes.{wordAt, wordsFrom, blockAt}
 use Rattle.book_blocks.proofs.Seen.{word-seen, zeros-seen, joined-seen, length-joined, first-part, second-part}
 
@@ -95,7 +95,7 @@ rule-given d s at m n l t r g h e q =
 -- ---- A live block.
 
 four : (a b c d : Bool) → Bool
-four a b c d = both a (both b (both c d))
+four a b c d = andAlso a (andAlso b (andAlso c d))
 
 module _ (s : List ℕ) (at : ℕ) (w n : ℕ) (e : w ≡ wordAt s (at + 6)) (l : n ≡ w) where
   abbrev b : Block
@@ -111,7 +111,7 @@ module _ (s : List ℕ) (at : ℕ) (w n : ℕ) (e : w ≡ wordAt s (at + 6)) (l 
       (isRule (dialectIn (word b 1) (word b 4)) (take (lengthIn (word b 1) (word b 4)) (joined x (drop 5 b))) (drop (lengthIn (word b 1) (word b 4)) (joined x (drop 5 b))))) third
 
   pub live-over : 124 < n → false ≡ liveFormed b
-  unfolding four both
+  unfolding four andAlso
   live-over h = sym (live-is ∙ rw (lt-leb n 124 h))
 
   module _ (h : n ≤ 124) (v f m : ℕ) (ev : v ≡ wordAt s (at + 2)) (ef : f ≡ wordAt s (at + 8)) (em : m ≡ lengthIn v f) where
@@ -132,27 +132,27 @@ module _ (s : List ℕ) (at : ℕ) (w n : ℕ) (e : w ≡ wordAt s (at + 6)) (l 
         (zeros-seen s at (5 + 2 * n) (249 - 2 * n) (at + 10 + 4 * n) (omega arith) (omega arith)) (joined-seen s at n (at + 10) h refl)
 
     pub live-long : n < m → false ≡ liveFormed b
-    unfolding four both
+    unfolding four andAlso
     live-long g = sym (live-by ∙ rw (lt-leb m n g))
 
     module _ (g : m ≤ n) (z : Bool) (ez : z ≡ zeros (249 - 2 * n) (wordsFrom s (at + 10 + 4 * n) (249 - 2 * n))) where
-      live-then : liveFormed b ≡ both z (isRule (dialectIn v f) (take m (joined n (wordsFrom s (at + 10) (2 * n)))) (drop m (joined n (wordsFrom s (at + 10) (2 * n)))))
-      unfolding four both
+      live-then : liveFormed b ≡ andAlso z (isRule (dialectIn v f) (take m (joined n (wordsFrom s (at + 10) (2 * n)))) (drop m (joined n (wordsFrom s (at + 10) (2 * n)))))
+      unfolding four andAlso
       live-then = live-by ∙ rw (le-leb m n g, ← ez)
 
       pub live-unused : not z ≡ true → false ≡ liveFormed b
       live-unused t = sym (live-then ∙ by z t)
         where
-          by : (y : Bool) → not y ≡ true → both y (isRule (dialectIn v f) (take m (joined n (wordsFrom s (at + 10) (2 * n)))) (drop m (joined n (wordsFrom s (at + 10) (2 * n))))) ≡ false
+          by : (y : Bool) → not y ≡ true → andAlso y (isRule (dialectIn v f) (take m (joined n (wordsFrom s (at + 10) (2 * n)))) (drop m (joined n (wordsFrom s (at + 10) (2 * n))))) ≡ false
           by true t = let q : _≡_ {A = ℕ} 0 1 = cc in absurd (omega arith)
-          by false t = unfold both in refl
+          by false t = unfold andAlso in refl
 
       pub live-rule : not z ≡ false → (d : ℕ) → d ≡ dialectIn v f → (r : Bool)
           → r ≡ isRule d (take m (joined n (wordsFrom s (at + 10) (2 * n)))) (drop m (joined n (wordsFrom s (at + 10) (2 * n)))) → r ≡ liveFormed b
       live-rule t d ed r er = er ∙ ap (λ (y : ℕ). isRule y (take m (joined n (wordsFrom s (at + 10) (2 * n)))) (drop m (joined n (wordsFrom s (at + 10) (2 * n))))) ed ∙ sym (live-then ∙ by z t)
         where
-          by : (y : Bool) → not y ≡ false → both y (isRule (dialectIn v f) (take m (joined n (wordsFrom s (at + 10) (2 * n)))) (drop m (joined n (wordsFrom s (at + 10) (2 * n))))) ≡ isRule (dialectIn v f) (take m (joined n (wordsFrom s (at + 10) (2 * n)))) (drop m (joined n (wordsFrom s (at + 10) (2 * n))))
-          by true t = unfold both in refl
+          by : (y : Bool) → not y ≡ false → andAlso y (isRule (dialectIn v f) (take m (joined n (wordsFrom s (at + 10) (2 * n)))) (drop m (joined n (wordsFrom s (at + 10) (2 * n))))) ≡ isRule (dialectIn v f) (take m (joined n (wordsFrom s (at + 10) (2 * n)))) (drop m (joined n (wordsFrom s (at + 10) (2 * n))))
+          by true t = unfold andAlso in refl
           by false t = let q : _≡_ {A = ℕ} 0 1 = cc in absurd (omega arith)
 
 -- ---- A block, live or withdrawn.
@@ -178,9 +178,9 @@ verdict-is : (k : ℕ) (b : Block) → verdict k [] b ≡ chain (checked b) (eqb
 unfolding verdict chain taken
 verdict-is k b = ap (λ (t : Bool). chain (checked b) (eqb (word b 0) k) (known (word b 1)) t) (alone (formed b))
   where
-    alone : (t : Bool) → both t (not false) ≡ t
-    alone true = unfold both in refl
-    alone false = unfold both in refl
+    alone : (t : Bool) → andAlso t (not false) ≡ t
+    alone true = unfold andAlso in refl
+    alone false = unfold andAlso in refl
 
 refuted : (t : Bool) → not t ≡ true → t ≡ false
 refuted true h = let z : _≡_ {A = ℕ} 0 1 = cc in absurd (omega arith)

@@ -10,10 +10,10 @@ use lib.Dec.{eqb, leb}
 use lib.IntN.{ℤ}
 use borrow.Author.Needs.{needs}
 use borrow.Author.Tests.{leb-true, ne-eqb}
-use Rattle.book_rules.specs.Sums.{word}
-use Rattle.book_rules.specs.Blocks.{Block, joined, lengthIn, dialectIn, both, zeros, isRule, Entry, entryOf, liveFormed}
+use Rattle.book_rules.specs.Sums.{word, andAlso}
+use Rattle.book_rules.specs.Blocks.{Block, joined, lengthIn, dialectIn, zeros, isRule, Entry, entryOf, liveFormed}
 use Rattle.book_rules.specs.Bytes.{wordAt, wordsFrom, blockAt}
-use Rattle.book_rules.specs.Walks.{both-fst, both-snd}
+use Rattle.book_rules.specs.Walks.{andAlso-fst, andAlso-snd}
 use Rattle.book_blocks.specs.Heads.{ReadAs}
 use Rattle.book_blocks.proofs.Seen.{word-seen, joined-seen, length-joined}
 
@@ -29,7 +29,7 @@ module _ (s : List ℕ) (k : ℕ) (live : liveFormed (blockAt s k) ≡ true) (w 
 
   few : n ≤ 124
   unfolding liveFormed
-  few = let h : word b 3 ≤ 124 = leb-true (word b 3) 124 (both-fst (leb (word b 3) 124) _ live) in omega (arith, third)
+  few = let h : word b 3 ≤ 124 = leb-true (word b 3) 124 (andAlso-fst (leb (word b 3) 124) _ live) in omega (arith, third)
 
   pub fits-in : 512 * k + 512 ≤ length s → 512 * k + 10 + 4 * n ≤ length s
   fits-in h = omega (arith, few)
@@ -52,8 +52,8 @@ module _ (s : List ℕ) (k : ℕ) (live : liveFormed (blockAt s k) ≡ true) (w 
     pub short : m ≤ n
     unfolding liveFormed
     short =
-        let t = both-snd (leb (word b 3) 124) _ live in
-        let h : lengthIn (word b 1) (word b 4) ≤ word b 3 = leb-true (lengthIn (word b 1) (word b 4)) (word b 3) (both-fst (leb (lengthIn (word b 1) (word b 4)) (word b 3)) _ t) in
+        let t = andAlso-snd (leb (word b 3) 124) _ live in
+        let h : lengthIn (word b 1) (word b 4) ≤ word b 3 = leb-true (lengthIn (word b 1) (word b 4)) (word b 3) (andAlso-fst (leb (lengthIn (word b 1) (word b 4)) (word b 3)) _ t) in
         omega (arith, third, matcher-is)
 
     abbrev zs : List ℤ
