@@ -5,7 +5,7 @@ use mathlib.Core.List.{List}
 use Prim.Native.Nat.{ℕ, zero, suc, _+_, _-_, _*_, _^_, _<_, _≤_}
 use native.Mathlib.Omega.{arith}
 use borrow.Author.Needs.{needs}
-use borrow.Author.Tests.{lt-ltb, le-ltb, ltb-false, eq-eqb, ne-eqb, eqb-true, not-true, not-false}
+use borrow.Author.Tests.{lt-ltb, le-ltb, ltb-true, ltb-false, eq-eqb, ne-eqb, eqb-true, not-true, not-false}
 use mir.Syntax.{w64}
 use mir.Val.{Fits}
 use lib.Dec.{eqb, ltb}
@@ -15,11 +15,12 @@ use Rattle.words.specs.Words.{tagAt}
 use Rattle.words.proofs.Signed as signed
 use Rattle.test_forms.specs.Ends.{onward, within}
 use Rattle.matchers.specs.Places.{matcherEnd}
+use Rattle.matchers.proofs.Ends.{parts-none, words-one, end-turn, end-start, end-none}
 use Rattle.test_fit.specs.Shapes.{widthFits}
 use Rattle.test_target.specs.Targets.{plainAt, plainRun, valueFrom}
 use Rattle.test_target.proofs.Values.{integer}
 use Rattle.test_target.proofs.Steps.{plain-words, run-most, run-within}
-use Rattle.test_unfit.specs.Unfit.{opensAt, underTag, membersOf, nextMember, numberFits, fitRun, underInteger, byMembers, inEach, insideFrom, fitFrom}
+use Rattle.test_unfit.specs.Unfit.{opensAt, underTag, membersOf, nextMember, numberFits, isPair, pairFits, plainWords, fitRun, underInteger, byMembers, inEach, insideFrom, fitFrom}
 use Rattle.test_forms.specs.declared.Ended.{Ended}
 use Rattle.test_forms.specs.declared.Ended.the-variants.{End, Bad}
 use Rattle.test_unfit.specs.declared.Members.{Members}
@@ -100,16 +101,31 @@ width-next m i n w e b q r l = go (eqb w n) (sym q ∙ r)
     go true z = let y = width-most w z .1 in next-two m i w e (omega arith) l
     go false z = let y : _≡_ {A = ℕ} 0 1 = cc in absurd (omega arith)
 
+-- A matcher that is a tag alone.
+plain-end : (m : List ℤ) (j t : ℕ) → t ≡ tagAt m j → t < 2 → j + 1 ≡ matcherEnd m j
+plain-end m j t e l =
+    let none = parts-none m j t e (λ z. absurd (omega arith)) (λ z. absurd (omega arith)) (λ z. absurd (omega arith)) in
+    let one = words-one m j t e (λ z. absurd (omega arith)) in
+    let on = end-turn m j 1 0 (signed.within m j t e (omega arith)) none 1 (λ z. absurd (omega arith)) one (matcherEnd m j) (end-start m j) in
+    end-none m (j + 1) (1 - 1 + 0) (matcherEnd m j) on (omega arith)
+
 module _ (m : List ℤ) (k j : ℕ) where
   pub next-part : k ≡ 4 → (e : ℕ) → e ≡ matcherEnd m j → e ≡ nextMember m k j
   unfolding nextMember
   next-part h e q = rw h q
 
+  pub next-plain : k ≡ 4 → (t : ℕ) → t ≡ tagAt m j → t < 2 → j + 1 ≡ nextMember m k j
+  unfolding nextMember
+  next-plain h t e l = rw h (plain-end m j t e l)
+
+  pub next-fits : (t : ℕ) → t ≡ tagAt m j → t < 2 → length m * 4 < 2 ^ 63 → Fits w64 (j + 1)
+  next-fits t e l q = let w = signed.within m j t e (omega arith) in record { fits = omega arith }
+
   pub next-element : (k ≡ 4 → ⊥) → j ≡ nextMember m k j
   unfolding nextMember
   next-element h = rw (ne-eqb k 4 h)
 
-pub ruleset member-rules = (opens-tuple, opens-collection, opens-none, members-wide, members-unequal, members-over, members-in, width-next, next-part, next-element, needs)
+pub ruleset member-rules = (opens-tuple, opens-collection, opens-none, members-wide, members-unequal, members-over, members-in, width-next, next-part, next-plain, next-fits, next-element, needs)
 
 -- ---- An integer under integer.
 
@@ -230,6 +246,139 @@ number-end s m at j d h =
     let b = plain-words s at (a .1) in
     ret-integer s m j at (tagAt m j) d refl (tagAt s at) refl (End (at + 2)) (a .0) (b .0) (sym (integer s at (tagAt s at) refl d (b .0) ∙ rw (lt-ltb (at + 1) (length s) (b .1))))
 
+-- ---- A pair of integers under two integers.
+
+module _ (ws : List ℤ) (at tag t : ℕ) (e : t ≡ tagAt ws at) where
+  pub pair-other-tag : (t ≡ tag → ⊥) → false ≡ isPair ws at tag
+  unfolding isPair
+  pair-other-tag h = rw (← e, ne-eqb t tag h)
+
+  module _ (z : t ≡ tag) where
+    pub pair-width : (n : ℕ) → n ≡ tagAt ws (at + 1) → eqb n 2 ≡ isPair ws at tag
+    unfolding isPair
+    pair-width n q = rw (← e, eq-eqb t tag z, q)
+
+    pub pair-next : tag ≤ 4 → length ws < 2 ^ 64 → Fits w64 (at + 1)
+    pair-next h l = let w = signed.within ws at t e (omega arith) in record { fits = omega arith }
+
+-- A test that holds, and what it says.
+holds : (b c : Bool) → cond b c false ≡ true → (b ≡ true) × (c ≡ true)
+holds true c h = (refl, h)
+holds false c h = let z : _≡_ {A = ℕ} 0 1 = cc in absurd (omega arith)
+
+pair-words : (ws : List ℤ) (at tag : ℕ) → isPair ws at tag ≡ true → (tagAt ws at ≡ tag) × (tagAt ws (at + 1) ≡ 2)
+unfolding isPair
+pair-words ws at tag h = let a = holds (eqb (tagAt ws at) tag) _ h in (eqb-true (tagAt ws at) tag (a .0), eqb-true (tagAt ws (at + 1)) 2 (a .1))
+
+pub behind-pair : (ws : List ℤ) (at tag : ℕ) (b : Bool) → b ≡ isPair ws at tag → b ≡ true → length ws < 2 ^ 64 → Fits w64 (at + 2)
+behind-pair ws at tag b e h l = let w = signed.within ws (at + 1) (tagAt ws (at + 1)) refl (omega (arith, pair-words ws at tag (sym e ∙ h) .1)) in record { fits = omega arith }
+
+module _ (s m : List ℤ) (at j : ℕ) (c : Bool) (q : c ≡ numberFits s at m j) (z : c ≡ true) where
+  first-words : (tagAt m j ≡ 1) × (plainAt s at ≡ true)
+  first-words = number-words s m at j (sym q ∙ z)
+
+  pub behind-integer : length m < 2 ^ 64 → j + 1 < 2 ^ 64
+  behind-integer l = let w = signed.within m j (tagAt m j) refl (omega (arith, first-words .0)) in omega arith
+
+  pub behind-number : length s < 2 ^ 64 → at + 2 < 2 ^ 64
+  behind-number l = let w = plain-words s at (first-words .1) .1 in omega arith
+
+pub third : (s m : List ℤ) (at j : ℕ) (c : Bool) → c ≡ numberFits s (at + 2) m (j + 2) → c ≡ true → length m < 2 ^ 64 → Fits w64 (j + 3)
+third s m at j c q z l = let w = behind-integer s m (at + 2) (j + 2) c q z l in record { fits = omega arith }
+
+pub fourth : (s m : List ℤ) (at j : ℕ) (c : Bool) → c ≡ numberFits s (at + 2) m (j + 2) → c ≡ true → length s < 2 ^ 64 → Fits w64 (at + 4)
+fourth s m at j c q z l = let w = behind-number s m (at + 2) (j + 2) c q z l in record { fits = omega arith }
+
+module _ (s m : List ℤ) (at j : ℕ) (a : Bool) (e : a ≡ isPair m j 4) where
+  pub pair-not-asked : a ≡ false → false ≡ pairFits s at m j
+  unfolding pairFits
+  pair-not-asked h = rw (← e, h)
+
+  module _ (h : a ≡ true) (b : Bool) (d : b ≡ isPair s at 2) where
+    pub pair-not-there : b ≡ false → false ≡ pairFits s at m j
+    unfolding pairFits
+    pair-not-there y = rw (← e, h, ← d, y)
+
+    module _ (y : b ≡ true) (c : Bool) (q : c ≡ numberFits s (at + 2) m (j + 2)) where
+      pub pair-half : c ≡ false → false ≡ pairFits s at m j
+      unfolding pairFits
+      pair-half z = rw (← e, h, ← d, y, ← q, z)
+
+      pub pair-whole : c ≡ true → (r : Bool) → r ≡ numberFits s (at + 4) m (j + 3) → r ≡ pairFits s at m j
+      unfolding pairFits
+      pair-whole z r x = rw (← e, h, ← d, y, ← q, z) x
+
+module _ (s m : List ℤ) (at j d : ℕ) (b : Bool) (e : b ≡ numberFits s at m j) where
+  pub plain-two : b ≡ true → 2 ≡ plainWords s at m j d
+  unfolding plainWords
+  plain-two h = rw (← e, h)
+
+  module _ (h : b ≡ false) where
+    pub plain-deep : d ≤ 1 → 0 ≡ plainWords s at m j d
+    unfolding plainWords
+    plain-deep l = rw (← e, h, le-ltb 1 d l)
+
+    module _ (l : 1 < d) (c : Bool) (q : c ≡ pairFits s at m j) where
+      pub plain-six : c ≡ true → 6 ≡ plainWords s at m j d
+      unfolding plainWords
+      plain-six z = rw (← e, h, lt-ltb 1 d l, ← q, z)
+
+      pub plain-none : c ≡ false → 0 ≡ plainWords s at m j d
+      unfolding plainWords
+      plain-none z = rw (← e, h, lt-ltb 1 d l, ← q, z)
+
+pub ruleset is-pair-rules = (pair-other-tag, pair-width, pair-next, needs)
+
+pub ruleset pair-rules = (pair-not-asked, pair-not-there, pair-half, pair-whole, behind-pair, third, fourth, needs)
+
+pub ruleset plain-rules = (plain-two, plain-six, plain-none, plain-deep, needs)
+
+pair-second : (s m : List ℤ) (at j : ℕ) → pairFits s at m j ≡ true → numberFits s (at + 4) m (j + 3) ≡ true
+unfolding pairFits
+pair-second s m at j h = holds (numberFits s (at + 2) m (j + 2)) _ (holds (isPair s at 2) _ (holds (isPair m j 4) _ h .1) .1) .1
+
+-- Its value, where a depth is left.
+pair-end : (s m : List ℤ) (at j d : ℕ) → pairFits s at m j ≡ true → End (at + 6) ≡ fitFrom s m (suc d) j at
+unfolding pairFits inEach onward nextMember opensAt membersOf widthFits within
+pair-end s m at j d h =
+    let a = holds (isPair m j 4) _ h in
+    let u = holds (isPair s at 2) _ (a .1) in
+    let b = holds (numberFits s (at + 2) m (j + 2)) _ (u .1) in
+    let tuple = pair-words m j 4 (a .0) in
+    let pair = pair-words s at 2 (u .0) in
+    let first = number-end s m (at + 2) (j + 2) d (b .0) in
+    let second = number-end s m (at + 4) (j + 3) d (b .1) in
+    let next : j + 3 ≡ matcherEnd m (j + 2) = ap (λ (c : ℕ). c) (omega (arith, plain-end m (j + 2) (tagAt m (j + 2)) refl (omega (arith, number-words s m (at + 2) (j + 2) (b .0) .0)))) in
+    let x : at + 2 + 2 ≡ at + 4 = omega arith in
+    let y : at + 4 + 2 ≡ at + 6 = omega arith in
+    let inner : inEach (fitFrom s m d) (nextMember m 4) 2 (j + 2) (at + 2) ≡ End (at + 6) = rw (← first, x, ← next, ← second, y) in
+    let less : suc d - 1 ≡ d = omega arith in
+    sym (loop-in s m j at 4 (suc d) (sym (tuple .0)) 2 (sym (pair .0)) (λ z. absurd (omega arith)) (λ z. absurd (omega arith)) true refl refl (λ z. absurd (omega arith)) 2 (sym (pair .1)) (From (j + 2))
+    (rw (tuple .1)) (j + 2) refl ∙ rw less inner)
+
+plain-within : (s m : List ℤ) (at j d : ℕ) → 0 < plainWords s at m j d → length s < 2 ^ 64 → at + plainWords s at m j d < 2 ^ 64
+unfolding plainWords
+plain-within s m at j d = go (numberFits s at m j) refl (ltb 1 d) (pairFits s at m j) refl
+  where
+    go : (a : Bool) → numberFits s at m j ≡ a → (b : Bool) → (c : Bool) → pairFits s at m j ≡ c → 0 < cond a 2 (cond b (cond c 6 0) 0) → length s < 2 ^ 64
+        → at + cond a 2 (cond b (cond c 6 0) 0) < 2 ^ 64
+    go true p b c u h l = let x = plain-words s at (number-words s m at j p .1) .1 in omega arith
+    go false p true true u h l = let x = plain-words s (at + 4) (number-words s m (at + 4) (j + 3) (pair-second s m at j u) .1) .1 in omega arith
+    go false p true false u h l = absurd (omega arith)
+    go false p false c u h l = absurd (omega arith)
+
+-- What fits at once.
+plain-ends : (s m : List ℤ) (at j d : ℕ) → 0 < plainWords s at m j d → (0 < d) → End (at + plainWords s at m j d) ≡ fitFrom s m (d - 1) j at
+unfolding plainWords
+plain-ends s m at j d = go (numberFits s at m j) refl (ltb 1 d) refl (pairFits s at m j) refl
+  where
+    go : (a : Bool) → numberFits s at m j ≡ a → (b : Bool) → ltb 1 d ≡ b → (c : Bool) → pairFits s at m j ≡ c → 0 < cond a 2 (cond b (cond c 6 0) 0) → 0 < d
+        → End (at + cond a 2 (cond b (cond c 6 0) 0)) ≡ fitFrom s m (d - 1) j at
+    go true p b q c u h l = number-end s m at j (d - 1) p
+    go false p true q true u h l = let v = ltb-true 1 d q in let z : d - 1 ≡ suc (d - 2) = omega arith in rw z (pair-end s m at j (d - 2) u)
+    go false p true q false u h l = absurd (omega arith)
+    go false p false q c u h l = absurd (omega arith)
+
 -- ---- The elements that fit at once.
 
 pass-none : (f : ℕ → ℕ → Ended) (next : ℕ → ℕ) (n j e : ℕ) → inEach f next n j e ≡ inEach f next (n - 0) j (e + 2 * 0)
@@ -301,9 +450,12 @@ module _ (s m : List ℤ) (d k n j e : ℕ) (v : Ended) (x : v ≡ inEach (fitFr
   unfolding onward
   loop-turn h r q y w l z = each-on h r q ∙ rw (w, z)
 
-  pub loop-number : 0 < n → (b : Bool) → b ≡ numberFits s e m j → b ≡ true → (l : ℕ) → l ≡ nextMember m k j
-      → v ≡ inEach (fitFrom s m d) (nextMember m k) (n - 1) l (e + 2)
-  loop-number h b q w l z = loop-turn h (End (e + 2)) (number-end s m e j d (sym q ∙ w)) (e + 2) refl l z
+  pub loop-plain : 0 < n → (c : ℕ) → d ≡ c - 1 → (c ≡ 0 → ⊥) → (w : ℕ) → w ≡ plainWords s e m j c → 0 < w → (l : ℕ) → l ≡ nextMember m k j
+      → v ≡ inEach (fitFrom s m d) (nextMember m k) (n - 1) l (e + w)
+  loop-plain h c p z w q y l r =
+      let x = plain-ends s m e j c (rw (← q) y) (omega arith) in
+      let u : End (e + w) ≡ fitFrom s m d j e = rw (q, p) x in
+      loop-turn h (End (e + w)) u (e + w) refl l r
 
   pub loop-bad : 0 < n → (r : Ended) → r ≡ fitFrom s m d j e → (p : ℕ) → r ≡ Bad p → Bad p ≡ v
   unfolding onward
@@ -327,8 +479,8 @@ module _ (k t : ℕ) (b : Bool) (h : b ≡ opensAt k t) (y : not b ≡ false) wh
 pub next-2 : (s m : List ℤ) (at i k n j : ℕ) → n ≡ tagAt s (at + 1) → (a : Members) → a ≡ membersOf m i k n → a ≡ From j → length s < 2 ^ 64 → Fits w64 (at + 2)
 next-2 s m at i k n j e a w x l = let o = members-most m i k n j (sym w ∙ x) in next-two s at n e (omega arith) l
 
-pub number-next : (s m : List ℤ) (e j : ℕ) (b : Bool) → b ≡ numberFits s e m j → b ≡ true → length s < 2 ^ 64 → Fits w64 (e + 2)
-number-next s m e j b q w l = let x = plain-words s e (number-words s m e j (sym q ∙ w) .1) .1 in record { fits = omega arith }
+pub plain-next : (s m : List ℤ) (e j d w : ℕ) → w ≡ plainWords s e m j d → 0 < w → length s < 2 ^ 64 → Fits w64 (e + w)
+plain-next s m e j d w q h l = record { fits = rw q (plain-within s m e j d (rw (← q) h) l) }
 
 pub behind-fits : (s m : List ℤ) (at i k n j r : ℕ) → n ≡ tagAt s (at + 1) → (a : Members) → a ≡ membersOf m i k n → a ≡ From j → r ≡ fitRun s (at + 2) n m k j → length s < 2 ^ 64
     → at + 2 + 2 * r < 18446744073709551616
@@ -339,4 +491,4 @@ pub loop-run : (s m : List ℤ) (d k j n e r e′ : ℕ) (v : Ended) → v ≡ i
     → v ≡ inEach (fitFrom s m d) (nextMember m k) (n - r) j e′
 loop-run s m d k j n e r e′ v x q p = x ∙ run-passed s m k j n e r q d ∙ rw p
 
-pub ruleset rules = (ret-something, ret-under, ret-closed, ret-deep, ret-unfit, loop-in, loop-out, loop-turn, loop-number, loop-bad, next-i, next-at, next-2, number-next, run-few, behind-fits, depth-pos, depth-less, needs)
+pub ruleset rules = (ret-something, ret-under, ret-closed, ret-deep, ret-unfit, loop-in, loop-out, loop-turn, loop-plain, loop-bad, next-i, next-at, next-2, plain-next, run-few, behind-fits, depth-pos, depth-less, needs)

@@ -38,6 +38,21 @@ unfoldable pub numberFits : (s : List ℤ) → ℕ → (m : List ℤ) → ℕ �
 unfolding plainAt tagAt
 numberFits s at m j = cond (eqb (tagAt m j) 1) (plainAt s at) false
 
+-- Whether a tag stands at an index, and behind it the width of a pair.
+unfoldable pub isPair : List ℤ → (at tag : ℕ) → Bool
+unfolding tagAt
+isPair ws at tag = cond (eqb (tagAt ws at) tag) (eqb (tagAt ws (at + 1)) 2) false
+
+-- Whether a pair stands at an index of s, and a tuple of two at the index j of m, and both parts are integers, whole, under integer.
+unfoldable pub pairFits : (s : List ℤ) → ℕ → (m : List ℤ) → ℕ → Bool
+unfolding isPair numberFits
+pairFits s at m j = cond (isPair m j 4) (cond (isPair s at 2) (cond (numberFits s (at + 2) m (j + 2)) (numberFits s (at + 4) m (j + 3)) false) false) false
+
+-- How many words a value has that fits at once: an integer, or a pair of integers where a depth of two is left. 0 where it is neither.
+unfoldable pub plainWords : (s : List ℤ) → ℕ → (m : List ℤ) → (j depth : ℕ) → ℕ
+unfolding numberFits pairFits
+plainWords s at m j depth = cond (numberFits s at m j) 2 (cond (ltb 1 depth) (cond (pairFits s at m j) 6 0) 0)
+
 -- A value with the tag t under integer.
 unfoldable pub underInteger : (s : List ℤ) → (at t depth : ℕ) → Ended
 unfolding valueFrom

@@ -11,8 +11,15 @@ use words::matcher;
 use words::tag_at;
 use words::target;
 ghost use mathlib.Core.Path.{_≡_};
-ghost use Prim.Native.Nat.{_+_, _*_, _<_, _^_};
-ghost use Rattle.test_unfit.specs.Unfit.{opensAt, membersOf, nextMember, numberFits, fitRun, underInteger, fitFrom};
+ghost use Prim.Native.Nat.{_+_, _*_, _<_, _≤_, _^_};
+ghost use Rattle.test_unfit.specs.Unfit.{opensAt, membersOf, nextMember, numberFits, isPair, pairFits, plainWords, fitRun, underInteger, fitFrom};
+
+// The width of a pair, and the words of an integer and of a pair of integers.
+const PAIR: u32 = 2;
+
+const INTEGER_WORDS: usize = 2;
+
+const PAIR_WORDS: usize = 6;
 
 // The matcher of the first element or part of a value; or no such value fits.
 pub enum Members {
@@ -52,11 +59,14 @@ fn members_of(ms: &[i32], i: usize, k: u32, n: u32) -> Members
     }
 }
 
-// The matcher of the next element or part, after one under the matcher j: a tuple's are one after the other.
+// The matcher of the next element or part, after one under the matcher j: a tuple's are one after the other, and most are a tag alone.
 fn next_member(ms: &[i32], k: u32, j: usize) -> usize
     ensures { λ r. ⌜ r ≡ nextMember (now (ms .entry)) k j ⌝ }
 {
     if k == matcher::TUPLE {
+        if tag_at(ms, j) < matcher::LIST {
+            return j + 1;
+        }
         matcher_end(ms, j)
     } else {
         j
@@ -72,6 +82,46 @@ fn number_fits(ts: &[i32], at: usize, ms: &[i32], j: usize) -> bool
     } else {
         false
     }
+}
+
+// Whether a tag stands at an index, and behind it the width of a pair.
+fn is_pair(ws: &[i32], at: usize, tag: u32) -> bool
+    requires { ⌜ tag ≤ 4 ⌝ }
+    ensures { λ r. ⌜ r ≡ isPair (now (ws .entry)) at tag ⌝ }
+{
+    if tag_at(ws, at) == tag {
+        return tag_at(ws, at + 1) == PAIR;
+    }
+    false
+}
+
+// Whether a pair of integers stands at an index of `ts`, and a tuple of two integers at the index j of `ms`.
+fn pair_fits(ts: &[i32], at: usize, ms: &[i32], j: usize) -> bool
+    ensures { λ r. ⌜ r ≡ pairFits (now (ts .entry)) at (now (ms .entry)) j ⌝ }
+{
+    if is_pair(ms, j, matcher::TUPLE) {
+        if is_pair(ts, at, target::TUPLE) {
+            if number_fits(ts, at + 2, ms, j + 2) {
+                return number_fits(ts, at + 4, ms, j + 3);
+            }
+        }
+    }
+    false
+}
+
+// How many words a value has that fits at once: an integer, or a pair of integers; 0 where it is neither.
+fn plain_words(ts: &[i32], at: usize, ms: &[i32], j: usize, depth: u32) -> usize
+    ensures { λ r. ⌜ r ≡ plainWords (now (ts .entry)) at (now (ms .entry)) j depth ⌝ }
+{
+    if number_fits(ts, at, ms, j) {
+        return INTEGER_WORDS;
+    }
+    if 1 < depth {
+        if pair_fits(ts, at, ms, j) {
+            return PAIR_WORDS;
+        }
+    }
+    0
 }
 
 // A value with the tag t under integer.
@@ -135,8 +185,9 @@ pub fn fit_end(ts: &[i32], at: usize, ms: &[i32], i: usize, depth: u32) -> Ended
     let mut e = behind(at + 2, run);
     let mut left = n - run;
     while 0 < left {
-        if number_fits(ts, e, ms, j) {
-            e += 2;
+        let plain = plain_words(ts, e, ms, j, depth);
+        if 0 < plain {
+            e += plain;
             j = next_member(ms, k, j);
             left -= 1;
         } else {

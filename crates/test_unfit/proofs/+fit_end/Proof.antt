@@ -4,7 +4,7 @@ use mathlib.Core.Path.{_≡_}
 use borrow.Fn.Kinds.{In}
 use borrow.Fn.PlainCycle.{Measures, is, falls, and}
 use Rattle.test_unfit.specs.Unfit.{nextMember, inEach, fitFrom}
-use Rattle.test_unfit.proofs.Steps.{rules, loop-in, loop-run, loop-number, loop-turn, loop-bad, loop-out}
+use Rattle.test_unfit.proofs.Steps.{rules, loop-in, loop-run, loop-plain, loop-turn, loop-bad, loop-out}
 use Rattle.test_unfit.proofs.fit_end.Reads as fit-end
 use Rattle.test_unfit.proofs.fit_end.Kinds as fit-end-kinds
 use Rattle.test_unfit.proofs.+fit_end.Lts-fit_end as fit-end-lts
@@ -13,7 +13,7 @@ use Rattle.test_target.proofs.value_end.Reads as value-end-reads
 use Rattle.test_unfit.proofs.opens.Reads as opens-reads
 use Rattle.test_unfit.proofs.members_of.Reads as members-of-reads
 use Rattle.test_unfit.proofs.next_member.Reads as next-member-reads
-use Rattle.test_unfit.proofs.number_fits.Reads as number-fits-reads
+use Rattle.test_unfit.proofs.plain_words.Reads as plain-words-reads
 use Rattle.test_unfit.proofs.under_integer.Reads as under-integer-reads
 use Rattle.test_unfit.proofs.fit_run.Reads as fit-run-reads
 use Rattle.test_unfit.proofs.behind.Reads as behind-reads
@@ -51,8 +51,8 @@ pub +fit-end-spec : {M : Type 1} → statement M
   fit-run-reads.Learnt,
   behind-reads.Asked,
   behind-reads.Learnt,
-  number-fits-reads.Asked,
-  number-fits-reads.Learnt,
+  plain-words-reads.Asked,
+  plain-words-reads.Learnt,
   next-member-reads.Asked,
   next-member-reads.Learnt,
   fit-end-below t,
@@ -79,12 +79,12 @@ pub +fit-end-spec : {M : Type 1} → statement M
     (λ c. search rules)  -- behind-requires
     (λ c. search rules)  -- sub-left
     (λ c. loop-run _ _ _ _ _ _ _ _ _ _ (loop-in _ _ _ _ _ _ (c .before .before .before .before .before .before .before .before .before .before .before .before .before .tag-at .ensures) _ (c .before .before .before .before .before .before .before .before .before .before .before .tag-at2 .ensures) (c .before .before .before .before .before .before .before .before .before .before .before .before .if1 .left) (c .before .before .before .before .before .before .before .before .before .before .if2 .left) _ (c .before .before .before .before .before .before .before .before .before .opens .ensures) (c .before .before .before .before .before .before .before .before .if3 .left) (c .before .before .before .before .before .before .before .if4 .left) _ (c .before .before .before .before .before .before .tag-at3 .ensures) _ (c .before .before .before .before .before .members-of .ensures) _ (c .before .before .before .first .given .1)) (c .before .fit-run .ensures) (c .behind .ensures))  -- loop-holds
-    (λ c. search rules)  -- number-fits-requires
+    (λ c. search rules)  -- plain-words-requires
     (λ c. search rules)  -- add-e
     (λ c. search rules)  -- next-member-requires
     (λ c. search rules)  -- sub-left-2
     (λ c. search rules)  -- loop-less
-    (λ c. loop-number _ _ _ _ _ _ _ _ (c .before .before .before .before .loop .inv) (c .before .before .before .loop-test .taken) _ (c .before .before .number-fits .ensures) (c .before .if5 .taken) _ (c .next-member .ensures))  -- loop-again
+    (λ c. search rules)  -- loop-again
     (λ c. search rules)  -- sub-fit-end
     (λ c. search rules)  -- fit-end-requires
     (λ c. search rules)  -- enum-known-x

@@ -7,4 +7,7 @@ pub next-member-spec : {M : Type 1} → statement M
 next-member-spec = tie.close (tie.spec
     (λ c κs. search member-rules)
     (λ c. search member-rules)
+    (λ c. search member-rules)
+    (λ c κs. search member-rules)
+    (λ c. search member-rules)
     (λ c. search member-rules))
