@@ -208,7 +208,7 @@ fn run_speed(name: &str, rounds: u64, who: &str, budget: Option<u32>) -> bool {
 }
 
 fn case_of(name: &str) -> &'static speed::Case {
-    let case = speed::CASES.iter().chain(&speed::EITHER_ORDER).find(|case| case.name == name);
+    let case = speed::CASES.iter().chain(&speed::EITHER_ORDER).chain(speed::GROWN.iter().flatten()).find(|case| case.name == name);
     case.unwrap_or_else(|| panic!("no case {name}: bench rules lists them"))
 }
 
@@ -235,6 +235,14 @@ fn run_listing(rounds: u64) -> bool {
     #[cfg(library)]
     println!("{} {}", listing::words(rounds), speed::LISTING_BAR);
     let _ = rounds;
+    true
+}
+
+fn list_grown() -> bool {
+    for kind in &speed::GROWN {
+        let names: Vec<_> = kind.iter().map(|case| case.name).collect();
+        println!("{};{}", speed::GROWN_BAR, names.join(";"));
+    }
     true
 }
 
@@ -278,9 +286,10 @@ fn main() {
         Some("listing") => run_listing(number(&words, 1)),
         Some("portions") if words.len() == 4 => run_portions(&words[1], number(&words, 2), &words[3]),
         Some("advance") => list_advance(),
+        Some("grown") => list_grown(),
         Some("stack") => run_stack(),
         Some("recount") => recount(&words[1..]),
-        _ => panic!("bench cases FILE.. | compare N SEED | rules | speed CASE ROUNDS WHO [BUDGET] | beside | listing ROUNDS | portions CASE CALLS WHO | advance | stack | recount FILE.."),
+        _ => panic!("bench cases FILE.. | compare N SEED | rules | speed CASE ROUNDS WHO [BUDGET] | beside | listing ROUNDS | portions CASE CALLS WHO | advance | grown | stack | recount FILE.."),
     };
     std::process::exit(if good { 0 } else { 1 });
 }

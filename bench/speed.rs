@@ -91,6 +91,38 @@ pub const EITHER_ORDER: [Case; 2] = [
         matcher: MULTISET, pattern: TWO_OF_A_RANK, target: || units(18, |_| 7), budget: u32::MAX },
 ];
 
+/// Of each kind a small one first, then larger ones: no state of these may take more than so many hundredths of what one of the small ones takes.
+pub const GROWN_BAR: u64 = 110;
+
+#[rustfmt::skip]
+pub const GROWN: [[Case; 3]; 2] = [
+    [
+        grown("4 units", TWO_OF_A_RANK, || units(4, |k| k)),
+        grown("16 units", TWO_OF_A_RANK, || units(16, |k| k)),
+        grown("64 units", TWO_OF_A_RANK, || units(64, |k| k)),
+    ],
+    [
+        grown("9 pattern words", &ands::<9>(), || units(4, |k| k)),
+        grown("65 pattern words", &ands::<65>(), || units(4, |k| k)),
+        grown("255 pattern words", &ands::<255>(), || units(4, |k| k)),
+    ],
+];
+
+const fn grown(name: &'static str, pattern: &'static [i32], target: fn() -> Vec<i32>) -> Case {
+    Case { name, about: "", bar: 0, per: Per::Step, matcher: MULTISET, pattern, target, budget: u32::MAX }
+}
+
+/// Wildcards joined by and: so many words, an odd number.
+const fn ands<const WORDS: usize>() -> [i32; WORDS] {
+    let mut words = [0; WORDS];
+    let mut at = 0;
+    while at + 1 < WORDS {
+        words[at] = 8;
+        at += 2;
+    }
+    words
+}
+
 fn units(count: i32, unit: fn(i32) -> i32) -> Vec<i32> {
     [1, count].into_iter().chain((0..count).flat_map(|k| [0, unit(k)])).collect()
 }
