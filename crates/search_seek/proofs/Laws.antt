@@ -1,29 +1,24 @@
 -- The laws that the choices passed over ask for. Assumes nothing.
-use mathlib.Core.Path.{_≡_, refl, sym, ap, subst, _∙_}
-use mathlib.Core.Bool.{Bool, true, false}
+use mathlib.Core.Path.{_≡_, sym, ap, subst, _∙_}
+use mathlib.Core.Bool.{Bool, false}
 use mathlib.Core.List.{List}
 use Prim.Native.Nat.{ℕ, _+_, _-_, _^_, _<_, _≤_}
 use native.Mathlib.Omega.{arith}
 use borrow.Author.Needs.{needs}
-use borrow.Author.Tests.{eq-eqb, ne-eqb}
 use lib.ListN.{length, getD}
-use lib.Dec.{eqb}
 use lib.Count.{trailingZeros}
 use lib.IntN.{ℤ, pos}
 use mir.Syntax.{w64}
 use mir.Val.{Fits}
-use Rattle.words.specs.Words.{entries}
 use Rattle.words.specs.Marks.{clear}
 use Rattle.words.proofs.marks.Places.{clear-le}
-use Rattle.value_places.specs.Places.{Target, Tag, elementAt}
+use Rattle.value_places.specs.Places.{Target, elementAt}
 use Rattle.value_places.specs.Held.{Held}
 use Rattle.value_places.proofs.Elements.{second}
 use Rattle.value_places.proofs.Held.{held-tag, held-clear, next-in, next-less, next-tag}
 use Rattle.value_equality.specs.Equality.{isSum}
 use Rattle.tables.specs.declared.slot.Frame.{Frame}
 use Rattle.tables.specs.Slot.{Tables, frameIn, putLeft}
-use Rattle.search_atom.specs.Leaves.{when}
-use Rattle.search_step.specs.declared.State.{State}
 use Rattle.search_seek.specs.Passed.{later, isLowest, Passed, stays, over, Over}
 
 -- ---- One choice.

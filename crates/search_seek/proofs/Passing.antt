@@ -5,15 +5,13 @@ use mathlib.Core.List.{List}
 use Prim.Native.Nat.{ℕ, _+_, _-_, _^_, _<_, _≤_}
 use native.Mathlib.Omega.{arith}
 use borrow.Author.Needs.{needs}
-use borrow.Author.Tests.{eq-eqb, ne-eqb, eqb-true}
-use lib.ListN.{length, getD, set, length-set}
+use borrow.Author.Tests.{ne-eqb, eqb-true}
+use lib.ListN.{length, getD, length-set}
 use lib.Seq.{set-getD}
-use lib.Dec.{eqb}
 use lib.Count.{trailingZeros}
 use lib.IntN.{ℤ}
 use mir.Syntax.{w64}
 use mir.Val.{Fits}
-use Rattle.words.specs.Words.{entries}
 use Rattle.words.specs.Marks.{clear}
 use Rattle.words.proofs.marks.Places.{clear-le}
 use Rattle.value_places.specs.Places.{Target, Tag, countAt, hops, elementAt}
@@ -25,7 +23,7 @@ use Rattle.tables.specs.declared.slot.Frame.{Frame}
 use Rattle.tables.specs.Slot.{Tables, frameIn, heldIn, putHeld, putLeft, viewOf, Slotted}
 use Rattle.search_atom.specs.Leaves.{when, isWide, stored, partMarks, partHeld, partsIn}
 use Rattle.search_seek.specs.Passed.{later}
-use Rattle.search_seek.specs.Pairs.{isPart, costOf, lowestIn, PassedPairs, stays, over, waiting, OverPairs, Integers}
+use Rattle.search_seek.specs.Pairs.{isPart, costOf, lowestIn, PassedPairs, stays, over, waiting, OverPairs}
 use Rattle.search_seek.specs.declared.pairs.Wanted.{Wanted}
 
 -- ---- The steps of a pair.

@@ -1,7 +1,7 @@
 -- Choices of a multiset's cons that fail at the integer which its first part asks for, passed over: the lowest first, each for a step, never the last.
 use Prim.Native.Nat.{ℕ, _+_, _-_, _<_, _≤_}
 use mathlib.Core.Path.{_≡_}
-use mathlib.Core.Bool.{Bool, true, false}
+use mathlib.Core.Bool.{Bool, false}
 use mathlib.Core.List.{List}
 use lib.ListN.{length, getD}
 use lib.Count.{trailingZeros}

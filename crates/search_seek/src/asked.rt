@@ -21,7 +21,7 @@ ghost use Prim.Native.Nat.{_-_, _<_};
 ghost use lib.ListN.{length, getD};
 ghost use Rattle.words.specs.Words.{entries};
 ghost use Rattle.tables.specs.Line.{columnsOf};
-ghost use Rattle.tables.specs.Slot.{viewOf, Slotted, Alone};
+ghost use Rattle.tables.specs.Slot.{viewOf};
 ghost use Rattle.value_places.specs.Places.{Target};
 ghost use Rattle.value_places.specs.Tables.{Placed};
 ghost use Rattle.search_seek.specs.Passed.{Over};
