@@ -268,10 +268,6 @@ module _ (e : Env) (x : State) (t : Tables) (b : List Binding) (room : List ℤ)
     pub turn-row : getD (e .op) (x .pc) 0 ≡ 0 → Rows (e .words) b′ (e .vars) x room
     turn-row z = rw (same-binds (λ y. omega arith)) rows-ask
 
-    -- The bindings that no line has changed.
-    pub turn-binds : (getD (e .op) (x .pc) 0 ≡ 3 → ⊥) → Bound (e .words) b′ 16
-    turn-binds n = rw (same-binds n) (v .binds)
-
     -- The state is taken up: the next choice can be taken, and then the run is at its next state.
     pub taken-is : x .live ≡ 1 → (y : State) (u : Tables) (room′ : List ℤ) → run y u b′ room′ ≡ takeOf e (run x t b room) → Taken e (run x t b room) y u b′ room′
     taken-is o y u room′ p =

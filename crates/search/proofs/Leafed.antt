@@ -46,10 +46,10 @@ settled-binds e r = go (eqb (r .state .live) 2)
 -- The state y is that after the one which was taken up, and perhaps choices that were passed over.
 module _ (e : Env) (w : Run) (budget : ℕ) (room₀ : List ℤ) (r : Run) (h : Here e w budget room₀ r) (fine : Fine e) (g : Target (e .words)) (l : r .state .live ≡ 1)
     (y : State) (u : Tables) (b : List Binding) (room : List ℤ) (m : Swept e r budget y u b room) where
-  kept : Kept e room₀ (settled e (run y u b room))
+  pub kept : Kept e room₀ (settled e (run y u b room))
   kept = subst (Kept e room₀) (sym (m .next)) (run-kept e fine g room₀ (m .more) (settled e (takeOf e r)) (turn-kept e fine g room₀ r (record { valid = h .valid; long = h .long }) l))
 
-  bound-all : Bound (e .words) b 16
+  pub bound-all : Bound (e .words) b 16
   bound-all = subst (λ (c : List Binding). Bound (e .words) c 16) (settled-binds e (run y u b room)) (kept .valid .binds)
 
   -- What the look for a leaf asks.

@@ -53,7 +53,7 @@ module _ (e : Env) (x : State) (t : Tables) (b : List Binding) (room : List ℤ)
   unfolding takeOf takeBind when
   take-bind z = rw z
 
-  take-holds : getD (e .op) (x .pc) 0 ≡ 5 → isSum (e .words) (getD b (getD (e .arg) (x .pc) 0) nothing .at) (getD (e .con) (x .pc) (pos 0)) (x .at) ≡ true
+  pub take-holds : getD (e .op) (x .pc) 0 ≡ 5 → isSum (e .words) (getD b (getD (e .arg) (x .pc) 0) nothing .at) (getD (e .con) (x .pc) (pos 0)) (x .at) ≡ true
       → takeOf e (run x t b room) ≡ run (dropped (e .from) (e .to) (t .ats) (t .backs) (counted x)) t b room
   unfolding takeOf takeStep afterTurn asked askOf boundAt stepOf stepBy passesOf counted when
   take-holds z f = rw (z, f)
@@ -64,7 +64,7 @@ module _ (e : Env) (x : State) (t : Tables) (b : List Binding) (room : List ℤ)
   take-end z l = rw (z, le-ltb _ _ l)
 
 -- A turn after which a state stands.
-turn : (e : Env) (n : ℕ) (r r′ : Run) → r .state .live ≡ 1 → takeOf e r ≡ r′ → r′ .state .live ≡ 1 → runOf e (suc n) r ≡ runOf e n r′
+pub turn : (e : Env) (n : ℕ) (r r′ : Run) → r .state .live ≡ 1 → takeOf e r ≡ r′ → r′ .state .live ≡ 1 → runOf e (suc n) r ≡ runOf e n r′
 unfolding settled when
 turn e n r r′ l p k = run-more e n r l ∙ ap (runOf e n) (ap (settled e) p ∙ rw k)
 

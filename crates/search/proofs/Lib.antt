@@ -16,5 +16,7 @@ pub mod Narrows
 pub mod Swept
 pub mod Leaves
 pub mod Leafed
+pub mod Pairs
+pub mod Sought
 pub mod Begun
 pub mod Accepted

@@ -58,7 +58,7 @@ more-turns e r s u p q = record {
 -- ---- A choice that fails.
 
 -- Tag 3 under integer, where it is not equal.
-take-fails : (e : Env) (x : State) (t : Tables) (b : List Binding) (room : List ℤ) → getD (e .op) (x .pc) 0 ≡ 5
+pub take-fails : (e : Env) (x : State) (t : Tables) (b : List Binding) (room : List ℤ) → getD (e .op) (x .pc) 0 ≡ 5
     → isSum (e .words) (getD b (getD (e .arg) (x .pc) 0) nothing .at) (getD (e .con) (x .pc) (pos 0)) (x .at) ≡ false
     → takeOf e (run x t b room) ≡ run (lived (counted x) 2) t b room
 unfolding takeOf takeStep afterTurn asked askOf boundAt stepOf stepBy passesOf counted when

@@ -11,8 +11,8 @@ use search_choice::settle;
 use search_leaf::lines::leaf_at;
 use search_leaf::take;
 use search_leaf::told::Shape;
-use search_seek::asks;
-use search_seek::pass_over;
+use search_seek::asked::asked_at;
+use search_seek::asked::pass;
 use search_step::Asked;
 use search_step::ENDED;
 use search_step::FULL;
@@ -121,11 +121,11 @@ pub fn advance(
             x = x.step(Asked { same: same }, s, places, lines, slots);
             if o == MULTISET_CONS {
                 narrow(terms, x, mt, s, places, lines, slots);
-                let sought = asks(x, lines);
-                if sought {
-                    let v = arg_at(lines, x.top);
-                    let y = b[v];
-                    x = pass_over(x, y.at, terms.budget, s, places, lines, slots);
+                let a = asked_at(x, lines);
+                if 0 < a.first {
+                    let g = b[arg_at(lines, a.first)].at;
+                    let h = b[arg_at(lines, a.second)].at;
+                    x.steps = pass(x.steps, a, g, h, terms.budget, s, places, lines, slots);
                 }
                 let i = leaf_at(x, lines, slots);
                 if 0 < i {

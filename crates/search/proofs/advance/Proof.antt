@@ -1,6 +1,6 @@
 -- `search::advance` meets its contract: at the loop's head the whole run is what is left of it from here. The measure is the steps left. In the inner loop
 -- what is left of the row is still to be written. Assumes nothing.
-use Prim.Native.Nat.{ℕ, _+_, _-_, _<_, _≤_}
+use Prim.Native.Nat.{_+_, _-_, _<_, _≤_}
 use mathlib.Core.Path.{_≡_, refl, sym, ap, _∙_}
 use mathlib.Core.Logic.{⊎-elim}
 use native.Mathlib.Omega.{arith}
@@ -16,16 +16,18 @@ use Rattle.tables.specs.Line.{columnsOf}
 use Rattle.tables.specs.Slot.{Tables, viewOf}
 use Rattle.search_step.specs.declared.State.{State}
 use Rattle.search_step.specs.Steps.{turned, stepOf}
+use Rattle.search_seek.specs.Passed.{timed}
 use Rattle.search.specs.Run.{Env, Run, run, runOf, choicesOf}
 use Rattle.search.specs.Narrow.{narrowed}
 use Rattle.search.specs.Told.{envBy}
 use Rattle.search.specs.Valid.{Rows}
 use Rattle.value_rows.proofs.Row.{row-held, row-16, row-mul, row-room, row-turn, row-turn-size, row-out, row-out-size, row-start-size, row-start-room}
 use Rattle.value_rows.proofs.Room.{length-put}
-use Rattle.search.proofs.Laws.{turned-path, goes-live, goes-less, Here, here-start, here-end, Asked, asked-3, asked-4, asked-5, asked-6, asked-below, asked-above, took-full, took-wrote, Taken, taken-is, taken-chosen, taken-step, turn-row, turn-steps, turn-binds, settled-by, Ready, ready, ready-place, ready-constant, ready-number, ready-number-mul, ready-bound, ready-sum, fine-named}
+use Rattle.search.proofs.Laws.{goes-live, goes-less, Here, here-start, here-end, Asked, asked-3, asked-4, asked-5, asked-6, asked-below, asked-above, took-full, took-wrote, Taken, taken-is, taken-chosen, taken-step, turn-row, turn-steps, settled-by, Ready, ready, ready-place, ready-constant, ready-number, ready-number-mul, ready-bound, ready-sum, fine-named}
 use Rattle.search.proofs.Narrows.{narrow-code, narrow-asks}
-use Rattle.search.proofs.Swept.{Swept, here-swept, swept-less, swept-at, swept-none, taken-opens, asks-place, asks-number, asks-seeks, asks-slotted, asks-alone, swept-over}
+use Rattle.search.proofs.Swept.{Swept, here-swept, swept-less, swept-at, swept-none}
 use Rattle.search.proofs.Leafed.{leaf-looks, leaf-takes, leaf-slotted, leaf-alone, leaf-number, swept-leaf, swept-as}
+use Rattle.search.proofs.Sought.{sought-opens, first-place, second-place, first-number, second-number, sought-seeking, swept-pass}
 use Rattle.search.proofs.advance.Statement.{statement}
 use Rattle.search.proofs.advance.Tie as tie
 
@@ -77,6 +79,10 @@ joined c =
 rows : (c : tie.Then7 Inv-loop2 μ-loop2 Inv-loop μ-loop) → Rows (c .before .before .before .before .before .before .before .before .args .s .now) (c .before .if2 .b) (c .before .before .before .before .before .before .before .before .args .terms .vars) (c .before .before .before .before .before .loop .x) (c .before .before .before .before .before .loop .room)
 rows c = let h = stands (c .before .before .before) in turn-row _ _ _ _ _ _ _ (joined (c .before)) (h .fine) (h .target) (h .valid) (h .count) (sym (c .before .before .op-at .ensures) ∙ c .if7 .taken)
 
+-- The budget is not used up.
+less : (c : tie.Then1 Inv-loop2 μ-loop2 Inv-loop μ-loop) → c .before .before .loop .x .steps < c .before .before .before .before .before .args .terms .budget
+less c = goes-less _ _ _ (c .before .goes-on .ensures) (c .if1 .taken)
+
 -- A step is taken, by a line that is no cons under a multiset; and by one that is, narrowed.
 took : (c : tie.After-step-arg Inv-loop2 μ-loop2 Inv-loop μ-loop) (y : State) (u : Tables) → (c .before .before .before .op-at .result ≡ 9 → ⊥)
     → turned y u ≡ stepOf (program (c .before .before .before .before .before .before) .op) (program (c .before .before .before .before .before .before) .from) (program (c .before .before .before .before .before .before) .to) (program (c .before .before .before .before .before .before) .con) (program (c .before .before .before .before .before .before) .words) (c .before .before .if2 .same) (current (c .before .before .before .before .before .before) .state) (current (c .before .before .before .before .before .before) .tables)
@@ -89,28 +95,23 @@ took c y u n e =
 narrows : (c : tie.After-step-arg Inv-loop2 μ-loop2 Inv-loop μ-loop) (y : State) (u u′ : Tables) → c .before .before .before .op-at .result ≡ 9
     → turned y u ≡ stepOf (program (c .before .before .before .before .before .before) .op) (program (c .before .before .before .before .before .before) .from) (program (c .before .before .before .before .before .before) .to) (program (c .before .before .before .before .before .before) .con) (program (c .before .before .before .before .before .before) .words) (c .before .before .if2 .same) (current (c .before .before .before .before .before .before) .state) (current (c .before .before .before .before .before .before) .tables)
     → u′ ≡ narrowed (program (c .before .before .before .before .before .before) .dialect) (program (c .before .before .before .before .before .before) .matcher) (getD (program (c .before .before .before .before .before .before) .mat) (y .top - 1) 0) (program (c .before .before .before .before .before .before) .words) y u
-    → Taken (program (c .before .before .before .before .before .before)) (current (c .before .before .before .before .before .before)) y u′ (c .before .before .if2 .b) (c .before .before .before .before .before .before .loop .room)
+    → Swept (program (c .before .before .before .before .before .before)) (current (c .before .before .before .before .before .before)) (c .before .before .before .before .before .before .before .before .before .args .terms .budget) y u′ (c .before .before .if2 .b) (c .before .before .before .before .before .before .loop .room)
 unfolding choicesOf
 narrows c y u u′ z e q =
     let h = stands (c .before .before .before .before) in
     let p = c .before .before .before .op-at .ensures in
-    taken-chosen _ _ _ _ _ _ _ (joined (c .before .before)) (h .fine) (h .target) (h .valid) (h .count) (h .live) _ _ _ (λ k. c .before .if7 .left (p ∙ k))
-    (narrow-code _ _ _ (program (c .before .before .before .before .before .before) .mat) (program (c .before .before .before .before .before .before) .arg) _ _ _ _ _ _ (sym p ∙ z) (h .valid .long) (h .valid .place) _ _ e _ _ q) refl
-
--- The budget is not used up.
-less : (c : tie.Then1 Inv-loop2 μ-loop2 Inv-loop μ-loop) → c .before .before .loop .x .steps < c .before .before .before .before .before .args .terms .budget
-less c = goes-less _ _ _ (c .before .goes-on .ensures) (c .if1 .taken)
+    swept-none _ _ _ _ _ _ (taken-chosen _ _ _ _ _ _ _ (joined (c .before .before)) (h .fine) (h .target) (h .valid) (h .count) (h .live) _ _ _ (λ k. c .before .if7 .left (p ∙ k))
+    (narrow-code _ _ _ (program (c .before .before .before .before .before .before) .mat) (program (c .before .before .before .before .before .before) .arg) _ _ _ _ _ _ (sym p ∙ z) (h .valid .long) (h .valid .place) _ _ e _ _ q) refl) (h .valid .room) _ (less (c .before .before .before .before))
 
 -- After a multiset's cons: choices may be passed over.
 sought : (c : tie.Joined11 Inv-loop2 μ-loop2 Inv-loop μ-loop)
-    → Swept (program (c .before .before .before .before .before .before .before .before .before .before .before .before)) (current (c .before .before .before .before .before .before .before .before .before .before .before .before)) (c .before .before .before .before .before .before .before .before .before .before .before .before .before .before .before .args .terms .budget) (c .if11 .x) (viewOf (columnsOf (c .before .before .before .before .before .before .before .before .before .before .before .before .before .before .before .args .lines .now) .arg) (c .if11 .slots)) (c .before .before .before .before .before .before .before .before .if2 .b) (c .before .before .before .before .before .before .before .before .before .before .before .before .loop .room)
+    → Swept (program (c .before .before .before .before .before .before .before .before .before .before .before .before .before)) (current (c .before .before .before .before .before .before .before .before .before .before .before .before .before)) (c .before .before .before .before .before .before .before .before .before .before .before .before .before .before .before .before .args .terms .budget) (c .if11 .x) (viewOf (columnsOf (c .before .before .before .before .before .before .before .before .before .before .before .before .before .before .before .before .args .lines .now) .arg) (c .if11 .slots)) (c .before .before .before .before .before .before .before .before .before .if2 .b) (c .before .before .before .before .before .before .before .before .before .before .before .before .before .loop .room)
+unfolding timed
 sought c =
-    let h = stands (c .before .before .before .before .before .before .before .before .before .before) in
-    let l = less (c .before .before .before .before .before .before .before .before .before .before) in
-    let k = narrows (c .before .before .before .before .before .before) _ _ _ (c .before .before .before .before .if10 .taken) (c .before .before .before .before .before .step .ensures) (c .before .before .narrow .ensures) in
+    let h = stands (c .before .before .before .before .before .before .before .before .before .before .before) in
     ⊎-elim
-    (λ w. swept-at _ _ _ _ _ _ _ _ _ _ (w .6) (ap (viewOf _) (w .5)) refl (swept-over _ _ _ _ _ _ k (h .valid .room) _ l (h .fine) (h .target) _ (c .before .asks .ensures) (w .0 .taken) _ (w .1 .ensures) _ _ (w .4 .ensures)))
-    (λ w. swept-at _ _ _ _ _ _ _ _ _ _ (w .2) (ap (viewOf _) (w .1)) refl (swept-none _ _ _ _ _ _ k (h .valid .room) _ l))
+    (λ w. swept-at _ _ _ _ _ _ _ _ _ _ (w .6) (ap (viewOf _) (w .5)) refl (swept-pass _ _ _ _ _ (c .before .before .before .before .before .before .before .before .before .before .before .before .before .loop .inv) (h .fine) (h .target) (h .live) _ _ _ _ (narrows (c .before .before .before .before .before .before .before) _ _ _ (c .before .before .before .before .before .if10 .taken) (c .before .before .before .before .before .before .step .ensures) (c .before .before .before .narrow .ensures)) _ (c .before .before .asked-at .ensures) (w .0 .taken) _ _ (w .1 .ensures) (w .2 .ensures) _ _ (w .4 .ensures .0) (w .4 .ensures .1)))
+    (λ w. swept-at _ _ _ _ _ _ _ _ _ _ (w .2) (ap (viewOf _) (w .1)) refl (narrows (c .before .before .before .before .before .before .before) _ _ _ (c .before .before .before .before .before .if10 .taken) (c .before .before .before .before .before .before .step .ensures) (c .before .before .before .narrow .ensures)))
     (c .if11 .came)
 
 -- Where a row and a step meet: the state is taken up, and choices may be passed over or taken up.
@@ -126,11 +127,11 @@ met c = let h = stands (c .before .before .before) in let p = c .before .before 
     (took-wrote _ _ _ _ _ _ _ (joined (c .before)) _ _ _ _ (sym p ∙ w .0 .taken) (ltb-false _ _ (sym (w .1 .ensures) ∙ w .2 .left)) (w .9 ∙ w .6 .ensures)
     (row-out-size _ _ _ _ _ _ _ k (i .3) (w .5 .left)) (ap (viewOf _) (w .7)) (w .8 ∙ row-out _ _ _ _ _ _ _ _ k (i .4) (w .5 .left)))) (h .valid .room) _ l))
     (⊎-elim
-    (λ w. let q = sought (record { before = record { before = record { before = record { before = record { before = record { before = record { before = record { before = c .before; if7 = w .0 }; step-arg = w .1 }; step = w .2 }; if10 = w .3 }; narrow-arg = w .4 }; narrow = w .5 }; asks = w .6 }; if11 = w .7 }) in
-    swept-as _ _ _ _ _ _ _ _ _ _ _ (w .20) (ap (viewOf _) (w .18)) (w .21) (w .19) (swept-leaf _ _ _ _ _ (c .before .before .before .before .before .loop .inv) (h .fine) (h .target) (h .live) _ _ _ _ q _ (w .9 .ensures (w .10 .taken)) _ refl _ _ _ _ _ (w .11 .ensures) (w .14 .ensures)))
+    (λ w. let q = sought (record { before = record { before = record { before = record { before = record { before = record { before = record { before = record { before = record { before = c .before; if7 = w .0 }; step-arg = w .1 }; step = w .2 }; if10 = w .3 }; narrow-arg = w .4 }; narrow = w .5 }; asked-at = w .6 }; struct-known2 = w .7 }; if11 = w .8 }) in
+    swept-as _ _ _ _ _ _ _ _ _ _ _ (w .21) (ap (viewOf _) (w .19)) (w .22) (w .20) (swept-leaf _ _ _ _ _ (c .before .before .before .before .before .loop .inv) (h .fine) (h .target) (h .live) _ _ _ _ q _ (w .10 .ensures (w .11 .taken)) _ refl _ _ _ _ _ (w .12 .ensures) (w .15 .ensures)))
     (⊎-elim
-    (λ w. let q = sought (record { before = record { before = record { before = record { before = record { before = record { before = record { before = record { before = c .before; if7 = w .0 }; step-arg = w .1 }; step = w .2 }; if10 = w .3 }; narrow-arg = w .4 }; narrow = w .5 }; asks = w .6 }; if11 = w .7 }) in
-    swept-as _ _ _ _ _ _ _ _ _ _ _ (w .13) (ap (viewOf _) (w .11)) (w .14) (w .12) q)
+    (λ w. let q = sought (record { before = record { before = record { before = record { before = record { before = record { before = record { before = record { before = record { before = c .before; if7 = w .0 }; step-arg = w .1 }; step = w .2 }; if10 = w .3 }; narrow-arg = w .4 }; narrow = w .5 }; asked-at = w .6 }; struct-known2 = w .7 }; if11 = w .8 }) in
+    swept-as _ _ _ _ _ _ _ _ _ _ _ (w .14) (ap (viewOf _) (w .12)) (w .15) (w .13) q)
     (λ w. let k = took (record { before = record { before = c .before; if7 = w .0 }; step-arg = w .1 }) _ _ (w .3 .left) (w .2 .ensures) in
     swept-as _ _ _ _ _ _ _ _ _ _ _ (w .6) (ap (viewOf _) (w .4)) (w .7) (w .5) (swept-none _ _ _ _ _ _ k (h .valid .room) _ l)))))
     (c .if7 .came)
@@ -256,67 +257,55 @@ narrow-requires c κs =
       ),
     )
 
-asks-requires : tie.Need-asks-requires Inv-loop2 μ-loop2 Inv-loop μ-loop
-asks-requires c κs =
-    let h = stands (c .before .before .before .before .before .before .before .before) in
-    taken-opens _ _ _ _ _ _ (narrows (c .before .before .before .before) _ _ _ (c .before .before .if10 .taken) (c .before .before .before .step .ensures) (c .narrow .ensures)) (h .valid .room) _ (less (c .before .before .before .before .before .before .before .before)) (h .fine)
+asked-at-requires : tie.Need-asked-at-requires Inv-loop2 μ-loop2 Inv-loop μ-loop
+asked-at-requires c κs = let h = stands (c .before .before .before .before .before .before .before .before) in sought-opens _ _ _ _ _ (c .before .before .before .before .before .before .before .before .before .before .loop .inv) (h .fine) (h .target) (h .live) _ _ _ _ (narrows (c .before .before .before .before) _ _ _ (c .before .before .if10 .taken) (c .before .before .before .step .ensures) (c .narrow .ensures))
 
 arg-at-requires-4 : tie.Need-arg-at-requires-4 Inv-loop2 μ-loop2 Inv-loop μ-loop
-arg-at-requires-4 c κs =
-    let h = stands (c .before .before .before .before .before .before .before .before .before .before) in
-    asks-place _ _ _ _ _ _ (narrows (c .before .before .before .before .before .before) _ _ _ (c .before .before .before .before .if10 .taken) (c .before .before .before .before .before .step .ensures) (c .before .before .narrow .ensures)) (h .valid .room) _ (less (c .before .before .before .before .before .before .before .before .before .before)) (h .fine) (h .target) _ (c .before .asks .ensures) (c .if11 .taken)
+arg-at-requires-4 c κs = let h = stands (c .before .before .before .before .before .before .before .before .before .before .before) in first-place _ _ _ _ _ (c .before .before .before .before .before .before .before .before .before .before .before .before .before .loop .inv) (h .fine) (h .target) (h .live) _ _ _ _ (narrows (c .before .before .before .before .before .before .before) _ _ _ (c .before .before .before .before .before .if10 .taken) (c .before .before .before .before .before .before .step .ensures) (c .before .before .before .narrow .ensures)) _ (c .before .before .asked-at .ensures) (c .if11 .taken)
 
-array-copy-out-y-2 : tie.Need-array-copy-out-y-2 Inv-loop2 μ-loop2 Inv-loop μ-loop
-array-copy-out-y-2 c =
-    let h = stands (c .before .before .before .before .before .before .before .before .before .before .before) in
-    asks-number _ _ _ _ _ _ (narrows (c .before .before .before .before .before .before .before) _ _ _ (c .before .before .before .before .before .if10 .taken) (c .before .before .before .before .before .before .step .ensures) (c .before .before .before .narrow .ensures)) (h .valid .room) _ (less (c .before .before .before .before .before .before .before .before .before .before .before)) (h .fine) (h .target) _ (c .before .before .asks .ensures) (c .before .if11 .taken) _ (c .arg-at4 .ensures)
+element-copy-out-g : tie.Need-element-copy-out-g Inv-loop2 μ-loop2 Inv-loop μ-loop
+element-copy-out-g c = let h = stands (c .before .before .before .before .before .before .before .before .before .before .before .before) in first-number _ _ _ _ _ (c .before .before .before .before .before .before .before .before .before .before .before .before .before .before .loop .inv) (h .fine) (h .target) (h .live) _ _ _ _ (narrows (c .before .before .before .before .before .before .before .before) _ _ _ (c .before .before .before .before .before .before .if10 .taken) (c .before .before .before .before .before .before .before .step .ensures) (c .before .before .before .before .narrow .ensures)) _ (c .before .before .before .asked-at .ensures) (c .before .if11 .taken) _ (c .arg-at4 .ensures)
 
-mul-y-2 : tie.Need-mul-y-2 Inv-loop2 μ-loop2 Inv-loop μ-loop
-mul-y-2 c = let l = array-copy-out-y-2 c in record { fits = omega (arith, l) }
-
-pass-over-requires : tie.Need-pass-over-requires Inv-loop2 μ-loop2 Inv-loop μ-loop
-pass-over-requires c κs =
-    let h = stands (c .before .before .before .before .before .before .before .before .before .before .before .before .before) in
-    let j = joined (c .before .before .before .before .before .before .before .before .before .before .before) in
-    let o : c .before .before .before .before .before .before .before .before .before .before .before .before .op-at .result ≡ 9 = c .before .before .before .before .before .before .before .if10 .taken in
-    let k = narrows (c .before .before .before .before .before .before .before .before .before) _ _ _ o (c .before .before .before .before .before .before .before .before .step .ensures) (c .before .before .before .before .before .narrow .ensures) in
-    let l = less (c .before .before .before .before .before .before .before .before .before .before .before .before .before) in
-    let a = c .before .before .before .before .asks .ensures in
-    let t = c .before .before .before .if11 .taken in
-    let q = turn-binds _ _ _ _ _ _ _ j (h .fine) (h .target) (h .valid) (h .count) (λ z. absurd (omega (arith, sym (c .before .before .before .before .before .before .before .before .before .before .before .before .op-at .ensures) ∙ o, z))) in (
-      h .target,
-      (
-        c .before .before .before .before .before .before .before .before .before .before .before .before .before .before .before .before .before .before .pre .0 .placed,
-        (
-          asks-seeks _ _ _ _ _ _ k (h .valid .room) _ l (h .fine) (h .target) _ a t _ (c .before .before .arg-at4 .ensures) q,
-          (asks-slotted _ _ _ _ _ _ k (h .valid .room) _ l (h .fine) (h .target) _ a t _ refl, asks-alone _ _ _ _ _ _ k (h .valid .room) _ l (h .fine) (h .target) _ a t),
-        ),
-      ),
-    )
-
-leaf-at-requires : tie.Need-leaf-at-requires Inv-loop2 μ-loop2 Inv-loop μ-loop
-leaf-at-requires c κs = let h = stands (c .before .before .before .before .before .before .before .before .before .before .before) in leaf-looks _ _ _ _ _ (c .before .before .before .before .before .before .before .before .before .before .before .before .before .loop .inv) (h .fine) (h .target) (h .live) _ _ _ _ (sought (c .before)) _ refl
+mul-g : tie.Need-mul-g Inv-loop2 μ-loop2 Inv-loop μ-loop
+mul-g c = let l = element-copy-out-g c in record { fits = omega (arith, l) }
 
 arg-at-requires-5 : tie.Need-arg-at-requires-5 Inv-loop2 μ-loop2 Inv-loop μ-loop
-arg-at-requires-5 c κs = c .before .leaf-at .ensures (c .if12 .taken) .tested .place
+arg-at-requires-5 c κs = let h = stands (c .before .before .before .before .before .before .before .before .before .before .before .before) in second-place _ _ _ _ _ (c .before .before .before .before .before .before .before .before .before .before .before .before .before .before .loop .inv) (h .fine) (h .target) (h .live) _ _ _ _ (narrows (c .before .before .before .before .before .before .before .before) _ _ _ (c .before .before .before .before .before .before .if10 .taken) (c .before .before .before .before .before .before .before .step .ensures) (c .before .before .before .before .narrow .ensures)) _ (c .before .before .before .asked-at .ensures) (c .before .if11 .taken)
+
+element-copy-out-h : tie.Need-element-copy-out-h Inv-loop2 μ-loop2 Inv-loop μ-loop
+element-copy-out-h c = let h = stands (c .before .before .before .before .before .before .before .before .before .before .before .before .before) in second-number _ _ _ _ _ (c .before .before .before .before .before .before .before .before .before .before .before .before .before .before .before .loop .inv) (h .fine) (h .target) (h .live) _ _ _ _ (narrows (c .before .before .before .before .before .before .before .before .before) _ _ _ (c .before .before .before .before .before .before .before .if10 .taken) (c .before .before .before .before .before .before .before .before .step .ensures) (c .before .before .before .before .before .narrow .ensures)) _ (c .before .before .before .before .asked-at .ensures) (c .before .before .if11 .taken) _ (c .arg-at5 .ensures)
+
+mul-h : tie.Need-mul-h Inv-loop2 μ-loop2 Inv-loop μ-loop
+mul-h c = let l = element-copy-out-h c in record { fits = omega (arith, l) }
+
+pass-requires : tie.Need-pass-requires Inv-loop2 μ-loop2 Inv-loop μ-loop
+pass-requires c κs =
+    let h = stands (c .before .before .before .before .before .before .before .before .before .before .before .before .before .before) in
+    (h .target, (c .before .before .before .before .before .before .before .before .before .before .before .before .before .before .before .before .before .before .before .pre .0 .placed, sought-seeking _ _ _ _ _ (c .before .before .before .before .before .before .before .before .before .before .before .before .before .before .before .before .loop .inv) (h .fine) (h .target) (h .live) _ _ _ _ (narrows (c .before .before .before .before .before .before .before .before .before .before) _ _ _ (c .before .before .before .before .before .before .before .before .if10 .taken) (c .before .before .before .before .before .before .before .before .before .step .ensures) (c .before .before .before .before .before .before .narrow .ensures)) _ (c .before .before .before .before .before .asked-at .ensures) (c .before .before .before .if11 .taken) _ _ (c .before .before .arg-at4 .ensures) (c .before .arg-at5 .ensures) _ refl))
+
+leaf-at-requires : tie.Need-leaf-at-requires Inv-loop2 μ-loop2 Inv-loop μ-loop
+leaf-at-requires c κs = let h = stands (c .before .before .before .before .before .before .before .before .before .before .before .before) in leaf-looks _ _ _ _ _ (c .before .before .before .before .before .before .before .before .before .before .before .before .before .before .loop .inv) (h .fine) (h .target) (h .live) _ _ _ _ (sought (c .before)) _ refl
+
+arg-at-requires-6 : tie.Need-arg-at-requires-6 Inv-loop2 μ-loop2 Inv-loop μ-loop
+arg-at-requires-6 c κs = c .before .leaf-at .ensures (c .if12 .taken) .tested .place
 
 take-requires : tie.Need-take-requires Inv-loop2 μ-loop2 Inv-loop μ-loop
 take-requires c κs =
-    let h = stands (c .before .before .before .before .before .before .before .before .before .before .before .before .before .before .before .before) in
+    let h = stands (c .before .before .before .before .before .before .before .before .before .before .before .before .before .before .before .before .before) in
     let q = sought (c .before .before .before .before .before .before) in
     let i = c .before .before .before .before .leaf-at .ensures (c .before .before .before .if12 .taken) in (
       h .target,
       (
-        c .before .before .before .before .before .before .before .before .before .before .before .before .before .before .before .before .before .before .before .before .before .pre .0 .placed,
+        c .before .before .before .before .before .before .before .before .before .before .before .before .before .before .before .before .before .before .before .before .before .before .pre .0 .placed,
         (
-          leaf-takes _ _ _ _ _ (c .before .before .before .before .before .before .before .before .before .before .before .before .before .before .before .before .before .before .loop .inv) (h .fine) (h .target) (h .live) _ _ _ _ q _ i,
-          (leaf-slotted _ _ _ _ _ (c .before .before .before .before .before .before .before .before .before .before .before .before .before .before .before .before .before .before .loop .inv) (h .fine) (h .target) (h .live) _ _ _ _ q _ i _ refl, leaf-alone _ _ _ _ _ (c .before .before .before .before .before .before .before .before .before .before .before .before .before .before .before .before .before .before .loop .inv) (h .fine) (h .target) (h .live) _ _ _ _ q _ i),
+          leaf-takes _ _ _ _ _ (c .before .before .before .before .before .before .before .before .before .before .before .before .before .before .before .before .before .before .before .loop .inv) (h .fine) (h .target) (h .live) _ _ _ _ q _ i,
+          (leaf-slotted _ _ _ _ _ (c .before .before .before .before .before .before .before .before .before .before .before .before .before .before .before .before .before .before .before .loop .inv) (h .fine) (h .target) (h .live) _ _ _ _ q _ i _ refl, leaf-alone _ _ _ _ _ (c .before .before .before .before .before .before .before .before .before .before .before .before .before .before .before .before .before .before .before .loop .inv) (h .fine) (h .target) (h .live) _ _ _ _ q _ i),
         ),
       ),
     )
 
 array-set-from-b-2 : tie.Need-array-set-from-b-2 Inv-loop2 μ-loop2 Inv-loop μ-loop
-array-set-from-b-2 c = let h = stands (c .before .before .before .before .before .before .before .before .before .before .before .before .before .before .before .before .before .before .before .before) in leaf-number _ _ _ _ _ (c .before .before .before .before .before .before .before .before .before .before .before .before .before .before .before .before .before .before .before .before .before .before .loop .inv) (h .fine) (h .target) (h .live) _ _ _ _ (sought (c .before .before .before .before .before .before .before .before .before .before)) _ (c .before .before .before .before .before .before .before .before .leaf-at .ensures (c .before .before .before .before .before .before .before .if12 .taken)) _ (c .before .before .before .before .before .before .arg-at5 .ensures)
+array-set-from-b-2 c = let h = stands (c .before .before .before .before .before .before .before .before .before .before .before .before .before .before .before .before .before .before .before .before .before) in leaf-number _ _ _ _ _ (c .before .before .before .before .before .before .before .before .before .before .before .before .before .before .before .before .before .before .before .before .before .before .before .loop .inv) (h .fine) (h .target) (h .live) _ _ _ _ (sought (c .before .before .before .before .before .before .before .before .before .before)) _ (c .before .before .before .before .before .before .before .before .leaf-at .ensures (c .before .before .before .before .before .before .before .if12 .taken)) _ (c .before .before .before .before .before .before .arg-at6 .ensures)
 
 mul-b-2 : tie.Need-mul-b-2 Inv-loop2 μ-loop2 Inv-loop μ-loop
 mul-b-2 c = let l = array-set-from-b-2 c in record { fits = omega (arith, l) }
@@ -379,13 +368,16 @@ advance-spec =
     wrote-requires
     step-requires
     narrow-requires
-    asks-requires
+    asked-at-requires
     arg-at-requires-4
-    mul-y-2
-    array-copy-out-y-2
-    pass-over-requires
-    leaf-at-requires
+    mul-g
+    element-copy-out-g
     arg-at-requires-5
+    mul-h
+    element-copy-out-h
+    pass-requires
+    leaf-at-requires
+    arg-at-requires-6
     take-requires
     mul-b-2
     array-set-from-b-2
