@@ -34,7 +34,8 @@ pub struct Wanted {
     pub both: bool,
 }
 
-// The steps of a value that fails: two at the first part of a pair, three at its second. 0 where it does not fail, or is no pair.
+// The steps of a value that fails: two at the first part of a pair, which stands after its two words; three at its second. 0 where it does not fail, or is
+// no pair.
 fn cost(e: usize, w: Wanted, s: &[i32], places: &Places) -> u64
     requires { ⌜ Target (now s) ⌝ ∗ ⌜ Placed (now s) (now places) ⌝ ∗ ⌜ Tag (now s) e ⌝ ∗ ⌜ Integers (now s) w ⌝ }
     ensures { λ r. ⌜ r ≡ costOf (now (s .entry)) w e ⌝ }
@@ -43,8 +44,7 @@ fn cost(e: usize, w: Wanted, s: &[i32], places: &Places) -> u64
     if !fits {
         return 0;
     }
-    let a = element(s, places, e, 0);
-    let first = is_sum(s, w.first.at, w.first.plus, a);
+    let first = is_sum(s, w.first.at, w.first.plus, e + 2);
     if !first {
         return 2;
     }
