@@ -87,6 +87,7 @@ fn second_at(top: usize, i: usize, lines: &Lines) -> usize
     i
 }
 
+// The lines of the next choice that ask.
 pub fn asked_at(x: State, lines: &Lines) -> Asking
     requires { ⌜ Opens (columnsOf (now lines) .op) (columnsOf (now lines) .to) x ⌝ }
     ensures { λ r. ⌜ r ≡ askedOf (columnsOf (now (lines .entry)) .op) (columnsOf (now (lines .entry)) .from) (columnsOf (now (lines .entry)) .to) x ⌝ }
@@ -99,7 +100,7 @@ pub fn asked_at(x: State, lines: &Lines) -> Asking
     }
 }
 
-// What a pair is asked for, by the lines that ask and the integers at g and at h.
+// What a pair is asked for, by the lines that ask and the integers at g and at h; both: whether there are two lines.
 fn wanted(a: Asking, g: usize, h: usize, both: bool, lines: &Lines) -> Wanted
     requires { ⌜ (a .first < entries) × (a .second < entries) ⌝ ∗ ⌜ (a .first < length (columnsOf (now lines) .con)) × (a .second < length (columnsOf (now lines) .con)) ⌝ }
     ensures { λ r. ⌜ r ≡ wantedBy (columnsOf (now (lines .entry)) .con) a g h both ⌝ }

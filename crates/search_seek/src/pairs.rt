@@ -1,4 +1,5 @@
-// The same where the choices are pairs: those that fail at the integer which the first part is asked for, or at the one which the second is.
+// Document 01, section 4: choices of a multiset's cons that are pairs, and fail at the integer which their first part is asked for or at that of their second,
+// passed over at once, each for its steps.
 use crate::Sought;
 use search_atom::tuples::is_wide;
 use search_atom::tuples::keep;
