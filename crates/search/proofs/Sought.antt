@@ -21,7 +21,7 @@ use Rattle.search_step.specs.declared.State.{State}
 use Rattle.search_choice.specs.Choices.{Frame, consBy, consOf, choiceOf, pickOf}
 use Rattle.search_seek.specs.Passed.{timed, Over}
 use Rattle.search_seek.specs.Pairs.{waiting, OverPairs}
-use Rattle.search_seek.specs.Asked.{firstOf, secondOf, askedOf, sumOf, wantedOf, Opens, Seeking}
+use Rattle.search_seek.specs.Asked.{firstOf, secondOf, askedOf, sumOf, wantedBy, wantedOf, Opens, Seeking}
 use Rattle.search_seek.specs.declared.asked.Asking.{Asking}
 use Rattle.search_seek.proofs.Laws.{passed-some, passed-le}
 use Rattle.search_seek.proofs.Lines.{Asks, first-asks, Also, second-asks, first-line}
@@ -203,7 +203,7 @@ module _ (e : Env) (w : Run) (budget : ℕ) (room₀ : List ℤ) (r : Run) (h : 
         first-line-is = let q = pair-lines other .0 in let z = top-line in omega (arith, q, z)
 
         then : not (eqb (a .first) (a .second)) ≡ true → Then e b (y .top - 1) (wantedOf (e .con) a first-at second-at)
-        unfolding wantedOf sumOf
+        unfolding wantedOf wantedBy sumOf
         then both = go (second-asks (e .op) (e .from) (e .to) (y .top) (a .first) (a .second) second-is)
           where
             go : (a .second ≡ a .first) ⊎ Also (e .op) (e .from) (e .to) (y .top) (a .first) (a .second) → Then e b (y .top - 1) (wantedOf (e .con) a first-at second-at)
@@ -216,7 +216,7 @@ module _ (e : Env) (w : Run) (budget : ℕ) (room₀ : List ℤ) (r : Run) (h : 
             }
 
         wants : Wants e b (y .top - 1) (wantedOf (e .con) a first-at second-at)
-        unfolding wantedOf sumOf
+        unfolding wantedOf wantedBy sumOf
         wants = record {
           cons = asks .cons;
           pair = rw top-line (pair-lines other .1);

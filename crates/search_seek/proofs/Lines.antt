@@ -1,5 +1,5 @@
 -- The laws of the lines by which a multiset's cons asks for an integer. Assumes nothing.
-use mathlib.Core.Path.{_≡_, refl, ap, subst, _∙_}
+use mathlib.Core.Path.{_≡_, refl, sym, ap, subst, _∙_}
 use mathlib.Core.Logic.{_⊎_, inl, inr}
 use mathlib.Core.Bool.{Bool, true, false, not}
 use mathlib.Core.List.{List}
@@ -16,7 +16,7 @@ use Rattle.words.specs.Words.{entries}
 use Rattle.tables.specs.Slot.{Tables, viewOf}
 use Rattle.search_atom.specs.Leaves.{when}
 use Rattle.search_step.specs.declared.State.{State}
-use Rattle.search_seek.specs.Asked.{partOf, firstOf, secondOf, askedOf, sumOf, wantedOf, Opens, Seeking}
+use Rattle.search_seek.specs.Asked.{partOf, firstOf, secondOf, askedOf, sumOf, wantedBy, wantedOf, Opens, Seeking}
 use Rattle.search_seek.specs.Pairs.{OverPairs, SeeksPairs}
 use Rattle.search_seek.specs.declared.asked.Asking.{Asking}
 use Rattle.search_seek.specs.declared.pairs.Wanted.{Wanted}
@@ -165,16 +165,25 @@ pub asked-is : (op from to : List ℕ) (x : State) (i k : ℕ) → i ≡ firstOf
 unfolding askedOf
 asked-is op from to x i k a b = rw (b, a)
 
-pub wanted-is : (con : List ℤ) (a : Asking) (g h : ℕ) (c d : ℤ) (b : Bool) → c ≡ getD con (a .first) (pos 0) → d ≡ getD con (a .second) (pos 0) → b ≡ not (eqb (a .first) (a .second))
-    → _≡_ {A = Wanted} (record { first = record { at = g; plus = c }; second = record { at = h; plus = d }; both = b }) (wantedOf con a g h)
-unfolding wantedOf sumOf
-wanted-is con a g h c d b p q r = rw (p, q, r)
+pub wanted-is : (con : List ℤ) (a : Asking) (g h : ℕ) (c d : ℤ) (b : Bool) → c ≡ getD con (a .first) (pos 0) → d ≡ getD con (a .second) (pos 0)
+    → _≡_ {A = Wanted} (record { first = record { at = g; plus = c }; second = record { at = h; plus = d }; both = b }) (wantedBy con a g h b)
+unfolding wantedBy sumOf
+wanted-is con a g h c d b p q = rw (p, q)
 
 pub ruleset asked-rules = (asked-is, wanted-is, needs)
 
+module _ (con : List ℤ) (a : Asking) (g h : ℕ) (w : Wanted) where
+  pub wanted-one : w ≡ wantedBy con a g h false → a .first ≡ a .second → w ≡ wantedOf con a g h
+  unfolding wantedOf
+  wanted-one p e = p ∙ ap (λ (b : Bool). wantedBy con a g h (not b)) (sym (eq-eqb (a .first) (a .second) e))
+
+  pub wanted-two : w ≡ wantedBy con a g h true → (a .first ≡ a .second → ⊥) → w ≡ wantedOf con a g h
+  unfolding wantedOf
+  wanted-two p n = p ∙ ap (λ (b : Bool). wantedBy con a g h (not b)) (sym (ne-eqb (a .first) (a .second) n))
+
 module _ (s con : List ℤ) (arg slots : List ℕ) (a : Asking) (g h budget begun : ℕ) where
   pub seeks-pairs : Seeking s con arg slots a g h budget begun → (w : Wanted) → w ≡ wantedOf con a g h → SeeksPairs s w budget (a .part) begun (viewOf arg slots)
-  unfolding wantedOf sumOf
+  unfolding wantedOf wantedBy sumOf
   seeks-pairs k w p = record {
     some = k .seeks .some;
     place = k .seeks .place;

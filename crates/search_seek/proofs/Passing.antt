@@ -16,6 +16,7 @@ use Rattle.words.specs.Marks.{clear}
 use Rattle.words.proofs.marks.Places.{clear-le}
 use Rattle.value_places.specs.Places.{Target, Tag, countAt, hops, elementAt}
 use Rattle.value_places.specs.Held.{Held}
+use Rattle.value_places.proofs.Forest.{hop-none}
 use Rattle.value_places.proofs.Elements.{second, element-tag}
 use Rattle.value_places.proofs.Held.{held-tag, held-clear, next-in, next-less, next-tag}
 use Rattle.value_equality.specs.Equality.{isSum}
@@ -43,6 +44,14 @@ module _ (s : List ℤ) (e : ℕ) where
 
   pub part-word : (k a : ℕ) → Target s → Tag s e → k < countAt s e → a ≡ elementAt s e k → a + 1 < length s
   part-word k a g t h i = second s a g (rw i (element-tag s e k g t h))
+
+  -- The first part stands after the tag and the count.
+  pub first-stands : e + 2 ≡ elementAt s e 0
+  unfolding elementAt
+  first-stands = hop-none s 0 (e + 2) (omega arith)
+
+  pub first-fits : Target s → Tag s e → Fits w64 (e + 2)
+  first-fits g t = record { fits = omega (arith, g .short, t .inside) }
 
   module _ (w : Wanted) (b : Bool) (i : b ≡ isWide s e 1) where
     pub cost-none : b ≡ false → 0 ≡ costOf s w e
@@ -76,7 +85,7 @@ module _ (s : List ℤ) (e : ℕ) where
           unfolding costOf when
           cost-second n = rw (← i, y, first-is, m, o, second-is, n)
 
-pub ruleset cost-rules = (not-true, not-false, wide-part, cost-none, needs)
+pub ruleset cost-rules = (not-true, not-false, wide-part, first-fits, cost-none, needs)
 
 -- Only a pair fails.
 pub cost-pair : (s : List ℤ) (w : Wanted) (e : ℕ) → 0 < costOf s w e → isWide s e 1 ≡ true

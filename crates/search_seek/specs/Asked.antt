@@ -1,7 +1,7 @@
 -- The lines by which a multiset's cons asks for an integer.
 use Prim.Native.Nat.{ℕ, _+_, _-_, _<_}
 use mathlib.Core.Path.{_≡_}
-use mathlib.Core.Bool.{not}
+use mathlib.Core.Bool.{Bool, not}
 use mathlib.Core.List.{List}
 use lib.ListN.{length, getD}
 use lib.Dec.{eqb, ltb}
@@ -37,9 +37,13 @@ askedOf op from to x = record { part = x .top; first = firstOf op x; second = se
 unfoldable pub sumOf : (con : List ℤ) → (i at : ℕ) → Sum
 sumOf con i at = record { at = at; plus = getD con i (pos 0) }
 
-unfoldable pub wantedOf : (con : List ℤ) → Asking → (g h : ℕ) → Wanted
+unfoldable pub wantedBy : (con : List ℤ) → Asking → (g h : ℕ) → (both : Bool) → Wanted
 unfolding sumOf
-wantedOf con a g h = record { first = sumOf con (a .first) g; second = sumOf con (a .second) h; both = not (eqb (a .first) (a .second)) }
+wantedBy con a g h both = record { first = sumOf con (a .first) g; second = sumOf con (a .second) h; both = both }
+
+unfoldable pub wantedOf : (con : List ℤ) → Asking → (g h : ℕ) → Wanted
+unfolding wantedBy
+wantedOf con a g h = wantedBy con a g h (not (eqb (a .first) (a .second)))
 
 -- ---- What they ask.
 

@@ -1,5 +1,5 @@
-// The lines by which a multiset's cons asks for an integer: as an element, or as the parts of an element that is a pair. How it is asked goes by lines and
-// numbers alone, not by the state as a whole: then the search's own loop is what it is without it.
+// The lines by which a multiset's cons asks for an integer: as an element, or as the parts of an element that is a pair. What is passed over goes by lines and
+// numbers alone, and for pairs by a function that is called twice: then the search's own loop is what it is without it.
 use crate::pairs::Sum;
 use crate::pairs::Wanted;
 use crate::pairs::pass_pairs;
@@ -26,7 +26,7 @@ ghost use Rattle.value_places.specs.Places.{Target};
 ghost use Rattle.value_places.specs.Tables.{Placed};
 ghost use Rattle.search_seek.specs.Passed.{Over};
 ghost use Rattle.search_seek.specs.Pairs.{OverPairs};
-ghost use Rattle.search_seek.specs.Asked.{firstOf, secondOf, askedOf, wantedOf, Opens, Seeking};
+ghost use Rattle.search_seek.specs.Asked.{firstOf, secondOf, askedOf, wantedBy, wantedOf, Opens, Seeking};
 
 // The line at which the first part starts; the line that asks for an integer, 0 where there is none; and the one that asks for the second part of a pair
 // after it, the same where there is none.
@@ -87,6 +87,7 @@ fn second_at(top: usize, i: usize, lines: &Lines) -> usize
     i
 }
 
+// The lines of the next choice that ask.
 pub fn asked_at(x: State, lines: &Lines) -> Asking
     requires { ⌜ Opens (columnsOf (now lines) .op) (columnsOf (now lines) .to) x ⌝ }
     ensures { λ r. ⌜ r ≡ askedOf (columnsOf (now (lines .entry)) .op) (columnsOf (now (lines .entry)) .from) (columnsOf (now (lines .entry)) .to) x ⌝ }
@@ -99,17 +100,17 @@ pub fn asked_at(x: State, lines: &Lines) -> Asking
     }
 }
 
-// What a pair is asked for, by the lines that ask and the integers at g and at h.
-fn wanted(a: Asking, g: usize, h: usize, lines: &Lines) -> Wanted
+// What a pair is asked for, by the lines that ask and the integers at g and at h; both: whether there are two lines.
+fn wanted(a: Asking, g: usize, h: usize, both: bool, lines: &Lines) -> Wanted
     requires { ⌜ (a .first < entries) × (a .second < entries) ⌝ ∗ ⌜ (a .first < length (columnsOf (now lines) .con)) × (a .second < length (columnsOf (now lines) .con)) ⌝ }
-    ensures { λ r. ⌜ r ≡ wantedOf (columnsOf (now (lines .entry)) .con) a g h ⌝ }
+    ensures { λ r. ⌜ r ≡ wantedBy (columnsOf (now (lines .entry)) .con) a g h both ⌝ }
 {
     let c = con_at(lines, a.first);
     let d = con_at(lines, a.second);
     Wanted {
         first: Sum { at: g, plus: c },
         second: Sum { at: h, plus: d },
-        both: a.first != a.second,
+        both: both,
     }
 }
 
@@ -131,6 +132,10 @@ pub fn pass(
     if a.first == a.part {
         return pass_over(a.part, begun, g, budget, s, places, lines, slots);
     }
-    let w = wanted(a, g, h, lines);
-    pass_pairs(a.part, begun, w, budget, s, places, lines, slots)
+    if a.first == a.second {
+        let one = wanted(a, g, h, false, lines);
+        return pass_pairs(a.part, begun, one, budget, s, places, lines, slots);
+    }
+    let two = wanted(a, g, h, true, lines);
+    pass_pairs(a.part, begun, two, budget, s, places, lines, slots)
 }

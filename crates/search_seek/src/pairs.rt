@@ -1,4 +1,5 @@
-// The same where the choices are pairs: those that fail at the integer which the first part is asked for, or at the one which the second is.
+// Document 01, section 4: choices of a multiset's cons that are pairs, and fail at the integer which their first part is asked for or at that of their second,
+// passed over at once, each for its steps.
 use crate::Sought;
 use search_atom::tuples::is_wide;
 use search_atom::tuples::keep;
@@ -34,7 +35,8 @@ pub struct Wanted {
     pub both: bool,
 }
 
-// The steps of a value that fails: two at the first part of a pair, three at its second. 0 where it does not fail, or is no pair.
+// The steps of a value that fails: two at the first part of a pair, which stands after its two words; three at its second. 0 where it does not fail, or is
+// no pair.
 fn cost(e: usize, w: Wanted, s: &[i32], places: &Places) -> u64
     requires { ⌜ Target (now s) ⌝ ∗ ⌜ Placed (now s) (now places) ⌝ ∗ ⌜ Tag (now s) e ⌝ ∗ ⌜ Integers (now s) w ⌝ }
     ensures { λ r. ⌜ r ≡ costOf (now (s .entry)) w e ⌝ }
@@ -43,8 +45,7 @@ fn cost(e: usize, w: Wanted, s: &[i32], places: &Places) -> u64
     if !fits {
         return 0;
     }
-    let a = element(s, places, e, 0);
-    let first = is_sum(s, w.first.at, w.first.plus, a);
+    let first = is_sum(s, w.first.at, w.first.plus, e + 2);
     if !first {
         return 2;
     }
