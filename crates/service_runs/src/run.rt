@@ -20,7 +20,7 @@ ghost use Rattle.words.specs.Dialects.{dialectBy};
 ghost use Rattle.services.specs.Matches.{Admitted};
 ghost use Rattle.run_sound.specs.Tested.{Decides};
 ghost use Rattle.service_runs.specs.Going.{termsBy};
-ghost use Rattle.service_runs.specs.Kept.{Goes, Over, Lengths, Refusal, Refuses, Advances, told, unlikeNumbers};
+ghost use Rattle.service_runs.specs.Kept.{Goes, Over, Lengths, Refusal, Refuses, Advances, told, unlikeNumbers, picksIn};
 ghost use Rattle.run_states.specs.Standing.{numbersOf};
 
 // Matcher, pattern and target are kept in full arrays, with their lengths; `answer` is a refusal at the opening, or 0.
@@ -235,6 +235,16 @@ fn refused(answer: u32, place: usize, cause: u32) -> Told
     }
 }
 
+// What the opening was told, by the form and the dialect that a run keeps.
+fn picks_of(form: u32, dialect: u32) -> Picks
+    ensures { λ r. ⌜ r ≡ picksIn form dialect ⌝ }
+{
+    Picks {
+        origins: form == ORIGINS,
+        firsts: dialect == FIRST_PLACES,
+    }
+}
+
 // An advance of a run, by value, for any run and any room. One that is not sound is told as one that the room is unlike.
 pub fn advanced(mut run: Run, portion: u32, room: &mut [i32]) -> Out
     ensures { λ r. ⌜ Advances run portion (now (room .entry)) r (now (room .exit)) ⌝ }
@@ -254,10 +264,7 @@ pub fn advanced(mut run: Run, portion: u32, room: &mut [i32]) -> Out
                 pattern: run.pattern,
                 target: run.target,
             };
-            let picks = Picks {
-                origins: run.form == ORIGINS,
-                firsts: run.dialect == FIRST_PLACES,
-            };
+            let picks = picks_of(run.form, run.dialect);
             let mut slots = run.slots;
             let found = on_words(
                 from,
