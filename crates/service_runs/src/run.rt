@@ -12,6 +12,7 @@ use tests::TargetJudgement;
 use tests::rule_refused_in;
 use tests::target_refused;
 use value_rows::Binding;
+use words::dialect::FIRST_PLACES;
 ghost use mathlib.Core.Path.{_≡_};
 ghost use Prim.Native.Nat.{_*_};
 ghost use lib.ListN.{length};
@@ -70,10 +71,8 @@ pub const UNKNOWN_FORM: u32 = 20;
 
 pub const UNKNOWN_DIALECT: u32 = 22;
 
-// The row form that tells origins, and the dialect that takes first places.
+// The row form that tells origins.
 const ORIGINS: u32 = 2;
-
-pub const FIRST_PLACES: u32 = 2;
 
 // The longest matcher, pattern and target.
 const MATCHERS: usize = 64;
