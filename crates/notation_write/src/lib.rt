@@ -82,6 +82,7 @@ pub const MATCHER: u32 = 9;
 
 pub const TARGET: u32 = 17;
 
+// The levels of a form, and of all three.
 const LEVELS: u32 = 8;
 
 const KINDS: u32 = 3 * LEVELS;
@@ -121,7 +122,7 @@ const VARIABLE_AND_NUMBER: u32 = 3;
 
 const NO_TOKEN: u32 = 31;
 
-// How many parts there are stands in the next word, which is less than this.
+// As many parts as the next word says; no word that is read whole says this many.
 const COUNTED: u32 = 255;
 
 const COUNTS: u32 = 256;

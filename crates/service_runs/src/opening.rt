@@ -1,10 +1,10 @@
 // The opening of a run: it is refused there, or it stands before its first state and keeps its own copy of the words.
 use crate::run::Run;
-use crate::run::UNKNOWN_DIALECT;
-use crate::run::UNKNOWN_FORM;
 use search::open;
 use search_step::ENDED;
 use search_step::State;
+use services::matching::UNKNOWN_DIALECT;
+use services::matching::UNKNOWN_FORM;
 use tables::slot::no_slots;
 use tests::Judgement;
 use tests::TargetJudgement;

@@ -6,9 +6,12 @@ use search::Progress;
 use search::tell;
 use search_step::STANDS;
 use search_step::State;
+use services::matching::UNKNOWN_DIALECT;
+use services::matching::UNKNOWN_FORM;
 use tables::slot::Slots;
 use tests::Judgement;
 use tests::TargetJudgement;
+use tests::UNFIT;
 use tests::rule_refused_in;
 use tests::target_refused;
 use value_rows::Binding;
@@ -63,13 +66,6 @@ pub struct Out {
 
 // 19: a room unlike the size given at the opening.
 const UNLIKE: u32 = 19;
-
-// The refusals of an opening: 1 to 6, and a row form or a dialect that there is not.
-const UNFIT: u32 = 6;
-
-pub const UNKNOWN_FORM: u32 = 20;
-
-pub const UNKNOWN_DIALECT: u32 = 22;
 
 // The row form that tells origins.
 const ORIGINS: u32 = 2;
