@@ -122,7 +122,7 @@ const VARIABLE_AND_NUMBER: u32 = 3;
 
 const NO_TOKEN: u32 = 31;
 
-// As many parts as the next word says; no word that is read whole says this many.
+// As many parts as the next word says, modulo COUNTS.
 const COUNTED: u32 = 255;
 
 const COUNTS: u32 = 256;
