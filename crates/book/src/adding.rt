@@ -6,13 +6,18 @@ use crate::testing::test;
 use crate::withdrawal::Changed;
 use crate::withdrawal::refused;
 use book_blocks::BLOCK;
+use book_blocks::form::DIALECT_VERSION;
 use book_blocks::form::FORM;
+use book_blocks::form::GOOD;
 use book_blocks::form::LONGEST;
+use book_blocks::form::NO_BADGE;
 use book_blocks::form::VERSION;
 use book_blocks::form::is_known;
 use book_blocks::form::is_rule;
 use book_blocks::writing::Named;
 use book_blocks::writing::write_block;
+use words::dialect::EVERY_PLACE;
+use words::dialect::FIRST_PLACES;
 ghost use mathlib.Core.Path.{_≡_};
 ghost use Prim.Native.Nat.{_*_, _≤_, max};
 ghost use lib.ListN.{length};
@@ -42,7 +47,7 @@ fn slot(book: &[u8], used: usize) -> Found
     requires { ⌜ 512 * used ≤ length (now book) ⌝ }
     ensures { λ r. ⌜ r ≡ found (slot (bookOf (now (book .entry)) used)) ⌝ }
 {
-    let free = find(book, used, 0);
+    let free = find(book, used, NO_BADGE);
     if let Found::At(k) = free {
         return Found::At(k);
     }
@@ -59,11 +64,11 @@ fn slot(book: &[u8], used: usize) -> Found
 fn is_dialect(version: u16, dialect: u32) -> bool
     ensures { λ r. ⌜ r ≡ dialectFor version dialect ⌝ }
 {
-    if dialect == 1 {
+    if dialect == EVERY_PLACE {
         return true;
     }
-    if dialect == 2 {
-        return version == 2;
+    if dialect == FIRST_PLACES {
+        return version == DIALECT_VERSION;
     }
     false
 }
@@ -72,7 +77,7 @@ fn is_dialect(version: u16, dialect: u32) -> bool
 fn is_proper(e: Named, matcher: &[i32], pattern: &[i32]) -> bool
     ensures { λ r. ⌜ r ≡ proper (entry (e .version) (e .badge) (e .dialect) (now (matcher .entry)) (now (pattern .entry))) ⌝ }
 {
-    if e.badge == 0 {
+    if e.badge == NO_BADGE {
         return false;
     }
     if !is_dialect(e.version, e.dialect) {
@@ -98,7 +103,7 @@ fn own_refusal(book: &[u8], used: usize, e: Named, matcher: &[i32], pattern: &[i
     if LONGEST < matcher.len() + pattern.len() {
         return TOO_LONG;
     }
-    0
+    GOOD
 }
 
 // A rule added: in the lowest withdrawn block, or else the book grows.
@@ -106,18 +111,18 @@ pub fn add(book: &mut [u8], used: usize, e: Named, matcher: &[i32], pattern: &[i
     ensures { λ r. ⌜ ChangeTold (add (entry (e .version) (e .badge) (e .dialect) (now (matcher .entry)) (now (pattern .entry))) (bookOf (now (book .entry)) used)) (addedAt (entry (e .version) (e .badge) (e .dialect) (now (matcher .entry)) (now (pattern .entry))) (bookOf (now (book .entry)) used)) r (now (book .entry)) (now (book .exit)) ⌝ }
 {
     let t = test(book, used);
-    if t.answer != 0 {
+    if t.answer != GOOD {
         return refused(t.answer, used);
     }
     let a = own_refusal(book, used, e, matcher, pattern);
-    if a != 0 {
+    if a != GOOD {
         return refused(a, used);
     }
     match slot(book, used) {
         Found::At(k) => {
             write_block(book, k, e, matcher, pattern);
             Changed {
-                answer: 0,
+                answer: GOOD,
                 block: k,
                 used: most(used, k + 1),
             }

@@ -3,6 +3,8 @@ use crate::testing::Found;
 use crate::testing::find;
 use crate::testing::test;
 use book_blocks::BLOCK;
+use book_blocks::form::GOOD;
+use book_blocks::form::NO_BADGE;
 use book_blocks::form::NUMBER;
 use book_blocks::form::badge_of;
 use book_blocks::form::own_fault;
@@ -21,7 +23,7 @@ pub fn live_at(book: &[u8], n: usize, badge: u16) -> Found
     requires { ⌜ 512 * n ≤ length (now book) ⌝ }
     ensures { λ r. ⌜ r ≡ found (place (holds badge) (blocksFrom (now (book .entry)) 0 n)) ⌝ }
 {
-    if badge == 0 {
+    if badge == NO_BADGE {
         return Found::Nothing;
     }
     find(book, n, badge)
@@ -56,14 +58,14 @@ pub fn read(book: &[u8], used: usize, badge: u16, words: &mut [i32]) -> Rule
     ensures { λ r. ⌜ RuleTold (read badge (bookOf (now (book .entry)) used)) r (now (words .entry)) (now (words .exit)) ⌝ }
 {
     let t = test(book, used);
-    if t.answer != 0 {
+    if t.answer != GOOD {
         return no_rule(t.answer);
     }
     match live_at(book, used, badge) {
         Found::At(k) => {
             let h = read_block(book, k, words);
             Rule {
-                answer: 0,
+                answer: GOOD,
                 found: 1,
                 version: h.version,
                 dialect: h.dialect,
@@ -71,7 +73,7 @@ pub fn read(book: &[u8], used: usize, badge: u16, words: &mut [i32]) -> Rule
                 pattern: h.pattern,
             }
         }
-        Found::Nothing => no_rule(0),
+        Found::Nothing => no_rule(GOOD),
     }
 }
 
@@ -90,7 +92,7 @@ fn no_block(answer: u32) -> Shown
 {
     Shown {
         answer: answer,
-        badge: 0,
+        badge: NO_BADGE,
         version: 0,
         dialect: 0,
         matcher: 0,
@@ -107,16 +109,16 @@ pub fn show(book: &[u8], block: usize, words: &mut [i32]) -> Shown
         return no_block(NUMBER);
     }
     let a = own_fault(book, block);
-    if a != 0 {
+    if a != GOOD {
         return no_block(a);
     }
     let badge = badge_of(book, block);
-    if badge == 0 {
-        return no_block(0);
+    if badge == NO_BADGE {
+        return no_block(GOOD);
     }
     let h = read_block(book, block, words);
     Shown {
-        answer: 0,
+        answer: GOOD,
         badge: badge,
         version: h.version,
         dialect: h.dialect,

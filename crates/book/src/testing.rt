@@ -1,6 +1,8 @@
 // The refusals 12 to 15 of a whole book, block by block, and the search for a badge.
 use book_blocks::BLOCK;
 use book_blocks::form::FORM;
+use book_blocks::form::GOOD;
+use book_blocks::form::NO_BADGE;
 use book_blocks::form::NUMBER;
 use book_blocks::form::badge_of;
 use book_blocks::form::own_fault;
@@ -38,7 +40,7 @@ pub fn is_taken(book: &[u8], n: usize, badge: u16) -> bool
     requires { ⌜ 512 * n ≤ length (now book) ⌝ }
     ensures { λ r. ⌜ r ≡ taken badge (blocksFrom (now (book .entry)) 0 n) ⌝ }
 {
-    if badge == 0 {
+    if badge == NO_BADGE {
         return false;
     }
     match find(book, n, badge) {
@@ -53,13 +55,13 @@ fn block_fault(book: &[u8], k: usize) -> u32
     ensures { λ r. ⌜ r ≡ verdict k (before (now (book .entry)) k) (blockAt (now (book .entry)) k) ⌝ }
 {
     let a = own_fault(book, k);
-    if a != 0 {
+    if a != GOOD {
         return a;
     }
     if is_taken(book, k, badge_of(book, k)) {
         return FORM;
     }
-    0
+    GOOD
 }
 
 fn least(a: usize, b: usize) -> usize
@@ -83,7 +85,7 @@ pub fn test(book: &[u8], used: usize) -> Tested
     let mut k: usize = 0;
     while k < n {
         let a = block_fault(book, k);
-        if a != 0 {
+        if a != GOOD {
             return Tested {
                 answer: a,
                 block: k,
@@ -98,7 +100,7 @@ pub fn test(book: &[u8], used: usize) -> Tested
         };
     }
     Tested {
-        answer: 0,
+        answer: GOOD,
         block: k,
     }
 }

@@ -1,5 +1,7 @@
 // The number of live rules.
 use crate::testing::test;
+use book_blocks::form::GOOD;
+use book_blocks::form::NO_BADGE;
 use book_blocks::form::badge_of;
 ghost use mathlib.Core.Path.{_≡_};
 ghost use mathlib.Core.List.{_∷_, []};
@@ -14,7 +16,7 @@ fn one(book: &[u8], k: usize) -> usize
     requires { ⌜ 512 * k + 512 ≤ length (now book) ⌝ }
     ensures { λ r. ⌜ r ≡ live (blockAt (now (book .entry)) k ∷ []) ⌝ }
 {
-    if badge_of(book, k) == 0 { 0 } else { 1 }
+    if badge_of(book, k) == NO_BADGE { 0 } else { 1 }
 }
 
 fn live(book: &[u8], n: usize) -> usize
@@ -40,14 +42,14 @@ pub fn total(book: &[u8], used: usize) -> Counted
     ensures { λ r. ⌜ totalTold (r .answer) (r .number) (bookOf (now (book .entry)) used) ≡ total (bookOf (now (book .entry)) used) ⌝ }
 {
     let t = test(book, used);
-    if t.answer != 0 {
+    if t.answer != GOOD {
         return Counted {
             answer: t.answer,
             number: 0,
         };
     }
     Counted {
-        answer: 0,
+        answer: GOOD,
         number: live(book, used),
     }
 }

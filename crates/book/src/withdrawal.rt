@@ -2,6 +2,7 @@
 use crate::lookup::live_at;
 use crate::testing::Found;
 use crate::testing::test;
+use book_blocks::form::GOOD;
 use book_blocks::writing::empty_block;
 ghost use Rattle.book_rules.specs.Books.{withdraw};
 ghost use Rattle.book_rules.specs.Bytes.{bookOf};
@@ -31,14 +32,14 @@ pub fn withdraw(book: &mut [u8], used: usize, badge: u16) -> Changed
     ensures { λ r. ⌜ ChangeTold (withdraw badge (bookOf (now (book .entry)) used)) (withdrawnAt badge (bookOf (now (book .entry)) used)) r (now (book .entry)) (now (book .exit)) ⌝ }
 {
     let t = test(book, used);
-    if t.answer != 0 {
+    if t.answer != GOOD {
         return refused(t.answer, used);
     }
     match live_at(book, used, badge) {
         Found::At(k) => {
             empty_block(book, k);
             Changed {
-                answer: 0,
+                answer: GOOD,
                 block: k,
                 used: used,
             }

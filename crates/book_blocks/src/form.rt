@@ -1,5 +1,14 @@
 // The refusals 12 to 15 of one block by itself. A block begins at a byte's index; its words stand two bytes apart.
+use crate::BADGE_AT;
 use crate::BLOCK;
+use crate::DIALECT_BIT;
+use crate::FOURTH_AT;
+use crate::FROM_LENGTH;
+use crate::FROM_RULE;
+use crate::LENGTH_AT;
+use crate::RULE_AT;
+use crate::VERSION_AT;
+use book_words::SIGNED_BYTES;
 use book_words::are_zero;
 use book_words::is_checked;
 use book_words::read_words;
@@ -7,6 +16,8 @@ use book_words::word_at;
 use tests::Judgement;
 use tests::rule_refused_in;
 use words::casts::half_index;
+use words::dialect::EVERY_PLACE;
+use words::dialect::FIRST_PLACES;
 ghost use mathlib.Core.Path.{_≡_};
 ghost use mathlib.Core.List.{[]};
 ghost use Prim.Native.Nat.{_+_, _-_, _*_, _≤_};
@@ -15,6 +26,9 @@ ghost use Rattle.rules.specs.Services.{ruleIn};
 ghost use Rattle.words.specs.Dialects.{dialectBy};
 ghost use Rattle.book_rules.specs.Blocks.{joined, lengthIn, dialectIn, known, isAccepted, isRule, liveFormed, formed, badgeOf, verdict};
 ghost use Rattle.book_rules.specs.Bytes.{wordsFrom, blockAt};
+
+// No refusal.
+pub const GOOD: u32 = 0;
 
 pub const CHECK: u32 = 12;
 
@@ -27,22 +41,29 @@ pub const FORM: u32 = 15;
 // The most words of a rule, matcher and pattern together.
 pub const LONGEST: usize = 124;
 
-// The versions that there are.
+// The badge of a withdrawn block; no rule has it.
+pub const NO_BADGE: u16 = 0;
+
+// The versions that there are; the second has dialects.
+pub const FIRST_VERSION: u16 = 1;
+
+pub const DIALECT_VERSION: u16 = 2;
+
 pub fn is_known(version: u16) -> bool
     ensures { λ r. ⌜ r ≡ known version ⌝ }
 {
-    if version == 1 {
+    if version == FIRST_VERSION {
         return true;
     }
-    version == 2
+    version == DIALECT_VERSION
 }
 
 // The matcher's length in word 4: version 2 has the dialect in its top bit.
 pub fn length_in(version: u16, w: u16) -> usize
     ensures { λ r. ⌜ r ≡ lengthIn version w ⌝ }
 {
-    if version == 2 {
-        return half_index(w % 32768);
+    if version == DIALECT_VERSION {
+        return half_index(w % DIALECT_BIT);
     }
     half_index(w)
 }
@@ -51,10 +72,14 @@ pub fn length_in(version: u16, w: u16) -> usize
 pub fn dialect_in(version: u16, w: u16) -> u32
     ensures { λ r. ⌜ r ≡ dialectIn version w ⌝ }
 {
-    if version != 2 {
-        return 1;
+    if version != DIALECT_VERSION {
+        return EVERY_PLACE;
     }
-    if w < 32768 { 1 } else { 2 }
+    if w < DIALECT_BIT {
+        EVERY_PLACE
+    } else {
+        FIRST_PLACES
+    }
 }
 
 // Review's 1 to 4; `firsts`: in dialect 2.
@@ -71,10 +96,10 @@ fn is_accepted(firsts: bool, matcher: &[i32], pattern: &[i32]) -> bool
 pub fn is_rule(dialect: u32, matcher: &[i32], pattern: &[i32]) -> bool
     ensures { λ r. ⌜ r ≡ isRule dialect (now (matcher .entry)) (now (pattern .entry)) ⌝ }
 {
-    if dialect == 1 {
+    if dialect == EVERY_PLACE {
         return is_accepted(false, matcher, pattern);
     }
-    if dialect == 2 {
+    if dialect == FIRST_PLACES {
         return is_accepted(true, matcher, pattern);
     }
     false
@@ -103,20 +128,20 @@ fn is_live_formed(s: &[u8], at: usize) -> bool
     requires { ⌜ at + 512 ≤ length (now s) ⌝ }
     ensures { λ r. ⌜ r ≡ liveFormed (wordsFrom (now (s .entry)) at 256) ⌝ }
 {
-    let n = half_index(word_at(s, at + 6));
+    let n = half_index(word_at(s, at + LENGTH_AT));
     if LONGEST < n {
         return false;
     }
-    let version = word_at(s, at + 2);
-    let fourth = word_at(s, at + 8);
+    let version = word_at(s, at + VERSION_AT);
+    let fourth = word_at(s, at + FOURTH_AT);
     let m = length_in(version, fourth);
     if n < m {
         return false;
     }
-    if !are_zero(s, at + 10 + 4 * n, 249 - 2 * n) {
+    if !are_zero(s, at + RULE_AT + SIGNED_BYTES * n, FROM_RULE - 2 * n) {
         return false;
     }
-    is_rule_at(dialect_in(version, fourth), s, at + 10, m, n)
+    is_rule_at(dialect_in(version, fourth), s, at + RULE_AT, m, n)
 }
 
 // 15 of a block by itself; a withdrawn one is zero up to its check.
@@ -124,8 +149,8 @@ fn is_formed(s: &[u8], at: usize) -> bool
     requires { ⌜ at + 512 ≤ length (now s) ⌝ }
     ensures { λ r. ⌜ r ≡ formed (wordsFrom (now (s .entry)) at 256) ⌝ }
 {
-    if word_at(s, at + 4) == 0 {
-        return are_zero(s, at + 6, 251);
+    if word_at(s, at + BADGE_AT) == NO_BADGE {
+        return are_zero(s, at + LENGTH_AT, FROM_LENGTH);
     }
     is_live_formed(s, at)
 }
@@ -142,13 +167,13 @@ pub fn own_fault(s: &[u8], k: usize) -> u32
     if half_index(word_at(s, at)) != k {
         return NUMBER;
     }
-    if !is_known(word_at(s, at + 2)) {
+    if !is_known(word_at(s, at + VERSION_AT)) {
         return VERSION;
     }
     if !is_formed(s, at) {
         return FORM;
     }
-    0
+    GOOD
 }
 
 // The badge number of block k: 0 where it is withdrawn.
@@ -156,5 +181,5 @@ pub fn badge_of(s: &[u8], k: usize) -> u16
     requires { ⌜ 512 * k + 512 ≤ length (now s) ⌝ }
     ensures { λ r. ⌜ r ≡ badgeOf (blockAt (now (s .entry)) k) ⌝ }
 {
-    word_at(s, BLOCK * k + 4)
+    word_at(s, BLOCK * k + BADGE_AT)
 }

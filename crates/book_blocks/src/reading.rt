@@ -1,5 +1,9 @@
 // The rule of a live block.
 use crate::BLOCK;
+use crate::FOURTH_AT;
+use crate::LENGTH_AT;
+use crate::RULE_AT;
+use crate::VERSION_AT;
 use crate::form::dialect_in;
 use crate::form::length_in;
 use book_words::read_words;
@@ -27,11 +31,11 @@ pub fn read_block(s: &[u8], k: usize, out: &mut [i32]) -> Head
     ensures { λ r. ⌜ ReadAs (entryOf (blockAt (now (s .entry)) k)) (r .version) (r .dialect) (r .matcher) (r .pattern) (now (out .entry)) (now (out .exit)) ⌝ }
 {
     let at = BLOCK * k;
-    let version = word_at(s, at + 2);
-    let fourth = word_at(s, at + 8);
-    let n = half_index(word_at(s, at + 6));
+    let version = word_at(s, at + VERSION_AT);
+    let fourth = word_at(s, at + FOURTH_AT);
+    let n = half_index(word_at(s, at + LENGTH_AT));
     let m = length_in(version, fourth);
-    read_words(s, at + 10, n, out);
+    read_words(s, at + RULE_AT, n, out);
     Head {
         version: version,
         dialect: dialect_in(version, fourth),

@@ -1,11 +1,20 @@
 // A block written whole: a rule, or none.
+use crate::BADGE_AT;
 use crate::BLOCK;
+use crate::DIALECT_BIT;
+use crate::FROM_BADGE;
+use crate::FROM_RULE;
+use crate::RULE_AT;
+use crate::VERSION_AT;
+use book_words::SIGNED_BYTES;
+use book_words::WORD_BYTES;
 use book_words::put_word;
 use book_words::put_words;
 use book_words::put_zeros;
 use book_words::seal;
 use book_words::word_at;
 use words::casts::half;
+use words::dialect::EVERY_PLACE;
 ghost use mathlib.Core.Path.{_≡_};
 ghost use mathlib.Core.List.{_∷_, [], _++_};
 ghost use Prim.Native.Nat.{_+_, _-_, _*_, _<_, _≤_};
@@ -15,6 +24,11 @@ ghost use Rattle.book_rules.specs.Sums.{word};
 ghost use Rattle.book_rules.specs.Blocks.{split, written, emptied};
 ghost use Rattle.book_rules.specs.Bytes.{blockAt, bytesOf};
 ghost use Rattle.book_blocks.specs.Heads.{entry};
+
+// What dialect 2 adds to the matcher's length.
+const FOR_DIALECT: usize = DIALECT_BIT as usize;
+
+const TWO_WORDS: usize = 2 * WORD_BYTES;
 
 // What an add names beside its rule.
 pub struct Named {
@@ -28,10 +42,10 @@ fn fourth(matcher: usize, dialect: u32) -> u16
     requires { ⌜ matcher ≤ 124 ⌝ ∗ ⌜ 1 ≤ dialect ⌝ ∗ ⌜ dialect ≤ 2 ⌝ }
     ensures { λ r. ⌜ r ≡ matcher + 32768 * (dialect - 1) ⌝ }
 {
-    if dialect == 1 {
+    if dialect == EVERY_PLACE {
         return half(matcher);
     }
-    half(matcher + 32768)
+    half(matcher + FOR_DIALECT)
 }
 
 // Words 0 and 1.
@@ -40,7 +54,7 @@ fn put_start(s: &mut [u8], at: usize, number: u16, version: u16)
     ensures { λ _. ⌜ now (s .exit) ≡ sets (now (s .entry)) at (bytesOf (number ∷ version ∷ [])) ⌝ }
 {
     put_word(s, at, number);
-    put_word(s, at + 2, version);
+    put_word(s, at + VERSION_AT, version);
 }
 
 // Words 2 to 4.
@@ -49,8 +63,8 @@ fn put_counts(s: &mut [u8], at: usize, badge: u16, n: u16, fourth: u16)
     ensures { λ _. ⌜ now (s .exit) ≡ sets (now (s .entry)) at (bytesOf (badge ∷ n ∷ fourth ∷ [])) ⌝ }
 {
     put_word(s, at, badge);
-    put_word(s, at + 2, n);
-    put_word(s, at + 4, fourth);
+    put_word(s, at + WORD_BYTES, n);
+    put_word(s, at + TWO_WORDS, fourth);
 }
 
 // Words 5 to 253: the rule, and zeros.
@@ -61,8 +75,8 @@ fn put_rule(s: &mut [u8], at: usize, matcher: &[i32], pattern: &[i32])
     let m = matcher.len();
     let n = m + pattern.len();
     put_words(s, at, matcher);
-    put_words(s, at + 4 * m, pattern);
-    put_zeros(s, at + 4 * n, 249 - 2 * n);
+    put_words(s, at + SIGNED_BYTES * m, pattern);
+    put_zeros(s, at + SIGNED_BYTES * n, FROM_RULE - 2 * n);
 }
 
 // Words 0 to 4.
@@ -72,7 +86,7 @@ fn put_head(s: &mut [u8], k: usize, e: Named, n: usize, m: usize)
 {
     let at = BLOCK * k;
     put_start(s, at, half(k), e.version);
-    put_counts(s, at + 4, e.badge, half(n), fourth(m, e.dialect));
+    put_counts(s, at + BADGE_AT, e.badge, half(n), fourth(m, e.dialect));
 }
 
 // A rule as block k.
@@ -82,7 +96,7 @@ pub fn write_block(s: &mut [u8], k: usize, e: Named, matcher: &[i32], pattern: &
 {
     let m = matcher.len();
     put_head(s, k, e, m + pattern.len(), m);
-    put_rule(s, BLOCK * k + 10, matcher, pattern);
+    put_rule(s, BLOCK * k + RULE_AT, matcher, pattern);
     seal(s, BLOCK * k);
 }
 
@@ -92,8 +106,8 @@ pub fn empty_block(s: &mut [u8], k: usize)
     ensures { λ _. ⌜ now (s .exit) ≡ sets (now (s .entry)) (512 * k) (bytesOf (emptied k (word (blockAt (now (s .entry)) k) 1))) ⌝ }
 {
     let at = BLOCK * k;
-    let version = word_at(s, at + 2);
+    let version = word_at(s, at + VERSION_AT);
     put_start(s, at, half(k), version);
-    put_zeros(s, at + 4, 252);
+    put_zeros(s, at + BADGE_AT, FROM_BADGE);
     seal(s, at);
 }

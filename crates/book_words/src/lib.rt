@@ -11,10 +11,23 @@ ghost use Rattle.book_rules.specs.Blocks.{zeros, split, joined};
 ghost use Rattle.book_rules.specs.Bytes.{wordAt, wordsFrom, bytesOf};
 ghost use Rattle.book_words.specs.Halves.{Byte, Placed, halves};
 
+// The bytes of a word, and of a signed word, which is two halves.
+pub const WORD_BYTES: usize = 2;
+
+pub const SIGNED_BYTES: usize = 2 * WORD_BYTES;
+
+// What the high byte of a word counts, and the high half of a number.
+const HIGH_BYTE: u16 = 256;
+
+const HIGH_HALF: u32 = 65536;
+
 // The words of a block that the check sums up, and the bytes that they take.
 const SUMMED: usize = 254;
 
-const SUMMED_BYTES: usize = 508;
+const SUMMED_BYTES: usize = SUMMED * WORD_BYTES;
+
+// The check is a remainder by this prime.
+const MODULUS: u32 = 65537;
 
 fn byte(x: u8) -> u16
     ensures { λ r. ⌜ Byte x r ⌝ }
@@ -33,7 +46,7 @@ pub fn word_at(s: &[u8], at: usize) -> u16
     requires { ⌜ at + 2 ≤ length (now s) ⌝ }
     ensures { λ r. ⌜ r ≡ wordAt (now (s .entry)) at ⌝ }
 {
-    byte(s[at]) + 256 * byte(s[at + 1])
+    byte(s[at]) + HIGH_BYTE * byte(s[at + 1])
 }
 
 // A word times its place, which is counted from 1.
@@ -52,10 +65,10 @@ pub fn due(s: &[u8], at: usize) -> u32
     let mut sum: u32 = 0;
     let mut i: usize = 0;
     while i < SUMMED {
-        sum += placed(i, word_at(s, at + 2 * i));
+        sum += placed(i, word_at(s, at + WORD_BYTES * i));
         i += 1;
     }
-    sum % 65537
+    sum % MODULUS
 }
 
 // Two words as one number, low half first.
@@ -63,7 +76,7 @@ fn both_halves(s: &[u8], at: usize) -> u32
     requires { ⌜ at + 4 ≤ length (now s) ⌝ }
     ensures { λ r. ⌜ r ≡ halves (now (s .entry)) at ⌝ }
 {
-    wide(word_at(s, at)) + 65536 * wide(word_at(s, at + 2))
+    wide(word_at(s, at)) + HIGH_HALF * wide(word_at(s, at + WORD_BYTES))
 }
 
 // Whether the check of a block holds.
@@ -81,7 +94,7 @@ pub fn are_zero(s: &[u8], at: usize, n: usize) -> bool
 {
     let mut i: usize = 0;
     while i < n {
-        if word_at(s, at + 2 * i) != 0 {
+        if word_at(s, at + WORD_BYTES * i) != 0 {
             return false;
         }
         i += 1;
@@ -96,7 +109,7 @@ pub fn read_words(s: &[u8], at: usize, n: usize, out: &mut [i32])
 {
     let mut i: usize = 0;
     while i < n {
-        out[i] = of_bits(both_halves(s, at + 4 * i));
+        out[i] = of_bits(both_halves(s, at + SIGNED_BYTES * i));
         i += 1;
     }
 }
@@ -106,8 +119,8 @@ pub fn put_word(s: &mut [u8], at: usize, w: u16)
     requires { ⌜ at + 2 ≤ length (now s) ⌝ }
     ensures { λ _. ⌜ now (s .exit) ≡ sets (now (s .entry)) at (bytesOf (w ∷ [])) ⌝ }
 {
-    s[at] = (w % 256) as u8;
-    s[at + 1] = (w / 256) as u8;
+    s[at] = (w % HIGH_BYTE) as u8;
+    s[at + 1] = (w / HIGH_BYTE) as u8;
 }
 
 // n words zero.
@@ -117,7 +130,7 @@ pub fn put_zeros(s: &mut [u8], at: usize, n: usize)
 {
     let mut i: usize = 0;
     while i < n {
-        put_word(s, at + 2 * i, 0);
+        put_word(s, at + WORD_BYTES * i, 0);
         i += 1;
     }
 }
@@ -127,8 +140,8 @@ fn put_halves(s: &mut [u8], at: usize, x: u32)
     requires { ⌜ at + 4 ≤ length (now s) ⌝ }
     ensures { λ _. ⌜ now (s .exit) ≡ sets (now (s .entry)) at (bytesOf (x % 65536 ∷ x / 65536 ∷ [])) ⌝ }
 {
-    put_word(s, at, (x % 65536) as u16);
-    put_word(s, at + 2, (x / 65536) as u16);
+    put_word(s, at, (x % HIGH_HALF) as u16);
+    put_word(s, at + WORD_BYTES, (x / HIGH_HALF) as u16);
 }
 
 // Signed words, two halves each.
@@ -138,7 +151,7 @@ pub fn put_words(s: &mut [u8], at: usize, words: &[i32])
 {
     let mut i: usize = 0;
     while i < words.len() {
-        put_halves(s, at + 4 * i, bits(words[i]));
+        put_halves(s, at + SIGNED_BYTES * i, bits(words[i]));
         i += 1;
     }
 }

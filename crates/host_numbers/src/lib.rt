@@ -5,6 +5,22 @@ ghost use lib.ListN.{length};
 ghost use mathlib.Core.List.{_∷_, []};
 ghost use Rattle.host_numbers.specs.Numbers.{digits, put, bytesOf, over};
 
+// A number's bytes, and what the next byte counts.
+const NUMBER_BYTES: usize = 8;
+
+const NEXT_BYTE: u64 = 256;
+
+// Where the numbers behind the first begin.
+const SECOND: usize = NUMBER_BYTES;
+
+const THIRD: usize = 2 * NUMBER_BYTES;
+
+const FOURTH: usize = 3 * NUMBER_BYTES;
+
+const FIFTH: usize = 4 * NUMBER_BYTES;
+
+const SIXTH: usize = 5 * NUMBER_BYTES;
+
 // A number's eight bytes, low byte first, from an index on.
 fn put_number(out: &mut [u8], at: usize, x: u64)
     requires { ⌜ at + 8 ≤ length (now out) ⌝ }
@@ -12,9 +28,9 @@ fn put_number(out: &mut [u8], at: usize, x: u64)
 {
     let mut left = x;
     let mut k: usize = 0;
-    while k < 8 {
-        out[at + k] = (left % 256) as u8;
-        left = left / 256;
+    while k < NUMBER_BYTES {
+        out[at + k] = (left % NEXT_BYTE) as u8;
+        left = left / NEXT_BYTE;
         k += 1;
     }
 }
@@ -25,8 +41,8 @@ pub fn put_three(out: &mut [u8], a: u64, b: u64, c: u64)
     ensures { λ _. ⌜ now (out .exit) ≡ over (bytesOf (a ∷ b ∷ c ∷ [])) (now (out .entry)) ⌝ }
 {
     put_number(out, 0, a);
-    put_number(out, 8, b);
-    put_number(out, 16, c);
+    put_number(out, SECOND, b);
+    put_number(out, THIRD, c);
 }
 
 // Six numbers.
@@ -35,9 +51,9 @@ pub fn put_six(out: &mut [u8], a: u64, b: u64, c: u64, d: u64, e: u64, f: u64)
     ensures { λ _. ⌜ now (out .exit) ≡ over (bytesOf (a ∷ b ∷ c ∷ d ∷ e ∷ f ∷ [])) (now (out .entry)) ⌝ }
 {
     put_number(out, 0, a);
-    put_number(out, 8, b);
-    put_number(out, 16, c);
-    put_number(out, 24, d);
-    put_number(out, 32, e);
-    put_number(out, 40, f);
+    put_number(out, SECOND, b);
+    put_number(out, THIRD, c);
+    put_number(out, FOURTH, d);
+    put_number(out, FIFTH, e);
+    put_number(out, SIXTH, f);
 }

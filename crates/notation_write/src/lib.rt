@@ -12,6 +12,8 @@ use notation_print::Pen;
 use notation_print::USES;
 use notation_print::WITH;
 use notation_print::put;
+use words::MINUS_ONE;
+use words::NEGATIVE;
 use words::bits;
 use words::casts::index;
 use words::tag_at;
@@ -80,14 +82,55 @@ pub const MATCHER: u32 = 9;
 
 pub const TARGET: u32 = 17;
 
+// The levels of a form, and of all three.
+const LEVELS: u32 = 8;
+
+const KINDS: u32 = 3 * LEVELS;
+
+// The tags of a form, and the rows of the table.
+const TAGS: u32 = 11;
+
+const ROWS: u32 = 3 * TAGS;
+
+// What each of a node's eight bytes counts.
+const LEVEL: u64 = 1;
+
+const BEGINS: u64 = 256;
+
+const OPERANDS: u64 = 65536;
+
+const PARTS: u64 = 16777216;
+
+const FIRST: u64 = 4294967296;
+
+const OTHERS: u64 = 1099511627776;
+
+const BETWEEN: u64 = 281474976710656;
+
+const ENDS: u64 = 72057594037927936;
+
+const BYTE: u64 = 256;
+
+// What the operands are.
+const NOTHING: u32 = 0;
+
+const ONE_NUMBER: u32 = 1;
+
+const ONE_VARIABLE: u32 = 2;
+
+const VARIABLE_AND_NUMBER: u32 = 3;
+
 const NO_TOKEN: u32 = 31;
 
+// As many parts as the next word says, modulo COUNTS.
 const COUNTED: u32 = 255;
+
+const COUNTS: u32 = 256;
 
 fn node_of(what: u32, tag: u32) -> u64
     ensures { λ r. ⌜ r ≡ nodeOf what tag ⌝ }
 {
-    let k = index((what % 24 / 8 * 11 + tag % 11) % 33);
+    let k = index((what % KINDS / LEVELS * TAGS + tag % TAGS) % ROWS);
     NODES[k]
 }
 
@@ -96,7 +139,7 @@ fn byte_of(node: u64, shift: u64) -> u32
     requires { ⌜ 0 < shift ⌝ }
     ensures { λ r. ⌜ r ≡ field node shift ⌝ }
 {
-    (node / shift % 256) as u32
+    (node / shift % BYTE) as u32
 }
 
 // An index n words further on, or the same past the end.
@@ -129,10 +172,10 @@ fn head_of(leaf: u32, count: u32) -> usize
     if count == COUNTED {
         return 2;
     }
-    if leaf == 0 {
+    if leaf == NOTHING {
         return 1;
     }
-    if leaf == 3 {
+    if leaf == VARIABLE_AND_NUMBER {
         return 3;
     }
     2
@@ -143,7 +186,7 @@ fn count_of(ws: &[i32], at: usize, count: u32) -> u32
     ensures { λ r. ⌜ r ≡ countOf (now (ws .entry)) at count ⌝ }
 {
     if count == COUNTED {
-        return bits_at(ws, at, 1) % 256;
+        return bits_at(ws, at, 1) % COUNTS;
     }
     count
 }
@@ -162,18 +205,18 @@ fn put_token(out: &mut [u8], pen: Pen, kind: u32) -> Pen
 fn put_signed(out: &mut [u8], pen: Pen, u: u32) -> Pen
     ensures { λ r. ⌜ sheet (now (out .exit)) (r .at) (r .last) ≡ draws (sheet (now (out .entry)) (pen .at) (pen .last)) (signed u) ⌝ }
 {
-    if u < 2147483648 {
+    if u < NEGATIVE {
         return put(out, pen, NUMBER, u);
     }
     let p = put(out, pen, MINUS, 0);
-    put(out, p, NUMBER, 4294967295 - u + 1)
+    put(out, p, NUMBER, MINUS_ONE - u + 1)
 }
 
 // A plus before a number that has no minus.
 fn put_plus(out: &mut [u8], pen: Pen, u: u32) -> Pen
     ensures { λ r. ⌜ sheet (now (out .exit)) (r .at) (r .last) ≡ draws (sheet (now (out .entry)) (pen .at) (pen .last)) (plus u) ⌝ }
 {
-    if u < 2147483648 {
+    if u < NEGATIVE {
         return put(out, pen, PLUS, 0);
     }
     pen
@@ -197,13 +240,13 @@ fn put_value(out: &mut [u8], pen: Pen, v: u32, u: u32) -> Pen
 fn put_leaf(ws: &[i32], at: usize, leaf: u32, out: &mut [u8], pen: Pen) -> Pen
     ensures { λ r. ⌜ sheet (now (out .exit)) (r .at) (r .last) ≡ draws (sheet (now (out .entry)) (pen .at) (pen .last)) (Written·leaf (now (ws .entry)) at leaf) ⌝ }
 {
-    if leaf == 1 {
+    if leaf == ONE_NUMBER {
         return put_signed(out, pen, bits_at(ws, at, 1));
     }
-    if leaf == 2 {
+    if leaf == ONE_VARIABLE {
         return put(out, pen, BINDS, bits_at(ws, at, 1));
     }
-    if leaf == 3 {
+    if leaf == VARIABLE_AND_NUMBER {
         return put_value(out, pen, bits_at(ws, at, 1), bits_at(ws, at, 2));
     }
     pen
@@ -213,7 +256,7 @@ fn put_leaf(ws: &[i32], at: usize, leaf: u32, out: &mut [u8], pen: Pen) -> Pen
 fn put_bracket(out: &mut [u8], pen: Pen, own: u32, what: u32, kind: u32) -> Pen
     ensures { λ r. ⌜ sheet (now (out .exit)) (r .at) (r .last) ≡ draws (sheet (now (out .entry)) (pen .at) (pen .last)) (bracket own what kind) ⌝ }
 {
-    if own < what % 8 {
+    if own < what % LEVELS {
         return put(out, pen, kind, 0);
     }
     pen
@@ -223,17 +266,17 @@ fn put_bracket(out: &mut [u8], pen: Pen, own: u32, what: u32, kind: u32) -> Pen
 fn put_front(ws: &[i32], at: usize, what: u32, node: u64, out: &mut [u8], pen: Pen) -> Pen
     ensures { λ r. ⌜ sheet (now (out .exit)) (r .at) (r .last) ≡ draws (sheet (now (out .entry)) (pen .at) (pen .last)) (front (now (ws .entry)) at what node) ⌝ }
 {
-    let p = put_bracket(out, pen, byte_of(node, 1), what, OPENING);
-    let q = put_token(out, p, byte_of(node, 256));
-    put_leaf(ws, at, byte_of(node, 65536), out, q)
+    let p = put_bracket(out, pen, byte_of(node, LEVEL), what, OPENING);
+    let q = put_token(out, p, byte_of(node, BEGINS));
+    put_leaf(ws, at, byte_of(node, OPERANDS), out, q)
 }
 
 // What stands behind them.
 fn put_back(what: u32, node: u64, out: &mut [u8], pen: Pen) -> Pen
     ensures { λ r. ⌜ sheet (now (out .exit)) (r .at) (r .last) ≡ draws (sheet (now (out .entry)) (pen .at) (pen .last)) (behind what node) ⌝ }
 {
-    let p = put_token(out, pen, byte_of(node, 72057594037927936));
-    put_bracket(out, p, byte_of(node, 1), what, CLOSING)
+    let p = put_token(out, pen, byte_of(node, ENDS));
+    put_bracket(out, p, byte_of(node, LEVEL), what, CLOSING)
 }
 
 // What stands at an index, written; so many may stand one inside the other.
@@ -245,18 +288,18 @@ pub fn write(ws: &[i32], at: usize, what: u32, depth: u32, out: &mut [u8], pen: 
     }
     let node = node_of(what, tag_at(ws, at));
     let mut p = put_front(ws, at, what, node, out, pen);
-    let count = byte_of(node, 16777216);
+    let count = byte_of(node, PARTS);
     let mut left = count_of(ws, at, count);
-    let mut e = ahead(ws, at, head_of(byte_of(node, 65536), count));
-    let mut part = byte_of(node, 4294967296);
+    let mut e = ahead(ws, at, head_of(byte_of(node, OPERANDS), count));
+    let mut part = byte_of(node, FIRST);
     let mut between = NO_TOKEN;
     while 0 < left {
         let q = put_token(out, p, between);
         let s = write(ws, e, part, depth - 1, out, q);
         e = s.at;
         p = s.pen;
-        part = byte_of(node, 1099511627776);
-        between = byte_of(node, 281474976710656);
+        part = byte_of(node, OTHERS);
+        between = byte_of(node, BETWEEN);
         left -= 1;
     }
     let r = put_back(what, node, out, p);

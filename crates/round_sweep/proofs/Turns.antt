@@ -33,7 +33,7 @@ use Rattle.search_rounds.specs.Firsts.{Firsts, TookBy}
 use Rattle.search_rounds.specs.declared.first.Taken.{Taken}
 use Rattle.round_sweep.specs.Frames.{Framing}
 use Rattle.round_sweep.specs.Rests.{Rests, Rested}
-use Rattle.round_sweep.specs.Turns.{Course, stoppedAt, Swept, Midway, Following, Followed, Turning, Turned, Sweeps, SweptBy}
+use Rattle.round_sweep.specs.Turns.{Course, stoppedAt, Swept, Midway, Following, Followed, Turning, GivenUp, Turned, Sweeps, SweptBy}
 use Rattle.round_sweep.specs.declared.turn.Sweep.{Sweep}
 
 -- A state that is neither the last nor one whose row does not fit stands.
@@ -276,28 +276,27 @@ module _ {e : Env} {used budget many i : ℕ} {w : Sweep} {ws : List ℤ} {slots
               (turned-some e (C .ruled) used (C .uses) sweeping (list .0) (list .1) (list .2) ws₁ (r .long) (r .below) lists₁ (t .state) room₂ later₁ br far new long low high kept);
         }
 
-  -- What has come of the list.
-  pub turn-done : (ws₁ : List ℤ) (more : ℕ) (slots₁ : List ℕ) (b₁ : List Binding) → Rested e used ws ws₁ i (many + w .left) more slots slots₁ (w .binds) b₁ → (t : Taken) (slots₂ : List ℕ) (room₂ : List ℤ)
-      → w .state .steps < budget → TookBy e used ws₁ i budget (w .state) slots₁ b₁ room (t .spent) (t .state) slots₂ (t .binds) room₂ → (ws₂ : List ℤ) (v : Sweep)
-      → Followed e used t (w .fresh) (w .left + more) (w .waiting) ws₁ ws₂ slots₂ v → Turned e used budget many i w ws slots room v ws₂ slots₂ room₂
-  turn-done ws₁ more slots₁ b₁ r t slots₂ room₂ m k ws₂ v f = record {
-    long = f .long ∙ r .long;
-    swept = λ C S. f .swept C budget many i room₂ (turn-midway C S ws₁ more slots₁ b₁ r t slots₂ room₂ m k);
-  }
+  pub turn-given-up : (ws₁ : List ℤ) (more : ℕ) (slots₁ : List ℕ) (b₁ : List Binding) → Rested e used ws ws₁ i (many + w .left) more slots slots₁ (w .binds) b₁ → (t : Taken) (slots₂ : List ℕ) (room₂ : List ℤ)
+      → w .state .steps < budget → TookBy e used ws₁ i budget (w .state) slots₁ b₁ room (t .spent) (t .state) slots₂ (t .binds) room₂ → GivenUp e used budget many i w ws slots room t more ws₁ slots₂ room₂
+  turn-given-up ws₁ more slots₁ b₁ r t slots₂ room₂ m k = record { long = r .long; few = r .few; midway = λ C S. turn-midway C S ws₁ more slots₁ b₁ r t slots₂ room₂ m k }
 
-module _ {e : Env} {used budget many i : ℕ} {w : Sweep} {ws : List ℤ} {slots : List ℕ} {room : List ℤ} (P : Turning e used budget many i w ws slots room) where
-  pub turn-following : (ws₁ : List ℤ) (more : ℕ) (slots₁ : List ℕ) (b₁ : List Binding) → Rested e used ws ws₁ i (many + w .left) more slots slots₁ (w .binds) b₁ → (t : Taken) (slots₂ : List ℕ) (room₂ : List ℤ)
-      → w .state .steps < budget → TookBy e used ws₁ i budget (w .state) slots₁ b₁ room (t .spent) (t .state) slots₂ (t .binds) room₂ → Following e used t (w .fresh) (w .left + more) (w .waiting) ws₁ slots₂
-  turn-following ws₁ more slots₁ b₁ r t slots₂ room₂ m k = record {
+module _ {e : Env} {used budget many i : ℕ} {w : Sweep} {ws : List ℤ} {slots : List ℕ} {room : List ℤ} {t : Taken} {more : ℕ} {ws₁ : List ℤ} {slots₁ : List ℕ} {room₁ : List ℤ}
+    (g : GivenUp e used budget many i w ws slots room t more ws₁ slots₁ room₁) where
+  pub turn-following : Turning e used budget many i w ws slots room → Following e used t (w .fresh) (w .left + more) (w .waiting) ws₁ slots₁
+  turn-following P = record {
     course = P .course;
     budget = budget;
     many = many;
     i = i;
-    room = room₂;
-    mid = turn-midway (P .inside) (P .going) (P .course) (P .swept) ws₁ more slots₁ b₁ r t slots₂ room₂ m k;
+    room = room₁;
+    mid = g .midway (P .course) (P .swept);
     small = P .small;
     index = let a = P .inside in let b = P .most in omega arith;
   }
+
+  -- What has come of the list.
+  pub turn-done : (ws₂ : List ℤ) (v : Sweep) → Followed e used t (w .fresh) (w .left + more) (w .waiting) ws₁ ws₂ slots₁ v → Turned e used budget many i w ws slots room v ws₂ slots₁ room₁
+  turn-done ws₂ v f = record { long = f .long ∙ g .long; swept = λ C S. f .swept C budget many i room₁ (g .midway C S) }
 
 -- ---- All lists.
 

@@ -92,6 +92,12 @@ pub record Turning (e : Env) (used budget many i : ℕ) (w : Sweep) (ws : List �
   pub inside : i < many
   pub most : many ≤ 256
 
+-- Its first state has been taken up, and `more` lists are kept for its remainder, one or none.
+pub record GivenUp (e : Env) (used budget many i : ℕ) (w : Sweep) (ws₀ : List ℤ) (slots₀ : List ℕ) (room₀ : List ℤ) (t : Taken) (more : ℕ) (ws : List ℤ) (slots : List ℕ) (room : List ℤ) : Type 0 where
+  pub long : length ws ≡ length ws₀
+  pub few : more ≤ 1
+  pub midway : (C : Course e used) → Swept e used C budget many i w ws₀ slots₀ room₀ → Midway e used C budget many i (w .fresh) (w .left + more) (w .waiting) t ws slots room
+
 pub record Turned (e : Env) (used budget many i : ℕ) (w₀ : Sweep) (ws₀ : List ℤ) (slots₀ : List ℕ) (room₀ : List ℤ) (w : Sweep) (ws : List ℤ) (slots : List ℕ) (room : List ℤ) : Type 0 where
   pub long : length ws ≡ length ws₀
   pub swept : (C : Course e used) → Swept e used C budget many i w₀ ws₀ slots₀ room₀ → Swept e used C budget many (suc i) w ws slots room

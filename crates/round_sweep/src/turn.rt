@@ -17,7 +17,7 @@ ghost use Prim.Native.Nat.{_^_, _<_};
 ghost use Rattle.tables.specs.Line.{columnsOf};
 ghost use Rattle.search.specs.Told.{envBy};
 ghost use Rattle.search.specs.Valid.{Given};
-ghost use Rattle.round_sweep.specs.Turns.{stoppedAt, Following, Followed, Turning, Turned};
+ghost use Rattle.round_sweep.specs.Turns.{stoppedAt, Following, Followed, Turning, GivenUp, Turned};
 
 // How far a round is: how many new lists there are, how many remainders, and how many states wait. `answer` is 0 while the run goes on.
 pub struct Sweep {
@@ -97,8 +97,14 @@ fn follow(
     }
 }
 
-// The i-th list gives up its first state, while the budget lasts.
-pub fn turn(
+// What has come of the first state of a list, and how many lists were kept for its remainder.
+pub struct Halfway {
+    pub taken: Taken,
+    pub more: usize,
+}
+
+// The i-th list gives up its first state: its remainder is kept, and the state is taken up.
+fn give_up(
     w: Sweep,
     i: usize,
     many: usize,
@@ -111,15 +117,12 @@ pub fn turn(
     slots: &mut Slots,
     table: &mut [i32],
     room: &mut [i32],
-) -> Sweep
-    requires { ⌜ Given (now s) (now places) ⌝ ∗ ⌜ Turning (envBy (columnsOf (now lines)) (now mt) (now s) terms) used (terms .budget) many i w (now table) (now slots) (now room) ⌝ ∗ ⌜ terms .budget < 2 ^ 63 ⌝ }
-    ensures { λ r. ⌜ Turned (envBy (columnsOf (now (lines .entry))) (now (mt .entry)) (now (s .entry)) terms) used (terms .budget) many i w (now (table .entry)) (now (slots .entry)) (now (room .entry)) r (now (table .exit)) (now (slots .exit)) (now (room .exit)) ⌝ }
+) -> Halfway
+    requires { ⌜ Given (now s) (now places) ⌝ ∗ ⌜ Turning (envBy (columnsOf (now lines)) (now mt) (now s) terms) used (terms .budget) many i w (now table) (now slots) (now room) ⌝ ∗ ⌜ w .state .steps < terms .budget ⌝ ∗ ⌜ terms .budget < 2 ^ 63 ⌝ }
+    ensures { λ r. ⌜ GivenUp (envBy (columnsOf (now (lines .entry))) (now (mt .entry)) (now (s .entry)) terms) used (terms .budget) many i w (now (table .entry)) (now (slots .entry)) (now (room .entry)) (r .taken) (r .more) (now (table .exit)) (now (slots .exit)) (now (room .exit)) ⌝ }
 {
     let x = w.state;
     let b = w.binds;
-    if terms.budget <= x.steps {
-        return stop(x, b, OUT_OF_BUDGET);
-    }
     let r = put_rest(
         x,
         b,
@@ -149,10 +152,54 @@ pub fn turn(
         table,
         room,
     );
+    Halfway {
+        taken: t,
+        more: r.more,
+    }
+}
+
+// The i-th list gives up its first state, while the budget lasts.
+pub fn turn(
+    w: Sweep,
+    i: usize,
+    many: usize,
+    terms: Terms,
+    used: usize,
+    mt: &[i32],
+    s: &[i32],
+    places: &Places,
+    lines: &Lines,
+    slots: &mut Slots,
+    table: &mut [i32],
+    room: &mut [i32],
+) -> Sweep
+    requires { ⌜ Given (now s) (now places) ⌝ ∗ ⌜ Turning (envBy (columnsOf (now lines)) (now mt) (now s) terms) used (terms .budget) many i w (now table) (now slots) (now room) ⌝ ∗ ⌜ terms .budget < 2 ^ 63 ⌝ }
+    ensures { λ r. ⌜ Turned (envBy (columnsOf (now (lines .entry))) (now (mt .entry)) (now (s .entry)) terms) used (terms .budget) many i w (now (table .entry)) (now (slots .entry)) (now (room .entry)) r (now (table .exit)) (now (slots .exit)) (now (room .exit)) ⌝ }
+{
+    let x = w.state;
+    if terms.budget <= x.steps {
+        let b = w.binds;
+        return stop(x, b, OUT_OF_BUDGET);
+    }
+    let h = give_up(
+        w,
+        i,
+        many,
+        terms,
+        used,
+        mt,
+        s,
+        places,
+        lines,
+        slots,
+        table,
+        room,
+    );
+    let t = h.taken;
     follow(
         t,
         w.fresh,
-        w.left + r.more,
+        w.left + h.more,
         w.waiting,
         terms,
         used,

@@ -1,4 +1,5 @@
 // The words of room that suffice for a rule: at most review's rows are written, each with a value for each variable, and no value has more words than the target, or in form 2 than three.
+use services::matching::UNKNOWN_FORM;
 use services::review::review;
 use test_variables::Counted;
 use test_variables::count_variables;
@@ -14,9 +15,6 @@ pub struct Roomed {
     pub place: usize,
     pub words: u64,
 }
-
-// 20 unknown row form.
-const UNKNOWN_FORM: u32 = 20;
 
 // A target has at most so many words, and a value in form 2 so many.
 const TARGET_WORDS: u64 = 1024;

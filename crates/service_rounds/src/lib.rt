@@ -4,36 +4,23 @@ use round_run::search_rounds;
 use search::Terms;
 use services::matching::Matched;
 use services::matching::UNKNOWN_DIALECT;
+use services::matching::UNKNOWN_FORM;
+use services::matching::turned_away;
 use tables::line::no_lines;
 use tests::Judgement;
 use tests::TargetJudgement;
 use tests::rule_refused_in;
 use tests::target_refused;
 use words::casts::wide;
+use words::dialect::EVERY_PLACE;
+use words::dialect::FIRST_PLACES;
 ghost use mathlib.Core.Path.{_≡_};
 ghost use lib.ListN.{length};
 ghost use Rattle.round_rules.specs.Rounds.{statesIn, matchRounds, matchRoundsPicked};
 ghost use Rattle.words.specs.Dialects.{dialectBy};
 ghost use Rattle.value_rows.specs.Row.{formBy};
-ghost use Rattle.services.specs.Matches.{Admitted, told, away};
+ghost use Rattle.services.specs.Matches.{Admitted, told};
 ghost use Rattle.service_rounds.specs.Dialects.{roundsDialect};
-
-// The answer to a row form that there is not.
-const UNKNOWN_FORM: u32 = 20;
-
-// A refusal has no rows, steps or words.
-fn turned_away(answer: u32, place: usize, cause: u32) -> Matched
-    ensures { λ r. ⌜ r ≡ away answer place cause ⌝ }
-{
-    Matched {
-        answer: answer,
-        place: place,
-        rows: 0,
-        steps: 0,
-        words: 0,
-        cause: cause,
-    }
-}
 
 // The run of a rule and a target that were accepted in a dialect; `firsts`: dialect 2.
 fn carry_out(
@@ -113,7 +100,7 @@ fn rounds_dialect(
 ) -> Matched
     ensures { λ r. ⌜ told r (now (room .exit)) ≡ roundsDialect (formBy origins) dialect (now (matcher .entry)) (now (pattern .entry)) (now (target .entry)) (statesIn 825 (length (now (table .entry)))) budget (now (room .entry)) ⌝ }
 {
-    if dialect == 1 {
+    if dialect == EVERY_PLACE {
         return rounds_in(
             false,
             origins,
@@ -125,7 +112,7 @@ fn rounds_dialect(
             room,
         );
     }
-    if dialect == 2 {
+    if dialect == FIRST_PLACES {
         return rounds_in(true, origins, matcher, pattern, target, budget, table, room);
     }
     turned_away(UNKNOWN_DIALECT, 0, 0)

@@ -32,9 +32,10 @@ use Rattle.services.proofs.Matches.{under, rule-whole, both-admitted}
 use Rattle.run_sound.specs.Tested.{Decides}
 use Rattle.run_sound.proofs.Tests.{refuted, upheld, never, always}
 use Rattle.run_states.specs.Standing.{numbersOf}
-use Rattle.service_runs.specs.Going.{Carries}
+use Rattle.service_runs.specs.Going.{termsBy, Carries}
+use Rattle.service_runs.specs.declared.going.Picks.{Picks}
 use Rattle.service_runs.proofs.Steady.{still-stays}
-use Rattle.service_runs.specs.Kept.{told, unlikeNumbers, Goes, Over, Lengths, Standing, went-told, went-room, went-held, standing-valid, standing-over, refusalIn, termsIn}
+use Rattle.service_runs.specs.Kept.{told, unlikeNumbers, Goes, Over, Lengths, Standing, went-told, went-room, went-held, standing-valid, standing-over, refusalIn, picksIn, termsIn}
 use Rattle.service_runs.specs.Kept.{Refusal, unknown, unknown-dialect, tested, Kept, refused, stands, Tabled, is-done, is-refusal, is-budget, is-full, is-unlike, Refuses, changed, Advances}
 use Rattle.service_runs.specs.declared.run.Run as struct
 use Rattle.service_runs.specs.declared.run.Told as report
@@ -247,7 +248,10 @@ module _ (r : struct.Run) (n : ℕ) (room : List ℤ) (t : report.Told) where
           (q ∙ ap {B = Lent} (λ i. record { size = r .size; held = i }) (standing-over _ _ _ _ (g .ready) (r .size) (r .state) (r .slots) (r .binds) h f c)) s w
 
   module _ (e : length room ≡ r .size) (a : r .answer ≡ 0) (v : r .state .live ≡ 1) (room′ : List ℤ) (sound : Bool) (x : State) (slots : List ℕ) (b : List Binding)
-      (c : Over (termsIn r) (r .matchers) (r .matcher) (r .patterns) (r .pattern) (r .targets) (r .target) n (r .state) (r .slots) (r .binds) room sound x slots b room′) where
+      (picks : Picks) (p : picks ≡ picksIn (r .form) (r .dialect)) (o : Over (termsBy picks) (r .matchers) (r .matcher) (r .patterns) (r .pattern) (r .targets) (r .target) n (r .state) (r .slots) (r .binds) room sound x slots b room′) where
+    c : Over (termsIn r) (r .matchers) (r .matcher) (r .patterns) (r .pattern) (r .targets) (r .target) n (r .state) (r .slots) (r .binds) room sound x slots b room′
+    c = subst (λ k. Over (termsBy k) (r .matchers) (r .matcher) (r .patterns) (r .pattern) (r .targets) (r .target) n (r .state) (r .slots) (r .binds) room sound x slots b room′) p o
+
     -- Not sound: then it is no run that the last call left.
     pub adv-unsound : sound ≡ false → told t ≡ unlikeNumbers → Advances r n room same room′
     unfolding changed told

@@ -30,6 +30,7 @@ use Rattle.services.proofs.Matches.{ready-sane, ready-target}
 use Rattle.search.proofs.Accepted.{fine-in}
 use Rattle.run_states.specs.Standing.{numbersOf, Going, Stood, over, goes-on, advance-told, advance-room, advance-held}
 use Rattle.service_runs.specs.Going.{Tries, Still, termsBy, linesIn, envIn, runIn, Carries}
+use Rattle.service_runs.specs.declared.going.Picks.{Picks}
 use Rattle.service_runs.specs.declared.run.Run as struct
 use Rattle.service_runs.specs.declared.run.Told as report
 use Rattle.service_runs.specs.declared.run.Out as out
@@ -146,8 +147,11 @@ abbrev pub refusalIn : struct.Run → Numbers
 refusalIn r = record { answer = r .answer; place = r .place; rows = 0; steps = 0; words = 0; cause = r .cause }
 
 -- What its opening was told. A form or a dialect that there is not is taken as 1, in a run that no opening has left so.
+abbrev pub picksIn : (form dialect : ℕ) → Picks
+picksIn form dialect = record { origins = eqb form 2; firsts = eqb dialect 2 }
+
 abbrev pub termsIn : struct.Run → Terms
-termsIn r = termsBy (record { origins = eqb (r .form) 2; firsts = eqb (r .dialect) 2 })
+termsIn r = termsBy (picksIn (r .form) (r .dialect))
 
 -- The answers of an opening that refuses.
 pub data Refusal (a : ℕ) : Type 0 where

@@ -1,11 +1,10 @@
 // The opening of a run: it is refused there, or it stands before its first state and keeps its own copy of the words.
-use crate::run::FIRST_PLACES;
 use crate::run::Run;
-use crate::run::UNKNOWN_DIALECT;
-use crate::run::UNKNOWN_FORM;
 use search::open;
 use search_step::ENDED;
 use search_step::State;
+use services::matching::UNKNOWN_DIALECT;
+use services::matching::UNKNOWN_FORM;
 use tables::slot::no_slots;
 use tests::Judgement;
 use tests::TargetJudgement;
@@ -15,6 +14,7 @@ use value_rows::Binding;
 use value_rows::VARIABLES;
 use value_rows::copy;
 use words::casts::index;
+use words::dialect::FIRST_PLACES;
 ghost use mathlib.Core.Path.{_≡_};
 ghost use Prim.Native.Nat.{_≤_};
 ghost use lib.ListN.{length};

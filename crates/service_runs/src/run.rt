@@ -6,12 +6,16 @@ use search::Progress;
 use search::tell;
 use search_step::STANDS;
 use search_step::State;
+use services::matching::UNKNOWN_DIALECT;
+use services::matching::UNKNOWN_FORM;
 use tables::slot::Slots;
 use tests::Judgement;
 use tests::TargetJudgement;
+use tests::UNFIT;
 use tests::rule_refused_in;
 use tests::target_refused;
 use value_rows::Binding;
+use words::dialect::FIRST_PLACES;
 ghost use mathlib.Core.Path.{_≡_};
 ghost use Prim.Native.Nat.{_*_};
 ghost use lib.ListN.{length};
@@ -20,7 +24,7 @@ ghost use Rattle.words.specs.Dialects.{dialectBy};
 ghost use Rattle.services.specs.Matches.{Admitted};
 ghost use Rattle.run_sound.specs.Tested.{Decides};
 ghost use Rattle.service_runs.specs.Going.{termsBy};
-ghost use Rattle.service_runs.specs.Kept.{Goes, Over, Lengths, Refusal, Refuses, Advances, told, unlikeNumbers};
+ghost use Rattle.service_runs.specs.Kept.{Goes, Over, Lengths, Refusal, Refuses, Advances, told, unlikeNumbers, picksIn};
 ghost use Rattle.run_states.specs.Standing.{numbersOf};
 
 // Matcher, pattern and target are kept in full arrays, with their lengths; `answer` is a refusal at the opening, or 0.
@@ -63,17 +67,8 @@ pub struct Out {
 // 19: a room unlike the size given at the opening.
 const UNLIKE: u32 = 19;
 
-// The refusals of an opening: 1 to 6, and a row form or a dialect that there is not.
-const UNFIT: u32 = 6;
-
-pub const UNKNOWN_FORM: u32 = 20;
-
-pub const UNKNOWN_DIALECT: u32 = 22;
-
-// The row form that tells origins, and the dialect that takes first places.
+// The row form that tells origins.
 const ORIGINS: u32 = 2;
-
-pub const FIRST_PLACES: u32 = 2;
 
 // The longest matcher, pattern and target.
 const MATCHERS: usize = 64;
@@ -235,6 +230,16 @@ fn refused(answer: u32, place: usize, cause: u32) -> Told
     }
 }
 
+// What the opening was told, by the form and the dialect that a run keeps.
+fn picks_of(form: u32, dialect: u32) -> Picks
+    ensures { λ r. ⌜ r ≡ picksIn form dialect ⌝ }
+{
+    Picks {
+        origins: form == ORIGINS,
+        firsts: dialect == FIRST_PLACES,
+    }
+}
+
 // An advance of a run, by value, for any run and any room. One that is not sound is told as one that the room is unlike.
 pub fn advanced(mut run: Run, portion: u32, room: &mut [i32]) -> Out
     ensures { λ r. ⌜ Advances run portion (now (room .entry)) r (now (room .exit)) ⌝ }
@@ -254,10 +259,7 @@ pub fn advanced(mut run: Run, portion: u32, room: &mut [i32]) -> Out
                 pattern: run.pattern,
                 target: run.target,
             };
-            let picks = Picks {
-                origins: run.form == ORIGINS,
-                firsts: run.dialect == FIRST_PLACES,
-            };
+            let picks = picks_of(run.form, run.dialect);
             let mut slots = run.slots;
             let found = on_words(
                 from,

@@ -8,6 +8,8 @@ use tests::TargetJudgement;
 use tests::rule_refused_in;
 use tests::target_refused;
 use words::casts::wide;
+use words::dialect::EVERY_PLACE;
+use words::dialect::FIRST_PLACES;
 ghost use mathlib.Core.Path.{_≡_};
 ghost use Rattle.rules.specs.Services.{match, matchOf, matchPicked};
 ghost use Rattle.words.specs.Dialects.{dialectBy};
@@ -24,13 +26,13 @@ pub struct Matched {
 }
 
 // The answer to a row form that there is not.
-const UNKNOWN_FORM: u32 = 20;
+pub const UNKNOWN_FORM: u32 = 20;
 
 // The answer to a dialect that there is not.
 pub const UNKNOWN_DIALECT: u32 = 22;
 
 // A refusal has no rows, steps or words.
-fn turned_away(answer: u32, place: usize, cause: u32) -> Matched
+pub fn turned_away(answer: u32, place: usize, cause: u32) -> Matched
     ensures { λ r. ⌜ r ≡ away answer place cause ⌝ }
 {
     Matched {
@@ -122,10 +124,10 @@ fn match_dialect(
 ) -> Matched
     ensures { λ r. ⌜ told r (now (room .exit)) ≡ matchDialect (formBy origins) dialect (now (matcher .entry)) (now (pattern .entry)) (now (target .entry)) budget (now (room .entry)) ⌝ }
 {
-    if dialect == 1 {
+    if dialect == EVERY_PLACE {
         return match_in(false, origins, matcher, pattern, target, budget, room);
     }
-    if dialect == 2 {
+    if dialect == FIRST_PLACES {
         return match_in(true, origins, matcher, pattern, target, budget, room);
     }
     turned_away(UNKNOWN_DIALECT, 0, 0)

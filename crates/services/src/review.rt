@@ -9,6 +9,8 @@ use tables::line::no_lines;
 use tests::Judgement;
 use tests::rule_refused_in;
 use words::casts::wide;
+use words::dialect::EVERY_PLACE;
+use words::dialect::FIRST_PLACES;
 use words::tag_of;
 ghost use mathlib.Core.Path.{_≡_};
 ghost use Rattle.rules.specs.Services.{ruleIn, ruleOf, reviewRule, review, reviewOf, reviewPicked};
@@ -109,10 +111,10 @@ pub fn review_with(dialect: u32, matcher: &[i32], pattern: &[i32], cap: i32) -> 
     ensures { λ r. ⌜ reviewed r ≡ reviewPicked dialect (now (matcher .entry)) (now (pattern .entry)) cap ⌝ }
     ensures { λ r. ⌜ r .rows ≡ rowsPicked dialect (now (matcher .entry)) (now (pattern .entry)) cap ⌝ }
 {
-    if dialect == 1 {
+    if dialect == EVERY_PLACE {
         return review_in(false, matcher, pattern, cap);
     }
-    if dialect == 2 {
+    if dialect == FIRST_PLACES {
         return review_in(true, matcher, pattern, cap);
     }
     Reviewed {

@@ -1,5 +1,6 @@
 -- Test 4 by the word at the place, over a stack that an array holds, as the code asks it. Assumes nothing.
-use mathlib.Core.Path.{_≡_, refl, sym, _∙_, ap}
+use mathlib.Core.Path.{_≡_, refl, sym, _∙_, ap, subst}
+use mathlib.Core.Logic.{⊎-elim}
 use mathlib.Core.Bool.{Bool, true, false, cond, _&&_}
 use mathlib.Core.List.{List, [], _∷_, _++_}
 use Prim.Native.Nat.{ℕ, zero, suc, _+_, _*_, _-_, _<_, _≤_}
@@ -7,10 +8,10 @@ use native.Mathlib.Numerals.{add-one}
 use native.Mathlib.Omega.{arith}
 use borrow.Author.Needs.{needs}
 use borrow.Author.Tests.{le-leb, lt-leb, eqb-true}
-use mir.Syntax.{w64}
-use mir.Val.{Fits}
+use denote.Enum.Declared.{tagOf}
+use types.Run.{OneOf}
 use lib.Dec.{eqb}
-use lib.ListN.{length, getD, take, drop, set, drop-of-length-le}
+use lib.ListN.{length, getD, take, drop, set, length-set, drop-of-length-le}
 use lib.Seq.{drop-cons, getD-drop}
 use lib.IntN.{ℤ, negsuc}
 use Rattle.rules.specs.Reading.{patternTags}
@@ -28,6 +29,9 @@ use Rattle.test_forms.specs.declared.table.Row.{Row}
 use Rattle.test_forms.specs.declared.table.Row.the-variants as row
 use Rattle.test_forms.proofs.Turns.{width-most}
 use Rattle.test_forms.proofs.table.Laws.{few-operands}
+use Rattle.test_fit.specs.Following.{waiting, waitsAfter, stackAfter, underAfter, Room}
+use Rattle.test_fit.specs.declared.Waiting.{Waiting}
+use Rattle.test_fit.proofs.Here.{the-type}
 use Rattle.test_fit.proofs.Stack.{stackOf, stack-push, take-more, length-pushed, stack-pushed}
 
 -- ---- What follows a tag.
@@ -83,58 +87,6 @@ ret-long firsts m p l = rw (lt-leb (length p) 256 l)
 in-time : (firsts : Bool) (m p : List ℤ) (v : Tested) → length p ≤ 256 → v ≡ fitP firsts m (0 ∷ []) [] 0 0 p → v ≡ fitOf firsts m p
 unfolding fitOf
 in-time firsts m p v l e = rw (le-leb (length p) 256 l) e
-
--- ---- Returns and turns.
-
-pub starts : (firsts : Bool) (m p : List ℤ) (a l : List ℕ) → getD a 0 0 ≡ 0 → fitP firsts m (0 ∷ []) [] 0 0 p ≡ fitP firsts m (stackOf a 1) (take 0 l) 0 0 (drop 0 p)
-unfolding stackOf
-starts firsts m p a l e = rw e
-
-module _ (firsts : Bool) (m p : List ℤ) (a u : List ℕ) (n o at : ℕ) where
-  module _ (l : length p ≤ 256) (i : fitP firsts m (0 ∷ []) [] 0 0 p ≡ fitP firsts m (stackOf a n) u o at (drop at p)) where
-    pub ret-end : length p ≤ at → Passed ≡ fitOf firsts m p
-    ret-end h = in-time firsts m p _ l (sym (i ∙ over firsts m p (stackOf a n) u at o h))
-
-    pub ret-spare : at < length p → n ≡ 0 → o ≤ 0 → Fault at ≡ fitOf firsts m p
-    ret-spare h e q = in-time firsts m p _ l (sym (i ∙ spare firsts m p at h a u n o e q))
-
-    pub ret-misfit : at < length p → (n ≡ 0 → ⊥) → o ≤ 0 → (r : Here) → r ≡ hereInAt firsts m (getD a (n - 1) 0) p at u → r ≡ Misfit → Fault at ≡ fitOf firsts m p
-    unfolding byHere
-    ret-misfit h z q r e f = in-time firsts m p _ l (sym (i ∙ steps firsts m p at h a u n o z q r e ∙ rw f))
-
-  module _ (v : Tested) (i : v ≡ fitP firsts m (stackOf a n) u o at (drop at p)) (h : at < length p) where
-    pub turn-skip : 0 < o → v ≡ fitP firsts m (stackOf a n) u (o - 1) (at + 1) (drop (at + 1) p)
-    turn-skip q = i ∙ skips firsts m p at h (stackOf a n) u o q
-
-    module _ (z : n ≡ 0 → ⊥) (q : o ≤ 0) (r : Here) (e : r ≡ hereInAt firsts m (getD a (n - 1) 0) p at u) where
-      pub turn-leaf : (b : ℕ) → r ≡ Leaf b → v ≡ fitP firsts m (stackOf a (n - 1)) u b (at + 1) (drop (at + 1) p)
-      unfolding byHere
-      turn-leaf b f = i ∙ steps firsts m p at h a u n o z q r e ∙ rw f
-
-      pub turn-one : r ≡ One → v ≡ fitP firsts m (stackOf a (n - 1 + 1)) u o (at + 1) (drop (at + 1) p)
-      unfolding byHere stackOf
-      turn-one w =
-          let y : o ≡ 0 = omega arith in
-          rw (add-one (n - 1), y) (i ∙ steps firsts m p at h a u n o z q r e ∙ rw w)
-
-      pub turn-parts : (f : ℕ) → r ≡ Parts f → n - 1 + 1 < length a
-          → v ≡ fitP firsts m (stackOf (set (set a (n - 1) (getD a (n - 1) 0)) (n - 1 + 1) f) (n - 1 + 2)) u o (at + 1) (drop (at + 1) p)
-      unfolding byHere
-      turn-parts f w k =
-          let y : o ≡ 0 = omega arith in
-          rw (stack-push a (n - 1) (getD a (n - 1) 0) f k, y) (i ∙ steps firsts m p at h a u n o z q r e ∙ rw w)
-
-      pub turn-wide : (f k : ℕ) → r ≡ Wide f k → n - 1 + k ≤ length a → (b : List ℕ) → b ≡ pushed m a (n - 1) k f
-          → v ≡ fitP firsts m (stackOf b (n - 1 + k)) u 1 (at + 1) (drop (at + 1) p)
-      unfolding byHere
-      turn-wide f k w l b j = rw (j, stack-pushed m (n - 1) a k f l) (i ∙ steps firsts m p at h a u n o z q r e ∙ rw w)
-
-pub turn-bind : (firsts : Bool) (m p : List ℤ) (a u : List ℕ) (n o at next : ℕ) (v : Tested) → v ≡ fitP firsts m (stackOf a n) (take next u) o at (drop at p) → at < length p
-    → (n ≡ 0 → ⊥) → o ≤ 0 → (r : Here) → r ≡ hereInAt firsts m (getD a (n - 1) 0) p at (take next u) → (b : ℕ) → r ≡ Bind b → next < length u
-    → v ≡ fitP firsts m (stackOf a (n - 1)) (take (next + 1) (set u next (getD a (n - 1) 0))) b (at + 1) (drop (at + 1) p)
-unfolding byHere
-turn-bind firsts m p a u n o at next v i h z q r e b w k =
-    rw (take-more u next (getD a (n - 1) 0) k) (i ∙ steps firsts m p at h a (take next u) n o z q r e ∙ rw w)
 
 -- ---- Bounds: what a tag skips, and how wide a tuple is.
 
@@ -192,44 +144,147 @@ asks-in firsts m i p at under = go (unlike firsts m i (tagAt p at))
     go true = tt
     go false = asks m i p at under
 
-module _ (firsts : Bool) (m p : List ℤ) (i at : ℕ) (under : List ℕ) (r : Here) (e : r ≡ hereInAt firsts m i p at under) where
-  of : Asks r
-  of = rw e (asks-in firsts m i p at under)
+not-misfit : (r : Here) → OneOf (1 ∷ 2 ∷ 3 ∷ 4 ∷ 5 ∷ []) (tagOf the-type r) → r ≡ Misfit → ⊥
+not-misfit r k e = go (subst (λ x. OneOf (1 ∷ 2 ∷ 3 ∷ 4 ∷ 5 ∷ []) (tagOf the-type x)) e k)
+  where
+    go : OneOf (1 ∷ 2 ∷ 3 ∷ 4 ∷ 5 ∷ []) 0 → ⊥
+    go j = ⊎-elim (λ x. omega arith) (⊎-elim (λ x. omega arith) (⊎-elim (λ x. omega arith) (⊎-elim (λ x. omega arith) (λ x. omega arith)))) j
 
-  pub leaf-le : (b : ℕ) → r ≡ Leaf b → b ≤ 2
-  unfolding Asks
-  leaf-le b f = rw f at of
+-- ---- The loop.
 
-  one : (b : ℕ) → r ≡ Bind b → b ≡ 1
-  unfolding Asks
-  one b f = rw f at of
+-- What is left to read decides; the bounds of the stack and of the variables.
+pub record Going (firsts : Bool) (m p : List ℤ) (a u : List ℕ) (w : Waiting) (at : ℕ) : Type 0 where
+  pub same : fitP firsts m (0 ∷ []) [] 0 0 p ≡ fitP firsts m (stackOf a (w .matchers)) (take (w .bound) u) (w .skip) at (drop at p)
+  pub within : at ≤ length p
+  pub few : 2 * w .matchers ≤ 3 * (at + w .skip) + 2
+  pub fewer : 2 * w .bound ≤ at + w .skip
+  pub skipped : w .skip ≤ 2
+  pub stack : length a ≡ 386
+  pub under : length u ≡ 128
 
-  pub bind-le : (b : ℕ) → r ≡ Bind b → b ≤ 2
-  bind-le b f = let h = one b f in omega arith
+pub starts : (firsts : Bool) (m p : List ℤ) (a u : List ℕ) → getD a 0 0 ≡ 0 → length a ≡ 386 → length u ≡ 128 → (w : Waiting) → w ≡ waiting 1 0 0 → Going firsts m p a u w 0
+unfolding waiting stackOf
+starts firsts m p a u e j k w q = subst (λ v. Going firsts m p a u v 0) (sym q) (record {
+  same = first a e;
+  within = omega arith;
+  few = omega arith;
+  fewer = omega arith;
+  skipped = omega arith;
+  stack = j;
+  under = k;
+})
+  where
+    first : (a : List ℕ) → getD a 0 0 ≡ 0 → fitP firsts m (0 ∷ []) [] 0 0 p ≡ fitP firsts m (stackOf a 1) (take 0 u) 0 0 (drop 0 p)
+    first a e = rw e
 
-  pub bind-room : (b next o : ℕ) → r ≡ Bind b → o ≤ 0 → 2 * next ≤ at + o → 2 * (next + 1) ≤ at + 1 + b
-  bind-room b next o f q h = let k = one b f in omega arith
+module _ (firsts : Bool) (m p : List ℤ) (a u : List ℕ) (w : Waiting) (at : ℕ) (G : Going firsts m p a u w at) where
+  pub ret-end : length p ≤ 256 → length p ≤ at → Passed ≡ fitOf firsts m p
+  ret-end l h = in-time firsts m p _ l (sym (G .same ∙ over firsts m p (stackOf a (w .matchers)) (take (w .bound) u) at (w .skip) h))
 
-  pub wide-le : (f k : ℕ) → r ≡ Wide f k → k ≤ 4
-  unfolding Asks
-  wide-le f k q = rw q at of
+  pub going-skip : at < length p → 0 < w .skip → (v : Waiting) → v ≡ waiting (w .matchers) (w .bound) (w .skip - 1) → Going firsts m p a u v (at + 1)
+  going-skip h q v e = subst (λ y. Going firsts m p a u y (at + 1)) (sym e) (unfold waiting in record {
+    same = G .same ∙ skips firsts m p at h (stackOf a (w .matchers)) (take (w .bound) u) (w .skip) q;
+    within = omega arith;
+    few = let k = G .few in omega arith;
+    fewer = let k = G .fewer in omega arith;
+    skipped = let k = G .skipped in omega arith;
+    stack = G .stack;
+    under = G .under;
+  })
 
-  pub wide-stack : (f k n o : ℕ) → r ≡ Wide f k → o ≤ 0 → (n ≡ 0 → ⊥) → 2 * n ≤ 3 * (at + o) + 2 → 2 * (n - 1 + k) ≤ 3 * (at + 1 + 1) + 2
-  wide-stack f k n o q l z h = let w = wide-le f k q in omega arith
+  module _ (l : length p ≤ 256) (h : at < length p) (q : w .skip ≤ 0) where
+    pub ret-spare : w .matchers ≡ 0 → Fault at ≡ fitOf firsts m p
+    ret-spare e = in-time firsts m p _ l (sym (G .same ∙ spare firsts m p at h a (take (w .bound) u) (w .matchers) (w .skip) e q))
 
-  pub wide-room : (f k n o : ℕ) → r ≡ Wide f k → o ≤ 0 → (n ≡ 0 → ⊥) → 2 * n ≤ 3 * (at + o) + 2 → at < length p → length p ≤ 256 → n - 1 + k ≤ 386
-  wide-room f k n o q l z h x y = let w = wide-le f k q in omega arith
+    module _ (z : w .matchers ≡ 0 → ⊥) where
+      abbrev asksAt : Here
+      asksAt = hereInAt firsts m (getD a (w .matchers - 1) 0) p at (take (w .bound) u)
 
-  pub wide-sum : (f k n o : ℕ) → r ≡ Wide f k → o ≤ 0 → (n ≡ 0 → ⊥) → 2 * n ≤ 3 * (at + o) + 2 → at < length p → length p ≤ 256 → Fits w64 (n - 1 + k)
-  wide-sum f k n o q l z h x y = let w = wide-room f k n o q l z h x y in record { fits = omega arith }
+      pub ret-misfit : (r : Here) → r ≡ asksAt → r ≡ Misfit → Fault at ≡ fitOf firsts m p
+      unfolding byHere
+      ret-misfit r e f = in-time firsts m p _ l (sym (G .same ∙ steps firsts m p at h a (take (w .bound) u) (w .matchers) (w .skip) z q r e ∙ rw f))
 
-pub room-left : (p : List ℤ) (next at o : ℕ) → 2 * next ≤ at + o → o ≤ 0 → at < length p → length p ≤ 256 → next < 128
-room-left p next at o h q k l = omega arith
+      pub follow-room : (r : Here) → r ≡ asksAt → Room r (w .matchers - 1) (w .bound)
+      unfolding Asks Room
+      follow-room r e = go r (rw e (asks-in firsts m (getD a (w .matchers - 1) 0) p at (take (w .bound) u)))
+        where
+          go : (r : Here) → Asks r → Room r (w .matchers - 1) (w .bound)
+          go Misfit k = tt
+          go (Leaf o) k = tt
+          go (Bind o) k = let i = G .fewer in omega arith
+          go One k = let i = G .few in omega arith
+          go (Parts f) k = let i = G .few in omega arith
+          go (Wide f n) k = let i = G .few in omega arith
 
-pub long-after : (m : List ℤ) (a b : List ℕ) (n k f l : ℕ) → b ≡ pushed m a n k f → length a ≡ l → length b ≡ l
-long-after m a b n k f l e h = rw e (length-pushed m n a k f ∙ h)
+      follows : (r : Here) → r ≡ asksAt → (r ≡ Misfit → ⊥)
+          → Going firsts m p (stackAfter m r (getD a (w .matchers - 1) 0) (w .matchers - 1) a) (underAfter r (getD a (w .matchers - 1) 0) (w .bound) u) (waitsAfter r (w .matchers - 1) (w .bound)) (at + 1)
+      unfolding Asks Room stackAfter underAfter waitsAfter waiting byHere stackOf
+      follows r e f = go r e f (rw e (asks-in firsts m (getD a (w .matchers - 1) 0) p at (take (w .bound) u))) (follow-room r e)
+        where
+          step : (r : Here) → r ≡ asksAt → fitP firsts m (0 ∷ []) [] 0 0 p ≡ byHere r
+              (Fault at)
+              (λ b. fitP firsts m (stackOf a (w .matchers - 1)) (take (w .bound) u) b (at + 1) (drop (at + 1) p))
+              (λ b. fitP firsts m (stackOf a (w .matchers - 1)) (take (w .bound) u ++ (getD a (w .matchers - 1) 0 ∷ [])) b (at + 1) (drop (at + 1) p))
+              (fitP firsts m (getD a (w .matchers - 1) 0 ∷ stackOf a (w .matchers - 1)) (take (w .bound) u) 0 (at + 1) (drop (at + 1) p))
+              (λ f. fitP firsts m (f ∷ getD a (w .matchers - 1) 0 ∷ stackOf a (w .matchers - 1)) (take (w .bound) u) 0 (at + 1) (drop (at + 1) p))
+              (λ f k. fitP firsts m (membersAt m k f ++ stackOf a (w .matchers - 1)) (take (w .bound) u) 1 (at + 1) (drop (at + 1) p))
+          step r e = G .same ∙ steps firsts m p at h a (take (w .bound) u) (w .matchers) (w .skip) z q r e
 
-pub ruleset rules = (ret-long, starts, ret-end, ret-spare, ret-misfit, turn-skip, turn-leaf, turn-one, turn-parts, turn-wide, turn-bind, leaf-le, bind-le, bind-room, wide-le, wide-stack, wide-room, wide-sum, room-left, long-after, needs)
+          go : (r : Here) → r ≡ asksAt → (r ≡ Misfit → ⊥) → Asks r → Room r (w .matchers - 1) (w .bound)
+              → Going firsts m p (stackAfter m r (getD a (w .matchers - 1) 0) (w .matchers - 1) a) (underAfter r (getD a (w .matchers - 1) 0) (w .bound) u) (waitsAfter r (w .matchers - 1) (w .bound)) (at + 1)
+          go Misfit e f k b = absurd (f refl)
+          go (Leaf o) e f k b = record {
+            same = step (Leaf o) e;
+            within = omega arith;
+            few = let i = G .few in omega arith;
+            fewer = let i = G .fewer in omega arith;
+            skipped = k;
+            stack = G .stack;
+            under = G .under;
+          }
+          go (Bind o) e f k b = record {
+            same = rw (take-more u (w .bound) (getD a (w .matchers - 1) 0) (let i = G .under in omega arith)) (step (Bind o) e);
+            within = omega arith;
+            few = let i = G .few in omega arith;
+            fewer = let i = G .fewer in omega arith;
+            skipped = omega arith;
+            stack = G .stack;
+            under = simp length-set (G .under);
+          }
+          go One e f k b = record {
+            same = rw (add-one (w .matchers - 1)) (step One e);
+            within = omega arith;
+            few = let i = G .few in omega arith;
+            fewer = let i = G .fewer in omega arith;
+            skipped = omega arith;
+            stack = G .stack;
+            under = G .under;
+          }
+          go (Parts x) e f k b = record {
+            same = rw (stack-push a (w .matchers - 1) (getD a (w .matchers - 1) 0) x (let i = G .stack in omega arith)) (step (Parts x) e);
+            within = omega arith;
+            few = let i = G .few in omega arith;
+            fewer = let i = G .fewer in omega arith;
+            skipped = omega arith;
+            stack = simp length-set (G .stack);
+            under = G .under;
+          }
+          go (Wide x n) e f k b = record {
+            same = rw (stack-pushed m (w .matchers - 1) a n x (let i = G .stack in omega arith)) (step (Wide x n) e);
+            within = omega arith;
+            few = let i = G .few in omega arith;
+            fewer = let i = G .fewer in omega arith;
+            skipped = omega arith;
+            stack = length-pushed m (w .matchers - 1) a n x ∙ G .stack;
+            under = G .under;
+          }
+
+      -- The keys are those of all variants but the misfit.
+      pub going-follow : (r : Here) → r ≡ asksAt → OneOf (1 ∷ 2 ∷ 3 ∷ 4 ∷ 5 ∷ []) (tagOf the-type r) → (v : Waiting) → v ≡ waitsAfter r (w .matchers - 1) (w .bound)
+          → (b c : List ℕ) → b ≡ stackAfter m r (getD a (w .matchers - 1) 0) (w .matchers - 1) a → c ≡ underAfter r (getD a (w .matchers - 1) 0) (w .bound) u → Going firsts m p b c v (at + 1)
+      going-follow r e k v d b c i j = rw (d, i, j) (follows r e (not-misfit r k))
+
+pub ruleset rules = (ret-long, starts, ret-end, going-skip, ret-spare, ret-misfit, follow-room, going-follow, needs)
 
 -- ---- Storing the members.
 
@@ -247,3 +302,22 @@ module _ (m : List ℤ) (a : List ℕ) (n k i : ℕ) (v : List ℕ) (e : v ≡ p
       go (suc x) l = let y : suc x - 1 ≡ x = omega arith in rw y
 
 pub ruleset push-rules = (push-out, push-turn, needs)
+
+-- ---- What a tag asks.
+
+module _ (r : Here) (n next : ℕ) (room : Room r n next) where
+  pub room-bind : (o : ℕ) → r ≡ Bind o → next < 128
+  unfolding Room
+  room-bind o e = rw e at room
+
+  pub room-one : r ≡ One → n < 386
+  unfolding Room
+  room-one e = rw e at room
+
+  pub room-parts : (f : ℕ) → r ≡ Parts f → n + 2 ≤ 386
+  unfolding Room
+  room-parts f e = rw e at room
+
+  pub room-wide : (f k : ℕ) → r ≡ Wide f k → n + k ≤ 386
+  unfolding Room
+  room-wide f k e = rw e at room

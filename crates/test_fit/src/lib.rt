@@ -15,6 +15,7 @@ ghost use mathlib.Core.Path.{_≡_};
 ghost use Prim.Native.Nat.{_+_, _≤_, _<_, _^_};
 ghost use lib.ListN.{length, take};
 ghost use Rattle.test_fit.specs.Fitting.{firstOf, valueFitsTag, tupleAt, hereAt, apartAt, unlike, hereInAt, fitOf, pushed};
+ghost use Rattle.test_fit.specs.Following.{waiting, waitsAfter, stackAfter, underAfter, Room};
 
 // Of 256 words, no more patterns wait than this, and no more tags 1 stand than this.
 pub const WAITING: usize = 386;
@@ -167,6 +168,56 @@ fn push(ms: &[i32], stack: &mut [usize; WAITING], n: usize, k: usize, i: usize)
     }
 }
 
+// How many matchers are on the stack, how many variables are bound, and how many operands are skipped.
+pub struct Waiting {
+    pub matchers: usize,
+    pub bound: usize,
+    pub skip: u32,
+}
+
+fn waits(n: usize, next: usize, skip: u32) -> Waiting
+    ensures { λ r. ⌜ r ≡ waiting n next skip ⌝ }
+{
+    Waiting {
+        matchers: n,
+        bound: next,
+        skip: skip,
+    }
+}
+
+// What a tag asks that stands under the matcher i: matchers onto the stack, or one more variable under i.
+fn follow(
+    ms: &[i32],
+    asks: Here,
+    i: usize,
+    n: usize,
+    next: usize,
+    stack: &mut [usize; WAITING],
+    under: &mut [usize; VARIABLE_TAGS],
+) -> Waiting
+    requires { ⌜ Room asks n next ⌝ ∗ ⌜ (length (now stack) ≡ 386) × (length (now under) ≡ 128) ⌝ }
+    ensures { λ r. ⌜ r ≡ waitsAfter asks n next ⌝ ∗ ⌜ (now (stack .exit) ≡ stackAfter (now (ms .entry)) asks i n (now (stack .entry))) × (now (under .exit) ≡ underAfter asks i next (now (under .entry))) ⌝ }
+{
+    match asks {
+        Here::Misfit => waits(n, next, 0),
+        Here::Leaf(operands) => waits(n, next, operands),
+        Here::Bind(operands) => {
+            under[next] = i;
+            waits(n, next + 1, operands)
+        }
+        Here::One => waits(n + 1, next, 0),
+        Here::Parts(first) => {
+            stack[n] = i;
+            stack[n + 1] = first;
+            waits(n + 2, next, 0)
+        }
+        Here::Wide(first, k) => {
+            push(ms, stack, n, k, first);
+            waits(n + k, next, 1)
+        }
+    }
+}
+
 // Whether the words of a pattern fit the words of a matcher in a dialect, left to right; `firsts`: dialect 2. On the stack are the matchers of the patterns still to come.
 pub fn walk(firsts: bool, ms: &[i32], ps: &[i32]) -> Tested
     ensures { λ r. ⌜ r ≡ fitOf firsts (now (ms .entry)) (now (ps .entry)) ⌝ }
@@ -175,49 +226,24 @@ pub fn walk(firsts: bool, ms: &[i32], ps: &[i32]) -> Tested
         return Tested::Fault(PATTERN_WORDS);
     }
     let mut stack = [0usize; WAITING];
-    let mut n: usize = 1;
     let mut under = [0usize; VARIABLE_TAGS];
-    let mut next: usize = 0;
-    let mut skip: u32 = 0;
+    let mut w = waits(1, 0, 0);
     let mut at: usize = 0;
     while at < ps.len() {
-        if 0 < skip {
-            skip -= 1;
+        let n = w.matchers;
+        if 0 < w.skip {
+            w = waits(n, w.bound, w.skip - 1);
             at += 1;
         } else if n == 0 {
             return Tested::Fault(at);
         } else {
-            n -= 1;
-            let i = stack[n];
-            match here_in(firsts, ms, i, ps, at, &under[..], next) {
-                Here::Misfit => return Tested::Fault(at),
-                Here::Leaf(operands) => {
-                    skip = operands;
-                    at += 1;
-                }
-                Here::Bind(operands) => {
-                    under[next] = i;
-                    next += 1;
-                    skip = operands;
-                    at += 1;
-                }
-                Here::One => {
-                    n += 1;
-                    at += 1;
-                }
-                Here::Parts(first) => {
-                    stack[n] = i;
-                    stack[n + 1] = first;
-                    n += 2;
-                    at += 1;
-                }
-                Here::Wide(first, k) => {
-                    push(ms, &mut stack, n, k, first);
-                    n += k;
-                    skip = 1;
-                    at += 1;
-                }
+            let i = stack[n - 1];
+            let asks = here_in(firsts, ms, i, ps, at, &under[..], w.bound);
+            if let Here::Misfit = asks {
+                return Tested::Fault(at);
             }
+            w = follow(ms, asks, i, n - 1, w.bound, &mut stack, &mut under);
+            at += 1;
         }
     }
     Tested::Passed

@@ -1,10 +1,13 @@
 // The file of a book: opened, compared with what was read, and one block of it written.
 use book_blocks::BLOCK;
 
-// The bytes of the largest book, of 8,192 blocks. There is no heap, and a program's stack has 8 MB.
-pub const LARGEST: usize = 4194304;
-
+// The largest book. There is no heap, and a program's stack has 8 MB.
 const BLOCKS: usize = 8192;
+
+pub const LARGEST: usize = BLOCKS * BLOCK;
+
+// What a read or a write of a whole block gives.
+const WHOLE: isize = BLOCK as isize;
 
 pub(crate) fn open(path: &[u8], change: bool) -> i32 {
     if change {
@@ -24,7 +27,7 @@ pub(crate) fn is_whole(fd: i32, n: usize) -> bool {
 
 // Writes bytes to a place in the file, and waits until the disc has them.
 fn write_at(fd: i32, bytes: &[u8], at: i64) -> bool {
-    if libc::pwrite(fd, bytes, at) == 512 {
+    if libc::pwrite(fd, bytes, at) == WHOLE {
         return libc::fsync(fd) == 0;
     }
     false
@@ -37,7 +40,7 @@ fn replace(fd: i32, block: &[u8], at: i64, had: i64) -> bool {
     if write_at(fd, block, at) {
         return true;
     }
-    if read == 512 {
+    if read == WHOLE {
         write_at(fd, &old, at);
     }
     libc::ftruncate(fd, had);

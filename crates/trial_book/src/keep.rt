@@ -12,14 +12,19 @@ use book::withdrawal::Changed;
 use book::withdrawal::withdraw;
 use book_blocks::BLOCK;
 use book_blocks::form::FORM;
+use book_blocks::form::GOOD;
+use book_blocks::form::LONGEST;
+use book_blocks::form::NO_BADGE;
 use book_blocks::writing::Named;
 use tests::Judgement;
 use tests::rule_refused_in;
 use words::casts::half_index;
 use words::casts::wide;
 use words::casts::wide_index;
+use words::dialect::FIRST_PLACES;
 ghost use Prim.Native.Nat.{_≤_};
 
+// The commands, by their numbers.
 const LIST: usize = 0;
 
 const ADD: usize = 1;
@@ -36,9 +41,12 @@ pub struct Request {
     pub command: usize,
 }
 
+// How many numbers of 16 bits there are.
+const NUMBERS: u32 = 65536;
+
 // A number of 16 bits; `./book` asks for no other.
 pub(crate) fn half(x: u32) -> u16 {
-    if x < 65536 { x as u16 } else { 0 }
+    if x < NUMBERS { x as u16 } else { 0 }
 }
 
 fn least(a: usize, b: usize) -> usize
@@ -68,9 +76,9 @@ fn print_words(s: Shown, words: &[i32]) {
 
 // The rule of a block, unless it is withdrawn.
 fn print_block(book: &[u8], k: usize) {
-    let mut words = [0i32; 124];
+    let mut words = [0i32; LONGEST];
     let s = show(book, k, &mut words);
-    if s.badge != 0 {
+    if s.badge != NO_BADGE {
         print_words(s, &words);
     }
 }
@@ -85,7 +93,7 @@ fn list(book: &[u8], used: usize) {
 }
 
 fn show_badge(book: &[u8], used: usize, badge: u16) {
-    let mut words = [0i32; 124];
+    let mut words = [0i32; LONGEST];
     let r = read(book, used, badge, &mut words);
     if r.found == 0 {
         tell(b"none", 0, 0);
@@ -94,7 +102,7 @@ fn show_badge(book: &[u8], used: usize, badge: u16) {
     tell(b"done", 0, 0);
     print_words(
         Shown {
-            answer: 0,
+            answer: GOOD,
             badge: badge,
             version: r.version,
             dialect: r.dialect,
@@ -122,7 +130,11 @@ fn keep(fd: i32, book: &[u8], c: Changed, had: usize) {
 // A refusal of an add: with 15, review's answer and place where the rule is at fault in its dialect.
 fn add_refused(answer: u32, dialect: u32, matcher: &[i32], pattern: &[i32]) {
     if answer == FORM {
-        if let Judgement::Refused(a, i) = rule_refused_in(dialect == 2, matcher, pattern) {
+        if let Judgement::Refused(a, i) = rule_refused_in(
+            dialect == FIRST_PLACES,
+            matcher,
+            pattern,
+        ) {
             tell(b"rule", wide(a), wide_index(i));
             return;
         }
@@ -144,7 +156,7 @@ fn add_rule(
         dialect: asked.dialect,
     };
     let c = add(book, had / BLOCK, e, matcher, pattern);
-    if c.answer == 0 {
+    if c.answer == GOOD {
         keep(fd, book, c, had);
     } else {
         add_refused(c.answer, asked.dialect, matcher, pattern);
@@ -153,7 +165,7 @@ fn add_rule(
 
 fn withdraw_rule(fd: i32, book: &mut [u8], had: usize, badge: u16) {
     let c = withdraw(book, had / BLOCK, badge);
-    if c.answer == 0 {
+    if c.answer == GOOD {
         keep(fd, book, c, had);
     } else {
         tell(b"refused", wide(c.answer), 0);
@@ -182,7 +194,7 @@ pub(crate) fn answer(
     pattern: &[i32],
 ) {
     let t = test(book, had / BLOCK);
-    if t.answer != 0 {
+    if t.answer != GOOD {
         tell(b"block", wide(t.answer), wide_index(t.block));
     } else if had % BLOCK != 0 {
         tell(b"part", wide_index(had / BLOCK), wide_index(had % BLOCK));

@@ -1,11 +1,16 @@
 // A line of text, put together before it is written at once.
 use libc::STDOUT_FILENO;
+use words::MINUS_ONE;
+use words::NEGATIVE;
 use words::bits;
 use words::casts::wide;
 ghost use Prim.Native.Nat.{_≤_};
 
 // More than the longest line has: 124 words of at most 11 bytes, each behind a space, and what stands before them.
 const LINE: usize = 4096;
+
+// The digits of the largest number of 64 bits.
+const DIGITS: usize = 20;
 
 fn put_byte(out: &mut [u8; LINE], at: usize, b: u8) -> usize
     ensures { λ r. ⌜ r ≤ 4096 ⌝ }
@@ -32,7 +37,7 @@ fn put_text(out: &mut [u8; LINE], at: usize, text: &[u8]) -> usize
 fn put_digits(out: &mut [u8; LINE], at: usize, n: u64) -> usize
     ensures { λ r. ⌜ r ≤ 4096 ⌝ }
 {
-    let mut digits = [0u8; 20];
+    let mut digits = [0u8; DIGITS];
     let k = io::decimal(n, &mut digits);
     put_text(out, at, &digits[..k])
 }
@@ -50,11 +55,11 @@ fn put_word(out: &mut [u8; LINE], at: usize, x: i32) -> usize
     ensures { λ r. ⌜ r ≤ 4096 ⌝ }
 {
     let u = bits(x);
-    if u < 2147483648 {
+    if u < NEGATIVE {
         return put_number(out, at, wide(u));
     }
     let to = put_text(out, at, b" -");
-    put_digits(out, to, wide(4294967295 - u) + 1)
+    put_digits(out, to, wide(MINUS_ONE - u) + 1)
 }
 
 fn put_words(out: &mut [u8; LINE], at: usize, words: &[i32]) -> usize

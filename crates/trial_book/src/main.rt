@@ -19,6 +19,13 @@ ghost use mathlib.Core.Path.{_≡_};
 ghost use Prim.Native.Nat.{_≤_};
 ghost use lib.ListN.{length};
 
+// Where the third part has its version and its dialect, and the program its file.
+const VERSION_AT: usize = 0;
+
+const DIALECT_AT: usize = 1;
+
+const FILE: usize = 1;
+
 fn blank() -> [u8; LARGEST] {
     [0; LARGEST]
 }
@@ -62,8 +69,8 @@ fn respond(path: &[u8], input: &[u8]) {
             let i = in_table(matcher);
             let j = in_table(pattern);
             let asked = Request {
-                version: keep::half(tag_at(&t, 0)),
-                dialect: tag_at(&t, 1),
+                version: keep::half(tag_at(&t, VERSION_AT)),
+                dialect: tag_at(&t, DIALECT_AT),
                 badge: keep::half(budget),
                 command: room,
             };
@@ -74,7 +81,7 @@ fn respond(path: &[u8], input: &[u8]) {
 
 fn main() {
     let mut path = io::buffer();
-    let n = os::arg(1, &mut path);
+    let n = os::arg(FILE, &mut path);
     // One byte more than is read, so that longer input is seen.
     let mut input = [0u8; INPUT_BYTES + 1];
     let k = io::read_full(STDIN_FILENO, &mut input);

@@ -1,7 +1,13 @@
 // Asks review about the rule on standard input and says the answer in words: line 1 is the matcher, line 2 the pattern, line 4 begins with the cap.
 use libc::STDIN_FILENO;
 use libc::STDOUT_FILENO;
+use services::review::CAP;
+use services::review::TOO_BIG;
 use services::review::review;
+use tests::MATCHER;
+use tests::MISFIT;
+use tests::PATTERN;
+use tests::VARIABLE;
 use text_ask::INPUT_BYTES;
 use text_ask::in_table;
 use text_ask::question::Asked;
@@ -11,6 +17,9 @@ use words::of_bits;
 ghost use mathlib.Core.Path.{_≡_};
 ghost use Prim.Native.Nat.{_<_, _≤_};
 ghost use lib.ListN.{length};
+
+// The answer to a rule that is counted.
+const DONE: u32 = 0;
 
 fn say(text: &[u8]) {
     io::write_all(STDOUT_FILENO, text);
@@ -38,29 +47,29 @@ fn say_cap(cap: u32, count: u64, text: &[u8]) {
 // What an answer of review means.
 fn say_answer(cap: u32, answer: u32, place: usize, count: u64) {
     match answer {
-        0 => say_cap(cap, count, b" steps\n"),
-        1 => say_place(
+        DONE => say_cap(cap, count, b" steps\n"),
+        MATCHER => say_place(
             b"refused, answer 1: line 1 is not one whole matcher; see its place ",
             place,
         ),
-        2 => say_place(
+        PATTERN => say_place(
             b"refused, answer 2: line 2 is not one whole pattern; see its place ",
             place,
         ),
-        3 => say_place(
+        VARIABLE => say_place(
             b"refused, answer 3: a variable out of order, or inside an or or a not; see line 2, place ",
             place,
         ),
-        4 => say_place(
+        MISFIT => say_place(
             b"refused, answer 4: the pattern does not fit the matcher; see line 2, place ",
             place,
         ),
-        9 => say_cap(
+        CAP => say_cap(
             cap,
             0,
             b"refused, answer 9: a cap is a number from 0 to 64\n",
         ),
-        10 => say_cap(cap, 0, b"refused, answer 10: more than 4294967295 steps\n"),
+        TOO_BIG => say_cap(cap, 0, b"refused, answer 10: more than 4294967295 steps\n"),
         _ => say(b"refused, answer 11: the rule is always true, every player has this badge\n"),
     }
 }

@@ -1,5 +1,6 @@
 // Leaves on words: a signed word as an unsigned tag, the sum of tag 3, and a word's bits. Above them all arithmetic is unsigned.
 pub mod casts;
+pub mod dialect;
 pub mod marks;
 pub mod matcher;
 pub mod pattern;
@@ -19,6 +20,11 @@ pub const ENTRIES: usize = 650;
 
 // The tag of a word that has none: no word is this number.
 pub const NO_TAG: u32 = 2147483648;
+
+// The lowest bits of a negative word; and the highest, those of -1.
+pub const NEGATIVE: u32 = 2147483648;
+
+pub const MINUS_ONE: u32 = 4294967295;
 
 // A word's number, or NO_TAG where it is negative.
 pub fn tag_of(w: i32) -> u32
@@ -60,7 +66,7 @@ pub fn bits(x: i32) -> u32
     ensures { λ r. ⌜ r ≡ ofZ w32 x ⌝ }
 {
     if x < 0 {
-        4294967295 - ((-1 - x) as u32)
+        MINUS_ONE - ((-1 - x) as u32)
     } else {
         x as u32
     }
@@ -70,9 +76,9 @@ pub fn bits(x: i32) -> u32
 pub fn of_bits(u: u32) -> i32
     ensures { λ r. ⌜ r ≡ toZ w32 u ⌝ }
 {
-    if u < 2147483648 {
+    if u < NEGATIVE {
         u as i32
     } else {
-        -1 - ((4294967295 - u) as i32)
+        -1 - ((MINUS_ONE - u) as i32)
     }
 }
