@@ -128,8 +128,11 @@ module _ (e : Env) (x : State) (t : Tables) (b : List Binding) (room : List ℤ)
   pub asked-below : o ≤ 2 → b′ ≡ b → q ≡ false → Asked e (run x t b room) q b′
   asked-below l = asked-n (λ y. omega arith) (λ y. omega arith) (λ y. omega arith)
 
-  pub asked-other : (o ≡ 5 → ⊥) → (o ≡ 3 → ⊥) → (o ≡ 6 → ⊥) → b′ ≡ b → q ≡ false → Asked e (run x t b room) q b′
-  asked-other m n k = asked-n n m k
+  pub asked-4 : o < 5 → (o ≡ 3 → ⊥) → b′ ≡ b → q ≡ false → Asked e (run x t b room) q b′
+  asked-4 l n = asked-n n (λ y. omega arith) (λ y. omega arith)
+
+  pub asked-above : 7 ≤ o → b′ ≡ b → q ≡ false → Asked e (run x t b room) q b′
+  asked-above l = asked-n (λ y. omega arith) (λ y. omega arith) (λ y. omega arith)
 
   pub asked-5 : (v : ℕ) (r : Bool) → o ≡ 5 → v ≡ getD (e .arg) (x .pc) 0 → b′ ≡ b → q ≡ r
       → r ≡ isSum (e .words) (getD b v nothing .at) (getD (e .con) (x .pc) (pos 0)) (x .at) → Asked e (run x t b room) q b′
@@ -137,13 +140,13 @@ module _ (e : Env) (x : State) (t : Tables) (b : List Binding) (room : List ℤ)
   asked-5 v r z a p f h =
       record { ask = f ∙ h ∙ rw (a, eq-eqb (getD (e .op) (x .pc) 0) 5 (sym i ∙ z)); binds = p ∙ rw (ne-eqb (getD (e .op) (x .pc) 0) 3 (λ y. omega arith)) }
 
-  pub asked-6 : (v : ℕ) (r : Bool) → o ≡ 6 → v ≡ getD (e .arg) (x .pc) 0
+  pub asked-6 : (v : ℕ) (r : Bool) → (o ≡ 5 → ⊥) → 5 ≤ o → o < 7 → v ≡ getD (e .arg) (x .pc) 0
       → b′ ≡ b → q ≡ r → r ≡ equalAt (e .matcher) (getD (e .mat) (x .pc) 0) (e .words) (getD b v nothing .at) (getD b v nothing .marks) (x .at) (x .marks)
       → Asked e (run x t b room) q b′
   unfolding asked askOf boundAt when
-  asked-6 v r d a p f h =
-      let z : getD (e .op) (x .pc) 0 ≡ 6 = sym i ∙ d in
-      record { ask = f ∙ h ∙ rw (a, ne-eqb (getD (e .op) (x .pc) 0) 5 (λ y. absurd (omega arith)), eq-eqb (getD (e .op) (x .pc) 0) 6 z); binds = p ∙ rw (ne-eqb (getD (e .op) (x .pc) 0) 3 (λ y. omega arith)) }
+  asked-6 v r m j l a p f h =
+      let z : getD (e .op) (x .pc) 0 ≡ 6 = omega arith in
+      record { ask = f ∙ h ∙ rw (a, ne-eqb (getD (e .op) (x .pc) 0) 5 (λ y. m (i ∙ y)), eq-eqb (getD (e .op) (x .pc) 0) 6 z); binds = p ∙ rw (ne-eqb (getD (e .op) (x .pc) 0) 3 (λ y. omega arith)) }
 
 -- ---- A turn.
 

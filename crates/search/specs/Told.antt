@@ -5,16 +5,12 @@ use Rattle.words.specs.Dialects.{dialectBy}
 use Rattle.tables.specs.Line.{Columns}
 use Rattle.value_rows.specs.Row.{formBy}
 use Rattle.search_step.specs.declared.State.{State}
-use Rattle.search_leaf.specs.declared.told.Shape.{Shape}
 use Rattle.search.specs.declared.Terms.{Terms}
 use Rattle.search.specs.declared.Report.{Report}
 use Rattle.search.specs.Run.{Env, envWith, answerOf}
 
 abbrev pub envBy : Columns → (matcher words : List ℤ) → Terms → Env
 envBy t mt s terms = envWith (dialectBy (terms .firsts)) t mt s (terms .vars) (formBy (terms .origins))
-
-abbrev pub shapeOf : Terms → Shape
-shapeOf terms = record { vars = terms .vars; origins = terms .origins }
 
 unfoldable pub reported : State → Report
 unfolding answerOf

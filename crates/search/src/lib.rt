@@ -21,8 +21,8 @@ use search_step::State;
 use tables::instruction::BIND;
 use tables::instruction::DROP;
 use tables::instruction::END;
-use tables::instruction::EQUAL;
 use tables::instruction::MULTISET_CONS;
+use tables::instruction::NIL;
 use tables::instruction::SUM;
 use tables::line::Lines;
 use tables::line::arg_at;
@@ -34,7 +34,6 @@ use tables::slot::no_slots;
 use taking::filled;
 use taking::goes_on;
 use taking::is_short;
-use taking::put_bound;
 use taking::wrote;
 use value_firsts::fresh::fresh_places;
 use value_places::places::places_of;
@@ -42,6 +41,7 @@ use value_places::places::whole;
 use value_rows::Binding;
 use value_rows::Bindings;
 use value_rows::VARIABLES;
+use value_rows::put_entry;
 ghost use mathlib.Core.Path.{_≡_};
 ghost use Prim.Native.Nat.{_-_, _<_};
 ghost use lib.ListN.{length};
@@ -51,7 +51,7 @@ ghost use Rattle.value_firsts.specs.Firsts.{Fresh};
 ghost use Rattle.tables.specs.Line.{columnsOf};
 ghost use Rattle.tables.specs.Slot.{viewOf};
 ghost use Rattle.search.specs.Run.{run, runOf, opening, answerOf, matched};
-ghost use Rattle.search.specs.Told.{envBy, shapeOf, reported};
+ghost use Rattle.search.specs.Told.{envBy, reported};
 ghost use Rattle.search.specs.Valid.{Given, Fine, Valid};
 ghost use Rattle.search.specs.Searched.{unbound, Searched};
 
@@ -69,16 +69,6 @@ pub struct Terms {
 pub struct Progress {
     pub state: State,
     pub binds: Bindings,
-}
-
-// What a row tells, by what a run keeps to.
-fn shape_of(terms: Terms) -> Shape
-    ensures { λ r. ⌜ r ≡ shapeOf terms ⌝ }
-{
-    Shape {
-        vars: terms.vars,
-        origins: terms.origins,
-    }
 }
 
 // The run, from where it is: states are taken up while the budget lasts, and the next choice is taken wherever no state stands.
@@ -101,12 +91,16 @@ pub fn advance(
         let o = op_at(lines, x.pc);
         let mut same = false;
         if DROP < o {
-            let v = arg_at(lines, x.pc);
             if o == SUM {
+                let v = arg_at(lines, x.pc);
                 same = is_sum_at(x, b[v], s, lines);
-            } else if o == BIND {
-                b[v] = value_of(x);
-            } else if o == EQUAL {
+            } else if o < SUM {
+                if o == BIND {
+                    let v = arg_at(lines, x.pc);
+                    b[v] = value_of(x);
+                }
+            } else if o < NIL {
+                let v = arg_at(lines, x.pc);
                 same = is_equal_at(x, b[v], mt, s, places, lines);
             }
         }
@@ -115,8 +109,11 @@ pub fn advance(
             if is_short(terms, b, room.len() - e, s, places) {
                 x = filled(x);
             } else {
-                for v in 0..terms.vars {
-                    e = put_bound(terms.origins, b[v], s, places, room, e);
+                let mut v: usize = 0;
+                while v < terms.vars {
+                    let y = b[v];
+                    e = put_entry(terms.origins, s, places, y.at, y.marks, room, e);
+                    v += 1;
                 }
                 x = wrote(x, e);
             }
@@ -132,11 +129,15 @@ pub fn advance(
                 }
                 let i = leaf_at(x, lines, slots);
                 if 0 < i {
-                    let shape = shape_of(terms);
+                    let v = arg_at(lines, i);
+                    let shape = Shape {
+                        vars: terms.vars,
+                        origins: terms.origins,
+                    };
                     let r = take(x, i, b, terms.budget, shape, s, places, lines, slots, room);
                     x = r.state;
                     let last = r.last;
-                    b[arg_at(lines, i)] = last;
+                    b[v] = last;
                 }
             }
         }

@@ -5,19 +5,14 @@ use search_step::FULL;
 use search_step::STANDS;
 use search_step::State;
 use tables::place::Places;
-use value_rows::Binding;
 use value_rows::Bindings;
-use value_rows::put_entry;
 use value_rows::row_size;
 ghost use mathlib.Core.Path.{_≡_};
-ghost use Prim.Native.Nat.{_+_, _^_, _<_, _≤_};
+ghost use Prim.Native.Nat.{_+_, _^_, _<_};
 ghost use lib.ListN.{length};
 ghost use lib.Dec.{ltb};
 ghost use Rattle.rules.specs.Rows.{row};
-ghost use Rattle.value_places.specs.Places.{Target};
-ghost use Rattle.value_places.specs.Tables.{Placed};
-ghost use Rattle.value_places.specs.Held.{Held, put};
-ghost use Rattle.value_rows.specs.Row.{formBy, toldAt, bound, Bound};
+ghost use Rattle.value_rows.specs.Row.{formBy, bound, Bound};
 ghost use Rattle.search_step.specs.Steps.{counted, lived};
 ghost use Rattle.search.specs.Run.{goesOn, filled, wroteTo};
 ghost use Rattle.search.specs.Valid.{Given};
@@ -70,19 +65,4 @@ pub fn wrote(mut x: State, end: usize) -> State
     x.words = end;
     x.rows = x.rows + 1;
     ended(x, CHOOSES)
-}
-
-// What a row tells of a binding, written into the room from an index on.
-pub fn put_bound(
-    origins: bool,
-    y: Binding,
-    s: &[i32],
-    places: &Places,
-    room: &mut [i32],
-    from: usize,
-) -> usize
-    requires { ⌜ Target (now s) ⌝ ∗ ⌜ Placed (now s) (now places) ⌝ ∗ ⌜ Held (now s) (y .at) (y .marks) ⌝ ∗ ⌜ from + length (toldAt (formBy origins) (now s) (y .at) (y .marks)) ≤ length (now room) ⌝ }
-    ensures { λ r. ⌜ (r ≡ from + length (toldAt (formBy origins) (now (s .entry)) (y .at) (y .marks))) × (now (room .exit) ≡ put (now (room .entry)) from (toldAt (formBy origins) (now (s .entry)) (y .at) (y .marks))) ⌝ }
-{
-    put_entry(origins, s, places, y.at, y.marks, room, from)
 }

@@ -23,7 +23,7 @@ use Rattle.search.specs.Told.{envBy}
 use Rattle.search.specs.Valid.{Rows}
 use Rattle.value_rows.proofs.Row.{row-held, row-16, row-mul, row-room, row-turn, row-turn-size, row-out, row-out-size, row-start-size, row-start-room}
 use Rattle.value_rows.proofs.Room.{length-put}
-use Rattle.search.proofs.Laws.{goes-live, goes-less, Here, here-start, here-end, Asked, asked-3, asked-5, asked-6, asked-other, asked-below, took-full, took-wrote, Taken, taken-is, taken-chosen, taken-step, turn-row, turn-steps, settled-by, Ready, ready, ready-place, ready-constant, ready-number, ready-number-mul, ready-bound, ready-sum, fine-named}
+use Rattle.search.proofs.Laws.{goes-live, goes-less, Here, here-start, here-end, Asked, asked-3, asked-4, asked-5, asked-6, asked-below, asked-above, took-full, took-wrote, Taken, taken-is, taken-chosen, taken-step, turn-row, turn-steps, settled-by, Ready, ready, ready-place, ready-constant, ready-number, ready-number-mul, ready-bound, ready-sum, fine-named}
 use Rattle.search.proofs.Narrows.{narrow-code, narrow-asks}
 use Rattle.search.proofs.Swept.{Swept, here-swept, swept-less, swept-at, swept-none}
 use Rattle.search.proofs.Leafed.{leaf-looks, leaf-takes, leaf-slotted, leaf-alone, leaf-number, swept-leaf, swept-as}
@@ -32,13 +32,13 @@ use Rattle.search.proofs.advance.Statement.{statement}
 use Rattle.search.proofs.advance.Tie as tie
 
 abbrev Inv-loop2 : tie.InvT-loop2
-Inv-loop2 terms mt s places lines slots room₀ x b o same e₀ v₀ v-end room e v =
-    (v-end ≡ terms .vars) × (v ≤ v-end) × (length room ≡ length room₀) × (e₀ + length (row (formBy (terms .origins)) (bound s b (terms .vars))) ≤ length room)
+Inv-loop2 terms mt s places lines slots room₀ x b o same e₀ v₀ room e v =
+    (v ≤ terms .vars) × (length room ≡ length room₀) × (e₀ + length (row (formBy (terms .origins)) (bound s b (terms .vars))) ≤ length room)
     × (e₀ + length (row (formBy (terms .origins)) (bound s b (terms .vars))) ≡ e + length (row (formBy (terms .origins)) (boundFrom s b v (terms .vars))))
     × (put room₀ e₀ (row (formBy (terms .origins)) (bound s b (terms .vars))) ≡ put room e (row (formBy (terms .origins)) (boundFrom s b v (terms .vars))))
 
 abbrev μ-loop2 : tie.MeasureT-loop2
-μ-loop2 terms mt s places lines slots room₀ x b o same e₀ v₀ v-end room e v = v-end - v
+μ-loop2 terms mt s places lines slots room₀ x b o same e₀ v₀ room e v = terms .vars - v
 
 abbrev Inv-loop : tie.InvT-loop
 Inv-loop terms mt s places lines slots₀ room₀ x₀ b₀ slots room x b =
@@ -67,16 +67,17 @@ joined : (c : tie.Joined2 Inv-loop2 μ-loop2 Inv-loop μ-loop) → Asked (progra
 joined c =
     let p = c .before .op-at .ensures in
     ⊎-elim
-    (λ w. asked-5 _ _ _ _ _ _ _ _ p _ _ (w .2 .taken) (w .1 .ensures) (w .5) (w .6) (w .4 .ensures))
-    (⊎-elim (λ w. asked-3 _ _ _ _ _ _ _ _ p _ _ (w .3 .taken) (w .1 .ensures) (w .4 .ensures) (w .5) (w .6))
-    (⊎-elim (λ w. asked-6 _ _ _ _ _ _ _ _ p _ _ (w .4 .taken) (w .1 .ensures) (w .7) (w .8) (w .6 .ensures))
-    (⊎-elim (λ w. asked-other _ _ _ _ _ _ _ _ p (w .2 .left) (w .3 .left) (w .4 .left) (w .5) (w .6))
-    (λ w. asked-below _ _ _ _ _ _ _ _ p (w .0 .left) (w .1) (w .2)))))
+    (λ w. asked-5 _ _ _ _ _ _ _ _ p _ _ (w .1 .taken) (w .2 .ensures) (w .5) (w .6) (w .4 .ensures))
+    (⊎-elim (λ w. asked-3 _ _ _ _ _ _ _ _ p _ _ (w .3 .taken) (w .4 .ensures) (w .5 .ensures) (w .6) (w .7))
+    (⊎-elim (λ w. asked-4 _ _ _ _ _ _ _ _ p (w .2 .taken) (w .3 .left) (w .4) (w .5))
+    (⊎-elim (λ w. asked-6 _ _ _ _ _ _ _ _ p _ _ (w .1 .left) (w .2 .left) (w .3 .taken) (w .4 .ensures) (w .7) (w .8) (w .6 .ensures))
+    (⊎-elim (λ w. asked-above _ _ _ _ _ _ _ _ p (w .3 .left) (w .4) (w .5))
+    (λ w. asked-below _ _ _ _ _ _ _ _ p (w .0 .left) (w .1) (w .2))))))
     (c .if2 .came)
 
 -- At a state with no atom left: its row can be written.
-rows : (c : tie.Then6 Inv-loop2 μ-loop2 Inv-loop μ-loop) → Rows (c .before .before .before .before .before .before .before .before .args .s .now) (c .before .if2 .b) (c .before .before .before .before .before .before .before .before .args .terms .vars) (c .before .before .before .before .before .loop .x) (c .before .before .before .before .before .loop .room)
-rows c = let h = stands (c .before .before .before) in turn-row _ _ _ _ _ _ _ (joined (c .before)) (h .fine) (h .target) (h .valid) (h .count) (sym (c .before .before .op-at .ensures) ∙ c .if6 .taken)
+rows : (c : tie.Then7 Inv-loop2 μ-loop2 Inv-loop μ-loop) → Rows (c .before .before .before .before .before .before .before .before .args .s .now) (c .before .if2 .b) (c .before .before .before .before .before .before .before .before .args .terms .vars) (c .before .before .before .before .before .loop .x) (c .before .before .before .before .before .loop .room)
+rows c = let h = stands (c .before .before .before) in turn-row _ _ _ _ _ _ _ (joined (c .before)) (h .fine) (h .target) (h .valid) (h .count) (sym (c .before .before .op-at .ensures) ∙ c .if7 .taken)
 
 -- The budget is not used up.
 less : (c : tie.Then1 Inv-loop2 μ-loop2 Inv-loop μ-loop) → c .before .before .loop .x .steps < c .before .before .before .before .before .args .terms .budget
@@ -89,7 +90,7 @@ took : (c : tie.After-step-arg Inv-loop2 μ-loop2 Inv-loop μ-loop) (y : State) 
 took c y u n e =
     let h = stands (c .before .before .before .before) in
     let p = c .before .before .before .op-at .ensures in
-    taken-step _ _ _ _ _ _ _ (joined (c .before .before)) (h .fine) (h .target) (h .valid) (h .count) (h .live) _ _ _ (λ z. c .before .if6 .left (p ∙ z)) (λ z. n (p ∙ z)) e refl
+    taken-step _ _ _ _ _ _ _ (joined (c .before .before)) (h .fine) (h .target) (h .valid) (h .count) (h .live) _ _ _ (λ z. c .before .if7 .left (p ∙ z)) (λ z. n (p ∙ z)) e refl
 
 narrows : (c : tie.After-step-arg Inv-loop2 μ-loop2 Inv-loop μ-loop) (y : State) (u u′ : Tables) → c .before .before .before .op-at .result ≡ 9
     → turned y u ≡ stepOf (program (c .before .before .before .before .before .before) .op) (program (c .before .before .before .before .before .before) .from) (program (c .before .before .before .before .before .before) .to) (program (c .before .before .before .before .before .before) .con) (program (c .before .before .before .before .before .before) .words) (c .before .before .if2 .same) (current (c .before .before .before .before .before .before) .state) (current (c .before .before .before .before .before .before) .tables)
@@ -99,42 +100,41 @@ unfolding choicesOf
 narrows c y u u′ z e q =
     let h = stands (c .before .before .before .before) in
     let p = c .before .before .before .op-at .ensures in
-    swept-none _ _ _ _ _ _ (taken-chosen _ _ _ _ _ _ _ (joined (c .before .before)) (h .fine) (h .target) (h .valid) (h .count) (h .live) _ _ _ (λ k. c .before .if6 .left (p ∙ k))
+    swept-none _ _ _ _ _ _ (taken-chosen _ _ _ _ _ _ _ (joined (c .before .before)) (h .fine) (h .target) (h .valid) (h .count) (h .live) _ _ _ (λ k. c .before .if7 .left (p ∙ k))
     (narrow-code _ _ _ (program (c .before .before .before .before .before .before) .mat) (program (c .before .before .before .before .before .before) .arg) _ _ _ _ _ _ (sym p ∙ z) (h .valid .long) (h .valid .place) _ _ e _ _ q) refl) (h .valid .room) _ (less (c .before .before .before .before))
 
 -- After a multiset's cons: choices may be passed over.
-sought : (c : tie.Joined9 Inv-loop2 μ-loop2 Inv-loop μ-loop)
-    → Swept (program (c .before .before .before .before .before .before .before .before .before .before .before .before .before)) (current (c .before .before .before .before .before .before .before .before .before .before .before .before .before)) (c .before .before .before .before .before .before .before .before .before .before .before .before .before .before .before .before .args .terms .budget) (c .if9 .x) (viewOf (columnsOf (c .before .before .before .before .before .before .before .before .before .before .before .before .before .before .before .before .args .lines .now) .arg) (c .if9 .slots)) (c .before .before .before .before .before .before .before .before .before .if2 .b) (c .before .before .before .before .before .before .before .before .before .before .before .before .before .loop .room)
+sought : (c : tie.Joined11 Inv-loop2 μ-loop2 Inv-loop μ-loop)
+    → Swept (program (c .before .before .before .before .before .before .before .before .before .before .before .before .before)) (current (c .before .before .before .before .before .before .before .before .before .before .before .before .before)) (c .before .before .before .before .before .before .before .before .before .before .before .before .before .before .before .before .args .terms .budget) (c .if11 .x) (viewOf (columnsOf (c .before .before .before .before .before .before .before .before .before .before .before .before .before .before .before .before .args .lines .now) .arg) (c .if11 .slots)) (c .before .before .before .before .before .before .before .before .before .if2 .b) (c .before .before .before .before .before .before .before .before .before .before .before .before .before .loop .room)
 unfolding timed
 sought c =
     let h = stands (c .before .before .before .before .before .before .before .before .before .before .before) in
     ⊎-elim
-    (λ w. swept-at _ _ _ _ _ _ _ _ _ _ (w .6) (ap (viewOf _) (w .5)) refl (swept-pass _ _ _ _ _ (c .before .before .before .before .before .before .before .before .before .before .before .before .before .loop .inv) (h .fine) (h .target) (h .live) _ _ _ _ (narrows (c .before .before .before .before .before .before .before) _ _ _ (c .before .before .before .before .before .if8 .taken) (c .before .before .before .before .before .before .step .ensures) (c .before .before .before .narrow .ensures)) _ (c .before .before .asked-at .ensures) (w .0 .taken) _ _ (w .1 .ensures) (w .2 .ensures) _ _ (w .4 .ensures .0) (w .4 .ensures .1)))
-    (λ w. swept-at _ _ _ _ _ _ _ _ _ _ (w .2) (ap (viewOf _) (w .1)) refl (narrows (c .before .before .before .before .before .before .before) _ _ _ (c .before .before .before .before .before .if8 .taken) (c .before .before .before .before .before .before .step .ensures) (c .before .before .before .narrow .ensures)))
-    (c .if9 .came)
+    (λ w. swept-at _ _ _ _ _ _ _ _ _ _ (w .6) (ap (viewOf _) (w .5)) refl (swept-pass _ _ _ _ _ (c .before .before .before .before .before .before .before .before .before .before .before .before .before .loop .inv) (h .fine) (h .target) (h .live) _ _ _ _ (narrows (c .before .before .before .before .before .before .before) _ _ _ (c .before .before .before .before .before .if10 .taken) (c .before .before .before .before .before .before .step .ensures) (c .before .before .before .narrow .ensures)) _ (c .before .before .asked-at .ensures) (w .0 .taken) _ _ (w .1 .ensures) (w .2 .ensures) _ _ (w .4 .ensures .0) (w .4 .ensures .1)))
+    (λ w. swept-at _ _ _ _ _ _ _ _ _ _ (w .2) (ap (viewOf _) (w .1)) refl (narrows (c .before .before .before .before .before .before .before) _ _ _ (c .before .before .before .before .before .if10 .taken) (c .before .before .before .before .before .before .step .ensures) (c .before .before .before .narrow .ensures)))
+    (c .if11 .came)
 
 -- Where a row and a step meet: the state is taken up, and choices may be passed over or taken up.
-met : (c : tie.Joined6 Inv-loop2 μ-loop2 Inv-loop μ-loop)
-    → Swept (program (c .before .before .before .before .before)) (current (c .before .before .before .before .before)) (c .before .before .before .before .before .before .before .before .args .terms .budget) (c .if6 .x) (viewOf (columnsOf (c .before .before .before .before .before .before .before .before .args .lines .now) .arg) (c .if6 .slots)) (c .if6 .b) (c .if6 .room)
+met : (c : tie.Joined7 Inv-loop2 μ-loop2 Inv-loop μ-loop)
+    → Swept (program (c .before .before .before .before .before)) (current (c .before .before .before .before .before)) (c .before .before .before .before .before .before .before .before .args .terms .budget) (c .if7 .x) (viewOf (columnsOf (c .before .before .before .before .before .before .before .before .args .lines .now) .arg) (c .if7 .slots)) (c .if7 .b) (c .if7 .room)
 met c = let h = stands (c .before .before .before) in let p = c .before .before .op-at .ensures in let l = less (c .before .before .before) in ⊎-elim
     (λ w. swept-as _ _ _ _ _ _ _ _ _ _ _ refl refl (w .7) refl (swept-none _ _ _ _ _ _ (taken-is _ _ _ _ _ _ _ (joined (c .before)) (h .fine) (h .target) (h .valid) (h .count) (h .live) _ _ _
     (took-full _ _ _ _ _ _ _ (joined (c .before)) _ _ _ (sym p ∙ w .0 .taken) (ltb-true _ _ (sym (w .1 .ensures) ∙ w .2 .taken)) (w .6 ∙ w .3 .ensures) (ap (viewOf _) (w .4)) (w .5))) (h .valid .room) _ l))
     (⊎-elim
-    (λ w. let k = rows (record { before = c .before; if6 = w .0 }) .bound in
+    (λ w. let k = rows (record { before = c .before; if7 = w .0 }) .bound in
     let i = w .3 .inv in
-    let all : c .before .before .before .before .before .before .before .before .args .terms .vars ≤ w .3 .v = let e = i .0 in let h = w .4 .left in omega (arith, e, h) in
-    swept-as _ _ _ _ _ _ _ _ _ _ _ refl refl (w .9) refl (swept-none _ _ _ _ _ _ (taken-is _ _ _ _ _ _ _ (joined (c .before)) (h .fine) (h .target) (h .valid) (h .count) (h .live) _ _ _
-    (took-wrote _ _ _ _ _ _ _ (joined (c .before)) _ _ _ _ (sym p ∙ w .0 .taken) (ltb-false _ _ (sym (w .1 .ensures) ∙ w .2 .left)) (w .8 ∙ w .5 .ensures)
-    (row-out-size _ _ _ _ _ _ _ k (i .4) all) (ap (viewOf _) (w .6)) (w .7 ∙ row-out _ _ _ _ _ _ _ _ k (i .5) all))) (h .valid .room) _ l))
+    swept-as _ _ _ _ _ _ _ _ _ _ _ refl refl (w .10) refl (swept-none _ _ _ _ _ _ (taken-is _ _ _ _ _ _ _ (joined (c .before)) (h .fine) (h .target) (h .valid) (h .count) (h .live) _ _ _
+    (took-wrote _ _ _ _ _ _ _ (joined (c .before)) _ _ _ _ (sym p ∙ w .0 .taken) (ltb-false _ _ (sym (w .1 .ensures) ∙ w .2 .left)) (w .9 ∙ w .6 .ensures)
+    (row-out-size _ _ _ _ _ _ _ k (i .3) (w .5 .left)) (ap (viewOf _) (w .7)) (w .8 ∙ row-out _ _ _ _ _ _ _ _ k (i .4) (w .5 .left)))) (h .valid .room) _ l))
     (⊎-elim
-    (λ w. let q = sought (record { before = record { before = record { before = record { before = record { before = record { before = record { before = record { before = record { before = c .before; if6 = w .0 }; step-arg = w .1 }; step = w .2 }; if8 = w .3 }; narrow-arg = w .4 }; narrow = w .5 }; asked-at = w .6 }; struct-known = w .7 }; if9 = w .8 }) in
-    swept-as _ _ _ _ _ _ _ _ _ _ _ (w .22) (ap (viewOf _) (w .20)) (w .23) (w .21) (swept-leaf _ _ _ _ _ (c .before .before .before .before .before .loop .inv) (h .fine) (h .target) (h .live) _ _ _ _ q _ (w .10 .ensures (w .11 .taken)) _ refl _ _ _ _ _ (w .19 .ensures) (rw (w .12 .ensures) at (w .15 .ensures))))
+    (λ w. let q = sought (record { before = record { before = record { before = record { before = record { before = record { before = record { before = record { before = record { before = c .before; if7 = w .0 }; step-arg = w .1 }; step = w .2 }; if10 = w .3 }; narrow-arg = w .4 }; narrow = w .5 }; asked-at = w .6 }; struct-known2 = w .7 }; if11 = w .8 }) in
+    swept-as _ _ _ _ _ _ _ _ _ _ _ (w .21) (ap (viewOf _) (w .19)) (w .22) (w .20) (swept-leaf _ _ _ _ _ (c .before .before .before .before .before .loop .inv) (h .fine) (h .target) (h .live) _ _ _ _ q _ (w .10 .ensures (w .11 .taken)) _ refl _ _ _ _ _ (w .12 .ensures) (w .15 .ensures)))
     (⊎-elim
-    (λ w. let q = sought (record { before = record { before = record { before = record { before = record { before = record { before = record { before = record { before = record { before = c .before; if6 = w .0 }; step-arg = w .1 }; step = w .2 }; if8 = w .3 }; narrow-arg = w .4 }; narrow = w .5 }; asked-at = w .6 }; struct-known = w .7 }; if9 = w .8 }) in
+    (λ w. let q = sought (record { before = record { before = record { before = record { before = record { before = record { before = record { before = record { before = record { before = c .before; if7 = w .0 }; step-arg = w .1 }; step = w .2 }; if10 = w .3 }; narrow-arg = w .4 }; narrow = w .5 }; asked-at = w .6 }; struct-known2 = w .7 }; if11 = w .8 }) in
     swept-as _ _ _ _ _ _ _ _ _ _ _ (w .14) (ap (viewOf _) (w .12)) (w .15) (w .13) q)
-    (λ w. let k = took (record { before = record { before = c .before; if6 = w .0 }; step-arg = w .1 }) _ _ (w .3 .left) (w .2 .ensures) in
+    (λ w. let k = took (record { before = record { before = c .before; if7 = w .0 }; step-arg = w .1 }) _ _ (w .3 .left) (w .2 .ensures) in
     swept-as _ _ _ _ _ _ _ _ _ _ _ (w .6) (ap (viewOf _) (w .4)) (w .7) (w .5) (swept-none _ _ _ _ _ _ k (h .valid .room) _ l)))))
-    (c .if6 .came)
+    (c .if7 .came)
 
 loop-holds : tie.Need-loop-holds Inv-loop2 μ-loop2 Inv-loop μ-loop
 loop-holds c = here-start _ _ _ (c .before .before .pre .1 .1 .0)
@@ -146,39 +146,45 @@ op-at-requires : tie.Need-op-at-requires Inv-loop2 μ-loop2 Inv-loop μ-loop
 op-at-requires c κs = ready-place _ _ _ _ _ (stands c)
 
 arg-at-requires : tie.Need-arg-at-requires Inv-loop2 μ-loop2 Inv-loop μ-loop
-arg-at-requires c κs = ready-place _ _ _ _ _ (stands (c .before .before))
+arg-at-requires c κs = ready-place _ _ _ _ _ (stands (c .before .before .before))
 
 mul-is-sum-at : tie.Need-mul-is-sum-at Inv-loop2 μ-loop2 Inv-loop μ-loop
-mul-is-sum-at c = ready-number-mul _ _ _ _ _ (stands (c .before .before .before .before)) _ (c .before .before .before .op-at .ensures) (omega (arith, c .if3 .taken)) (omega (arith, c .if3 .taken)) _ (c .before .arg-at .ensures)
+mul-is-sum-at c = ready-number-mul _ _ _ _ _ (stands (c .before .before .before .before)) _ (c .before .before .before .op-at .ensures) (omega (arith, c .before .if3 .taken)) (omega (arith, c .before .if3 .taken)) _ (c .arg-at .ensures)
 
 array-copy-out-is-sum-at : tie.Need-array-copy-out-is-sum-at Inv-loop2 μ-loop2 Inv-loop μ-loop
-array-copy-out-is-sum-at c = ready-number _ _ _ _ _ (stands (c .before .before .before .before)) _ (c .before .before .before .op-at .ensures) (omega (arith, c .if3 .taken)) (omega (arith, c .if3 .taken)) _ (c .before .arg-at .ensures)
+array-copy-out-is-sum-at c = ready-number _ _ _ _ _ (stands (c .before .before .before .before)) _ (c .before .before .before .op-at .ensures) (omega (arith, c .before .if3 .taken)) (omega (arith, c .before .if3 .taken)) _ (c .arg-at .ensures)
 
 is-sum-at-requires : tie.Need-is-sum-at-requires Inv-loop2 μ-loop2 Inv-loop μ-loop
 is-sum-at-requires c κs =
     let h = stands (c .before .before .before .before .before) in
-    let k = ready-sum _ _ _ _ _ h _ (c .before .before .before .before .op-at .ensures) (omega (arith, c .before .if3 .taken)) (omega (arith, c .before .if3 .taken)) _ (c .before .before .arg-at .ensures) in
+    let k = ready-sum _ _ _ _ _ h _ (c .before .before .before .before .op-at .ensures) (omega (arith, c .before .before .if3 .taken)) (omega (arith, c .before .before .if3 .taken)) _ (c .before .arg-at .ensures) in
     (k .0, (k .1, (ready-place _ _ _ _ _ h, ready-constant _ _ _ _ _ h)))
+
+arg-at-requires-2 : tie.Need-arg-at-requires-2 Inv-loop2 μ-loop2 Inv-loop μ-loop
+arg-at-requires-2 c κs = ready-place _ _ _ _ _ (stands (c .before .before .before .before .before))
 
 value-of-requires : tie.Need-value-of-requires Inv-loop2 μ-loop2 Inv-loop μ-loop
 value-of-requires c κs = search needs
 
 mul-b : tie.Need-mul-b Inv-loop2 μ-loop2 Inv-loop μ-loop
-mul-b c = ready-number-mul _ _ _ _ _ (stands (c .before .before .before .before .before .before)) _ (c .before .before .before .before .before .op-at .ensures) (omega (arith, c .before .if4 .taken)) (omega (arith, c .before .if4 .taken)) _ (c .before .before .before .arg-at .ensures)
+mul-b c = ready-number-mul _ _ _ _ _ (stands (c .before .before .before .before .before .before .before)) _ (c .before .before .before .before .before .before .op-at .ensures) (omega (arith, c .before .before .if5 .taken)) (omega (arith, c .before .before .if5 .taken)) _ (c .before .arg-at2 .ensures)
 
 array-set-from-b : tie.Need-array-set-from-b Inv-loop2 μ-loop2 Inv-loop μ-loop
-array-set-from-b c = ready-number _ _ _ _ _ (stands (c .before .before .before .before .before .before)) _ (c .before .before .before .before .before .op-at .ensures) (omega (arith, c .before .if4 .taken)) (omega (arith, c .before .if4 .taken)) _ (c .before .before .before .arg-at .ensures)
+array-set-from-b c = ready-number _ _ _ _ _ (stands (c .before .before .before .before .before .before .before)) _ (c .before .before .before .before .before .before .op-at .ensures) (omega (arith, c .before .before .if5 .taken)) (omega (arith, c .before .before .if5 .taken)) _ (c .before .arg-at2 .ensures)
+
+arg-at-requires-3 : tie.Need-arg-at-requires-3 Inv-loop2 μ-loop2 Inv-loop μ-loop
+arg-at-requires-3 c κs = ready-place _ _ _ _ _ (stands (c .before .before .before .before .before))
 
 mul-is-equal-at : tie.Need-mul-is-equal-at Inv-loop2 μ-loop2 Inv-loop μ-loop
-mul-is-equal-at c = ready-number-mul _ _ _ _ _ (stands (c .before .before .before .before .before .before)) _ (c .before .before .before .before .before .op-at .ensures) (omega (arith, c .if5 .taken)) (omega (arith, c .if5 .taken)) _ (c .before .before .before .arg-at .ensures)
+mul-is-equal-at c = ready-number-mul _ _ _ _ _ (stands (c .before .before .before .before .before .before)) _ (c .before .before .before .before .before .op-at .ensures) (c .before .before .before .before .if2 .taken) (c .before .if6 .taken) _ (c .arg-at3 .ensures)
 
 array-copy-out-is-equal-at : tie.Need-array-copy-out-is-equal-at Inv-loop2 μ-loop2 Inv-loop μ-loop
-array-copy-out-is-equal-at c = ready-number _ _ _ _ _ (stands (c .before .before .before .before .before .before)) _ (c .before .before .before .before .before .op-at .ensures) (omega (arith, c .if5 .taken)) (omega (arith, c .if5 .taken)) _ (c .before .before .before .arg-at .ensures)
+array-copy-out-is-equal-at c = ready-number _ _ _ _ _ (stands (c .before .before .before .before .before .before)) _ (c .before .before .before .before .before .op-at .ensures) (c .before .before .before .before .if2 .taken) (c .before .if6 .taken) _ (c .arg-at3 .ensures)
 
 is-equal-at-requires : tie.Need-is-equal-at-requires Inv-loop2 μ-loop2 Inv-loop μ-loop
 is-equal-at-requires c κs =
     let h = stands (c .before .before .before .before .before .before .before) in
-    (c .before .before .before .before .before .before .before .before .before .before .before .before .pre .0, (ready-bound _ _ _ _ _ h _ (c .before .before .before .before .before .before .op-at .ensures) (omega (arith, c .before .if5 .taken)) (omega (arith, c .before .if5 .taken)) _ (c .before .before .before .before .arg-at .ensures), (h .valid .held, ready-place _ _ _ _ _ h)))
+    (c .before .before .before .before .before .before .before .before .before .before .before .before .pre .0, (ready-bound _ _ _ _ _ h _ (c .before .before .before .before .before .before .op-at .ensures) (c .before .before .before .before .before .if2 .taken) (c .before .before .if6 .taken) _ (c .before .arg-at3 .ensures), (h .valid .held, ready-place _ _ _ _ _ h)))
 
 sub-is-short : tie.Need-sub-is-short Inv-loop2 μ-loop2 Inv-loop μ-loop
 sub-is-short c = rows c .words
@@ -192,51 +198,46 @@ filled-requires c κs = rows (c .before .before) .steps
 loop2-holds : tie.Need-loop2-holds Inv-loop2 μ-loop2 Inv-loop μ-loop
 loop2-holds c =
     let k = rows (c .before .before) in
-    let l : length (row (formBy (c .before .before .before .before .before .before .before .before .before .before .args .terms .origins)) (bound (c .before .before .before .before .before .before .before .before .before .before .args .s .now) (c .before .before .before .if2 .b) (c .before .before .before .before .before .before .before .before .before .before .args .terms .vars))) ≤ length (c .before .before .before .before .before .before .before .loop .room) - c .before .before .before .before .before .before .before .loop .x .words = ltb-false _ _ (sym (c .before .is-short .ensures) ∙ c .if7 .left) in
+    let l : length (row (formBy (c .before .before .before .before .before .before .before .before .before .before .args .terms .origins)) (bound (c .before .before .before .before .before .before .before .before .before .before .args .s .now) (c .before .before .before .if2 .b) (c .before .before .before .before .before .before .before .before .before .before .args .terms .vars))) ≤ length (c .before .before .before .before .before .before .before .loop .room) - c .before .before .before .before .before .before .before .loop .x .words = ltb-false _ _ (sym (c .before .is-short .ensures) ∙ c .if8 .left) in
     let w = k .words in
-    (refl, omega arith, refl, omega (arith, l, w), row-start-size _ _ _ _ _, row-start-room _ _ _ _ _ _)
+    (omega arith, refl, omega (arith, l, w), row-start-size _ _ _ _ _, row-start-room _ _ _ _ _ _)
 
--- A variable that is told is one of the rule's.
-told : (c : tie.In-loop2 Inv-loop2 μ-loop2 Inv-loop μ-loop) → c .before .loop2 .v < c .before .before .before .before .before .before .before .before .before .before .before .before .args .terms .vars
-told c = let e = c .before .loop2 .inv .0 in let h = c .loop2-test .taken in omega (arith, e, h)
+mul-y : tie.Need-mul-y Inv-loop2 μ-loop2 Inv-loop μ-loop
+mul-y c = row-mul _ _ _ _ (rows (c .before .before .before .before .before) .bound) (c .if9 .taken)
 
-mul-put-bound : tie.Need-mul-put-bound Inv-loop2 μ-loop2 Inv-loop μ-loop
-mul-put-bound c = row-mul _ _ _ _ (rows (c .before .before .before .before) .bound) (told c)
+array-copy-out-y : tie.Need-array-copy-out-y Inv-loop2 μ-loop2 Inv-loop μ-loop
+array-copy-out-y c = row-16 _ _ _ _ (rows (c .before .before .before .before .before) .bound) (c .if9 .taken)
 
-array-copy-out-put-bound : tie.Need-array-copy-out-put-bound Inv-loop2 μ-loop2 Inv-loop μ-loop
-array-copy-out-put-bound c = row-16 _ _ _ _ (rows (c .before .before .before .before) .bound) (told c)
-
-put-bound-requires : tie.Need-put-bound-requires Inv-loop2 μ-loop2 Inv-loop μ-loop
-put-bound-requires c κs =
-    let g = c .before .before .before .before .before .before .before .before .before .before .before .before .before .before .pre .0 in
-    let k = rows (c .before .before .before .before .before .before) .bound in
-    let i = c .before .before .before .loop2 .inv in
-    let h = told (c .before .before) in
-    (g .target, (g .placed, (row-held _ _ _ _ k h, row-room _ _ _ _ k h _ _ _ _ (i .4) (i .3))))
+put-entry-requires : tie.Need-put-entry-requires Inv-loop2 μ-loop2 Inv-loop μ-loop
+put-entry-requires c κs =
+    let g = c .before .before .before .before .before .before .before .before .before .before .before .before .before .before .before .pre .0 in
+    let k = rows (c .before .before .before .before .before .before .before) .bound in
+    let i = c .before .before .before .before .loop2 .inv in
+    let h = c .before .before .if9 .taken in
+    (g .target, (g .placed, (row-held _ _ _ _ k h, row-room _ _ _ _ k h _ _ _ _ (i .3) (i .2))))
 
 add-v : tie.Need-add-v Inv-loop2 μ-loop2 Inv-loop μ-loop
-add-v c = let l = row-16 _ _ _ _ (rows (c .before .before .before .before .before .before .before .before) .bound) (told (c .before .before .before .before)) in record { fits = omega arith }
+add-v c = let l = row-16 _ _ _ _ (rows (c .before .before .before .before .before .before .before .before .before) .bound) (c .before .before .before .before .if9 .taken) in record { fits = omega arith }
 
 loop2-less : tie.Need-loop2-less Inv-loop2 μ-loop2 Inv-loop μ-loop
-loop2-less c = let h = c .before .before .before .before .loop2-test .taken in omega arith
+loop2-less c = let h = c .before .before .before .before .if9 .taken in omega arith
 
 loop2-again : tie.Need-loop2-again Inv-loop2 μ-loop2 Inv-loop μ-loop
 loop2-again c =
-    let k = rows (c .before .before .before .before .before .before .before .before) .bound in
-    let i = c .before .before .before .before .before .loop2 .inv in
-    let h = told (c .before .before .before .before) in
-    let p = c .before .put-bound .ensures in
+    let k = rows (c .before .before .before .before .before .before .before .before .before) .bound in
+    let i = c .before .before .before .before .before .before .loop2 .inv in
+    let h = c .before .before .before .before .if9 .taken in
+    let p = c .before .put-entry .ensures in
     let l = ap length (p .1) ∙ length-put _ _ _ in (
-      i .0,
-      omega (arith, h, i .0),
-      l ∙ i .2,
-      omega (arith, l, i .3),
-      row-turn-size _ _ _ _ k h _ _ _ _ (i .4) (p .0),
-      row-turn _ _ _ _ k h _ _ _ _ _ _ (i .5) (p .0) (p .1),
+      omega arith,
+      l ∙ i .1,
+      omega (arith, l, i .2),
+      row-turn-size _ _ _ _ k h _ _ _ _ (i .3) (p .0),
+      row-turn _ _ _ _ k h _ _ _ _ _ _ (i .4) (p .0) (p .1),
     )
 
 wrote-requires : tie.Need-wrote-requires Inv-loop2 μ-loop2 Inv-loop μ-loop
-wrote-requires c κs = let k = rows (c .before .before .before .before) in (k .steps, k .rows)
+wrote-requires c κs = let k = rows (c .before .before .before .before .before) in (k .steps, k .rows)
 
 step-requires : tie.Need-step-requires Inv-loop2 μ-loop2 Inv-loop μ-loop
 step-requires c κs =
@@ -246,7 +247,7 @@ step-requires c κs =
 narrow-requires : tie.Need-narrow-requires Inv-loop2 μ-loop2 Inv-loop μ-loop
 narrow-requires c κs =
     let h = stands (c .before .before .before .before .before .before .before) in
-    let o : c .before .before .before .before .before .before .op-at .result ≡ 9 = c .before .if8 .taken in
+    let o : c .before .before .before .before .before .before .op-at .result ≡ 9 = c .before .if10 .taken in
     let z = sym (c .before .before .before .before .before .before .op-at .ensures) ∙ o in (
       c .before .before .before .before .before .before .before .before .before .before .before .before .pre .0,
       (
@@ -257,22 +258,22 @@ narrow-requires c κs =
     )
 
 asked-at-requires : tie.Need-asked-at-requires Inv-loop2 μ-loop2 Inv-loop μ-loop
-asked-at-requires c κs = let h = stands (c .before .before .before .before .before .before .before .before) in sought-opens _ _ _ _ _ (c .before .before .before .before .before .before .before .before .before .before .loop .inv) (h .fine) (h .target) (h .live) _ _ _ _ (narrows (c .before .before .before .before) _ _ _ (c .before .before .if8 .taken) (c .before .before .before .step .ensures) (c .narrow .ensures))
+asked-at-requires c κs = let h = stands (c .before .before .before .before .before .before .before .before) in sought-opens _ _ _ _ _ (c .before .before .before .before .before .before .before .before .before .before .loop .inv) (h .fine) (h .target) (h .live) _ _ _ _ (narrows (c .before .before .before .before) _ _ _ (c .before .before .if10 .taken) (c .before .before .before .step .ensures) (c .narrow .ensures))
 
-arg-at-requires-2 : tie.Need-arg-at-requires-2 Inv-loop2 μ-loop2 Inv-loop μ-loop
-arg-at-requires-2 c κs = let h = stands (c .before .before .before .before .before .before .before .before .before .before .before) in first-place _ _ _ _ _ (c .before .before .before .before .before .before .before .before .before .before .before .before .before .loop .inv) (h .fine) (h .target) (h .live) _ _ _ _ (narrows (c .before .before .before .before .before .before .before) _ _ _ (c .before .before .before .before .before .if8 .taken) (c .before .before .before .before .before .before .step .ensures) (c .before .before .before .narrow .ensures)) _ (c .before .before .asked-at .ensures) (c .if9 .taken)
+arg-at-requires-4 : tie.Need-arg-at-requires-4 Inv-loop2 μ-loop2 Inv-loop μ-loop
+arg-at-requires-4 c κs = let h = stands (c .before .before .before .before .before .before .before .before .before .before .before) in first-place _ _ _ _ _ (c .before .before .before .before .before .before .before .before .before .before .before .before .before .loop .inv) (h .fine) (h .target) (h .live) _ _ _ _ (narrows (c .before .before .before .before .before .before .before) _ _ _ (c .before .before .before .before .before .if10 .taken) (c .before .before .before .before .before .before .step .ensures) (c .before .before .before .narrow .ensures)) _ (c .before .before .asked-at .ensures) (c .if11 .taken)
 
 element-copy-out-g : tie.Need-element-copy-out-g Inv-loop2 μ-loop2 Inv-loop μ-loop
-element-copy-out-g c = let h = stands (c .before .before .before .before .before .before .before .before .before .before .before .before) in first-number _ _ _ _ _ (c .before .before .before .before .before .before .before .before .before .before .before .before .before .before .loop .inv) (h .fine) (h .target) (h .live) _ _ _ _ (narrows (c .before .before .before .before .before .before .before .before) _ _ _ (c .before .before .before .before .before .before .if8 .taken) (c .before .before .before .before .before .before .before .step .ensures) (c .before .before .before .before .narrow .ensures)) _ (c .before .before .before .asked-at .ensures) (c .before .if9 .taken) _ (c .arg-at2 .ensures)
+element-copy-out-g c = let h = stands (c .before .before .before .before .before .before .before .before .before .before .before .before) in first-number _ _ _ _ _ (c .before .before .before .before .before .before .before .before .before .before .before .before .before .before .loop .inv) (h .fine) (h .target) (h .live) _ _ _ _ (narrows (c .before .before .before .before .before .before .before .before) _ _ _ (c .before .before .before .before .before .before .if10 .taken) (c .before .before .before .before .before .before .before .step .ensures) (c .before .before .before .before .narrow .ensures)) _ (c .before .before .before .asked-at .ensures) (c .before .if11 .taken) _ (c .arg-at4 .ensures)
 
 mul-g : tie.Need-mul-g Inv-loop2 μ-loop2 Inv-loop μ-loop
 mul-g c = let l = element-copy-out-g c in record { fits = omega (arith, l) }
 
-arg-at-requires-3 : tie.Need-arg-at-requires-3 Inv-loop2 μ-loop2 Inv-loop μ-loop
-arg-at-requires-3 c κs = let h = stands (c .before .before .before .before .before .before .before .before .before .before .before .before) in second-place _ _ _ _ _ (c .before .before .before .before .before .before .before .before .before .before .before .before .before .before .loop .inv) (h .fine) (h .target) (h .live) _ _ _ _ (narrows (c .before .before .before .before .before .before .before .before) _ _ _ (c .before .before .before .before .before .before .if8 .taken) (c .before .before .before .before .before .before .before .step .ensures) (c .before .before .before .before .narrow .ensures)) _ (c .before .before .before .asked-at .ensures) (c .before .if9 .taken)
+arg-at-requires-5 : tie.Need-arg-at-requires-5 Inv-loop2 μ-loop2 Inv-loop μ-loop
+arg-at-requires-5 c κs = let h = stands (c .before .before .before .before .before .before .before .before .before .before .before .before) in second-place _ _ _ _ _ (c .before .before .before .before .before .before .before .before .before .before .before .before .before .before .loop .inv) (h .fine) (h .target) (h .live) _ _ _ _ (narrows (c .before .before .before .before .before .before .before .before) _ _ _ (c .before .before .before .before .before .before .if10 .taken) (c .before .before .before .before .before .before .before .step .ensures) (c .before .before .before .before .narrow .ensures)) _ (c .before .before .before .asked-at .ensures) (c .before .if11 .taken)
 
 element-copy-out-h : tie.Need-element-copy-out-h Inv-loop2 μ-loop2 Inv-loop μ-loop
-element-copy-out-h c = let h = stands (c .before .before .before .before .before .before .before .before .before .before .before .before .before) in second-number _ _ _ _ _ (c .before .before .before .before .before .before .before .before .before .before .before .before .before .before .before .loop .inv) (h .fine) (h .target) (h .live) _ _ _ _ (narrows (c .before .before .before .before .before .before .before .before .before) _ _ _ (c .before .before .before .before .before .before .before .if8 .taken) (c .before .before .before .before .before .before .before .before .step .ensures) (c .before .before .before .before .before .narrow .ensures)) _ (c .before .before .before .before .asked-at .ensures) (c .before .before .if9 .taken) _ (c .arg-at3 .ensures)
+element-copy-out-h c = let h = stands (c .before .before .before .before .before .before .before .before .before .before .before .before .before) in second-number _ _ _ _ _ (c .before .before .before .before .before .before .before .before .before .before .before .before .before .before .before .loop .inv) (h .fine) (h .target) (h .live) _ _ _ _ (narrows (c .before .before .before .before .before .before .before .before .before) _ _ _ (c .before .before .before .before .before .before .before .if10 .taken) (c .before .before .before .before .before .before .before .before .step .ensures) (c .before .before .before .before .before .narrow .ensures)) _ (c .before .before .before .before .asked-at .ensures) (c .before .before .if11 .taken) _ (c .arg-at5 .ensures)
 
 mul-h : tie.Need-mul-h Inv-loop2 μ-loop2 Inv-loop μ-loop
 mul-h c = let l = element-copy-out-h c in record { fits = omega (arith, l) }
@@ -280,37 +281,31 @@ mul-h c = let l = element-copy-out-h c in record { fits = omega (arith, l) }
 pass-requires : tie.Need-pass-requires Inv-loop2 μ-loop2 Inv-loop μ-loop
 pass-requires c κs =
     let h = stands (c .before .before .before .before .before .before .before .before .before .before .before .before .before .before) in
-    (h .target, (c .before .before .before .before .before .before .before .before .before .before .before .before .before .before .before .before .before .before .before .pre .0 .placed, sought-seeking _ _ _ _ _ (c .before .before .before .before .before .before .before .before .before .before .before .before .before .before .before .before .loop .inv) (h .fine) (h .target) (h .live) _ _ _ _ (narrows (c .before .before .before .before .before .before .before .before .before .before) _ _ _ (c .before .before .before .before .before .before .before .before .if8 .taken) (c .before .before .before .before .before .before .before .before .before .step .ensures) (c .before .before .before .before .before .before .narrow .ensures)) _ (c .before .before .before .before .before .asked-at .ensures) (c .before .before .before .if9 .taken) _ _ (c .before .before .arg-at2 .ensures) (c .before .arg-at3 .ensures) _ refl))
+    (h .target, (c .before .before .before .before .before .before .before .before .before .before .before .before .before .before .before .before .before .before .before .pre .0 .placed, sought-seeking _ _ _ _ _ (c .before .before .before .before .before .before .before .before .before .before .before .before .before .before .before .before .loop .inv) (h .fine) (h .target) (h .live) _ _ _ _ (narrows (c .before .before .before .before .before .before .before .before .before .before) _ _ _ (c .before .before .before .before .before .before .before .before .if10 .taken) (c .before .before .before .before .before .before .before .before .before .step .ensures) (c .before .before .before .before .before .before .narrow .ensures)) _ (c .before .before .before .before .before .asked-at .ensures) (c .before .before .before .if11 .taken) _ _ (c .before .before .arg-at4 .ensures) (c .before .arg-at5 .ensures) _ refl))
 
 leaf-at-requires : tie.Need-leaf-at-requires Inv-loop2 μ-loop2 Inv-loop μ-loop
 leaf-at-requires c κs = let h = stands (c .before .before .before .before .before .before .before .before .before .before .before .before) in leaf-looks _ _ _ _ _ (c .before .before .before .before .before .before .before .before .before .before .before .before .before .before .loop .inv) (h .fine) (h .target) (h .live) _ _ _ _ (sought (c .before)) _ refl
 
-shape-of-requires : tie.Need-shape-of-requires Inv-loop2 μ-loop2 Inv-loop μ-loop
-shape-of-requires c κs = search needs
+arg-at-requires-6 : tie.Need-arg-at-requires-6 Inv-loop2 μ-loop2 Inv-loop μ-loop
+arg-at-requires-6 c κs = c .before .leaf-at .ensures (c .if12 .taken) .tested .place
 
 take-requires : tie.Need-take-requires Inv-loop2 μ-loop2 Inv-loop μ-loop
 take-requires c κs =
     let h = stands (c .before .before .before .before .before .before .before .before .before .before .before .before .before .before .before .before .before) in
     let q = sought (c .before .before .before .before .before .before) in
-    let z = c .before .before .shape-of .ensures in
-    let i = c .before .before .before .before .leaf-at .ensures (c .before .before .before .if10 .taken) in (
+    let i = c .before .before .before .before .leaf-at .ensures (c .before .before .before .if12 .taken) in (
       h .target,
       (
         c .before .before .before .before .before .before .before .before .before .before .before .before .before .before .before .before .before .before .before .before .before .before .pre .0 .placed,
         (
-          rw z (leaf-takes _ _ _ _ _ (c .before .before .before .before .before .before .before .before .before .before .before .before .before .before .before .before .before .before .before .loop .inv) (h .fine) (h .target) (h .live) _ _ _ _ q _ i),
+          leaf-takes _ _ _ _ _ (c .before .before .before .before .before .before .before .before .before .before .before .before .before .before .before .before .before .before .before .loop .inv) (h .fine) (h .target) (h .live) _ _ _ _ q _ i,
           (leaf-slotted _ _ _ _ _ (c .before .before .before .before .before .before .before .before .before .before .before .before .before .before .before .before .before .before .before .loop .inv) (h .fine) (h .target) (h .live) _ _ _ _ q _ i _ refl, leaf-alone _ _ _ _ _ (c .before .before .before .before .before .before .before .before .before .before .before .before .before .before .before .before .before .before .before .loop .inv) (h .fine) (h .target) (h .live) _ _ _ _ q _ i),
         ),
       ),
     )
 
-arg-at-requires-4 : tie.Need-arg-at-requires-4 Inv-loop2 μ-loop2 Inv-loop μ-loop
-arg-at-requires-4 c κs = c .before .before .before .before .before .before .before .before .leaf-at .ensures (c .before .before .before .before .before .before .before .if10 .taken) .tested .place
-
 array-set-from-b-2 : tie.Need-array-set-from-b-2 Inv-loop2 μ-loop2 Inv-loop μ-loop
-array-set-from-b-2 c =
-    let h = stands (c .before .before .before .before .before .before .before .before .before .before .before .before .before .before .before .before .before .before .before .before .before .before) in
-    leaf-number _ _ _ _ _ (c .before .before .before .before .before .before .before .before .before .before .before .before .before .before .before .before .before .before .before .before .before .before .before .before .loop .inv) (h .fine) (h .target) (h .live) _ _ _ _ (sought (c .before .before .before .before .before .before .before .before .before .before .before)) _ (c .before .before .before .before .before .before .before .before .before .leaf-at .ensures (c .before .before .before .before .before .before .before .before .if10 .taken)) _ (c .arg-at4 .ensures)
+array-set-from-b-2 c = let h = stands (c .before .before .before .before .before .before .before .before .before .before .before .before .before .before .before .before .before .before .before .before .before) in leaf-number _ _ _ _ _ (c .before .before .before .before .before .before .before .before .before .before .before .before .before .before .before .before .before .before .before .before .before .before .before .loop .inv) (h .fine) (h .target) (h .live) _ _ _ _ (sought (c .before .before .before .before .before .before .before .before .before .before)) _ (c .before .before .before .before .before .before .before .before .leaf-at .ensures (c .before .before .before .before .before .before .before .if12 .taken)) _ (c .before .before .before .before .before .before .arg-at6 .ensures)
 
 mul-b-2 : tie.Need-mul-b-2 Inv-loop2 μ-loop2 Inv-loop μ-loop
 mul-b-2 c = let l = array-set-from-b-2 c in record { fits = omega (arith, l) }
@@ -324,12 +319,12 @@ settle-requires c κs =
 loop-less : tie.Need-loop-less Inv-loop2 μ-loop2 Inv-loop μ-loop
 loop-less c =
     let h = stands (c .before .before .before .before .before) in
-    swept-less _ _ _ _ _ (c .before .before .before .before .before .before .before .loop .inv) (h .fine) (h .target) (h .live) _ _ _ _ (met (c .before .before)) _ (settled-by _ (run (c .before .before .if6 .x) _ _ _) _ _ (c .settle .ensures))
+    swept-less _ _ _ _ _ (c .before .before .before .before .before .before .before .loop .inv) (h .fine) (h .target) (h .live) _ _ _ _ (met (c .before .before)) _ (settled-by _ (run (c .before .before .if7 .x) _ _ _) _ _ (c .settle .ensures))
 
 loop-again : tie.Need-loop-again Inv-loop2 μ-loop2 Inv-loop μ-loop
 loop-again c =
     let h = stands (c .before .before .before .before .before) in
-    here-swept _ _ _ _ _ (c .before .before .before .before .before .before .before .loop .inv) (h .fine) (h .target) (h .live) _ _ _ _ (met (c .before .before)) _ (settled-by _ (run (c .before .before .if6 .x) _ _ _) _ _ (c .settle .ensures))
+    here-swept _ _ _ _ _ (c .before .before .before .before .before .before .before .loop .inv) (h .fine) (h .target) (h .live) _ _ _ _ (met (c .before .before)) _ (settled-by _ (run (c .before .before .if7 .x) _ _ _) _ _ (c .settle .ensures))
 
 same-length : tie.Need-same-length Inv-loop2 μ-loop2 Inv-loop μ-loop
 same-length c = c .before .before .loop .inv .long
@@ -352,9 +347,11 @@ advance-spec =
     mul-is-sum-at
     array-copy-out-is-sum-at
     is-sum-at-requires
+    arg-at-requires-2
     value-of-requires
     mul-b
     array-set-from-b
+    arg-at-requires-3
     mul-is-equal-at
     array-copy-out-is-equal-at
     is-equal-at-requires
@@ -362,9 +359,9 @@ advance-spec =
     is-short-requires
     filled-requires
     loop2-holds
-    mul-put-bound
-    array-copy-out-put-bound
-    put-bound-requires
+    mul-y
+    array-copy-out-y
+    put-entry-requires
     add-v
     loop2-less
     loop2-again
@@ -372,17 +369,16 @@ advance-spec =
     step-requires
     narrow-requires
     asked-at-requires
-    arg-at-requires-2
+    arg-at-requires-4
     mul-g
     element-copy-out-g
-    arg-at-requires-3
+    arg-at-requires-5
     mul-h
     element-copy-out-h
     pass-requires
     leaf-at-requires
-    shape-of-requires
+    arg-at-requires-6
     take-requires
-    arg-at-requires-4
     mul-b-2
     array-set-from-b-2
     settle-requires
