@@ -8,6 +8,7 @@ use tables::instruction::OR_OTHER;
 use tables::line::Lines;
 use tables::line::op_at;
 use tables::line::put_to;
+use words::ENTRIES;
 ghost use mathlib.Core.Path.{_≡_};
 ghost use Prim.Native.Nat.{suc, _+_, _-_, _<_, _≤_};
 ghost use mathlib.Core.Bool.{cond};
@@ -17,6 +18,9 @@ ghost use Rattle.tables.specs.Line.{columnsOf};
 ghost use Rattle.program_rules.specs.Lines.{binding};
 ghost use Rattle.program_rules.specs.Link.{keeps, takes, opsIn, bindingsIn, linkedIn};
 ghost use Rattle.program_rules.specs.Pile.{pile, lower, placeBy, toAt, landAt, piled};
+
+// A place for each line at most, and the entry 0, which is none's.
+const KEPT: usize = ENTRIES + 1;
 
 // Whether a line keeps a place for the line that begins what it ends.
 pub fn keeps_place(o: u16) -> bool
@@ -81,7 +85,7 @@ pub fn lowered(o: u16, depth: usize) -> usize
 }
 
 // The places kept after this line: how many.
-pub fn keep(o: u16, pc: usize, land: u16, depth: usize, kept: &mut [u16; 651]) -> usize
+pub fn keep(o: u16, pc: usize, land: u16, depth: usize, kept: &mut [u16; KEPT]) -> usize
     requires { ⌜ pc < entries ⌝ ∗ ⌜ depth < entries ⌝ }
     ensures { λ r. ⌜ pile (now (kept .exit)) r ≡ piled o pc land (pile (now (kept .entry)) depth) ⌝ }
 {
@@ -101,15 +105,16 @@ pub fn counted(n: usize, o: u16) -> usize
     if o == BIND { n + 1 } else { n }
 }
 
-// For each line up to the last the place where the next state stands, and how many variables there are.
-pub fn link(last: usize, lines: &mut Lines) -> usize
-    requires { ⌜ last < entries ⌝ }
-    ensures { λ r. ⌜ r ≡ bindingsIn (opsIn (columnsOf (now (lines .entry)) .op) 0 (suc last)) ⌝ ∗ ⌜ columnsOf (now (lines .exit)) ≡ linkedIn (suc last) (columnsOf (now (lines .entry))) ⌝ }
+// For each line before `end` the place where the next state stands, with an array for the places kept, of which there is none at `end`; and how many
+// variables there are, `vars` of them from `end` on.
+fn link_kept(end: usize, vars: usize, lines: &mut Lines) -> usize
+    requires { ⌜ vars + end ≤ entries ⌝ }
+    ensures { λ r. ⌜ r ≡ vars + bindingsIn (opsIn (columnsOf (now (lines .entry)) .op) 0 end) ⌝ ∗ ⌜ columnsOf (now (lines .exit)) ≡ linkedIn end (columnsOf (now (lines .entry))) ⌝ }
 {
-    let mut kept = [0u16; 651];
+    let mut kept = [0u16; KEPT];
     let mut depth: usize = 0;
-    let mut n: usize = 0;
-    let mut pc = last + 1;
+    let mut n = vars;
+    let mut pc = end;
     let mut land = pc as u16;
     while 0 < pc {
         pc -= 1;
@@ -124,6 +129,27 @@ pub fn link(last: usize, lines: &mut Lines) -> usize
             depth = keep(o, pc, land, depth, &mut kept);
             land = land_by(o, pc, land, x);
         }
+    }
+    n
+}
+
+// For each line up to the last the place where the next state stands, and how many variables there are. As long as no line keeps or takes a place there
+// is no array to clear; in a rule without or and not none does.
+pub fn link(last: usize, lines: &mut Lines) -> usize
+    requires { ⌜ last < entries ⌝ }
+    ensures { λ r. ⌜ r ≡ bindingsIn (opsIn (columnsOf (now (lines .entry)) .op) 0 (suc last)) ⌝ ∗ ⌜ columnsOf (now (lines .exit)) ≡ linkedIn (suc last) (columnsOf (now (lines .entry))) ⌝ }
+{
+    let mut n: usize = 0;
+    let mut pc = last + 1;
+    while 0 < pc {
+        let land = pc as u16;
+        let o = op_at(lines, pc - 1);
+        if OR <= o {
+            return link_kept(pc, n, lines);
+        }
+        pc -= 1;
+        put_to(lines, pc, land);
+        n = counted(n, o);
     }
     n
 }
