@@ -1,30 +1,30 @@
--- One turn of the compiler's loop: the lines that are still to come are those from here on. Assumes nothing.
-use Prim.Native.Nat.{ℕ, zero, suc, _+_, _-_, _*_, _<_, _≤_}
+-- One turn of the first pass: what comes of it stays the same, and its numbers keep their bounds. Assumes nothing.
+use Prim.Native.Nat.{ℕ, zero, suc, _+_, _-_, _<_, _≤_}
 use native.Mathlib.Numerals.{add-one}
 use native.Mathlib.Omega.{arith}
 use mathlib.Core.Path.{_≡_, refl, sym, ap, _∙_}
 use mathlib.Core.Bool.{Bool, true, false, cond}
 use mathlib.Core.List.{List, [], _∷_, _++_}
-use borrow.Author.Needs.{needs}
 use borrow.Author.Tests.{eqb-true, lt-ltb, le-ltb}
-use lib.Dec.{eqb, ltb}
+use lib.Dec.{eqb}
 use lib.ListN.{length, length-append, getD, drop, set, length-set, drop-of-length-le}
 use lib.Seq.{drop-cons, drop-drop, getD-set-other}
 use lib.IntN.{ℤ, pos, negsuc}
 use mir.Syntax.{w64}
 use mir.Val.{Fits}
-use Rattle.words.specs.Words.{tagZ, tagAt, entries}
+use Rattle.words.specs.Words.{tagAt, entries}
 use Rattle.words.proofs.Signed.{within}
 use Rattle.tables.specs.declared.line.Line.{Line}
-use Rattle.program_rules.specs.Lines.{line, endLine, reservedLines, opsUnder, opOf, operandsOf, beyondTwo, reservedBy, stripLines, leafLine, firstUnder, secondUnder}
 use Rattle.tables.specs.Line.{Columns, written}
-use Rattle.program_rules.specs.Lines.{Waiting, waits, slotOf, fromBy, slotBy, behindBy, others, elseLine, elseLines, resumed, divided, linesFrom, lines-split, lines-leaf, linesOf, laid}
+use Rattle.program_rules.specs.Lines.{line, endLine, reservedLines, opsUnder, opOf, operandsOf, beyondTwo, reservedBy, stripLines, leafLine, firstUnder, secondUnder}
+use Rattle.program_rules.specs.Lines.{Waiting, waits, slotOf, fromBy, slotBy, behindBy, others, elseLines, resumed, divided, linesFrom, lines-split, lines-leaf, linesOf, laid}
 use Rattle.program_rules.specs.Stack.{stack, waitingAt, popped, closeLines}
 use Rattle.program_rules.specs.Made.{cond-le, op-most}
-use Rattle.program_rules.specs.Bounds.{weight, heavy, heavy-most, weight-one, few, few-part, by-few, reserved-length}
+use Rattle.program_rules.specs.Bounds.{few, few-part, by-few, reserved-length, lines-few}
 use Rattle.program_parts.proofs.Laws.{operands-le}
-use Rattle.program_lay.proofs.Laws.{strip-short}
-use Rattle.program_lay.proofs.Closing.{resumed-close, opened, weight-close}
+use Rattle.program_lay.proofs.Closing.{resumed-close, opened}
+use Rattle.program.specs.declared.lay.Cursor.{Cursor}
+use Rattle.program.specs.Pass.{cursor, Outcome, laying, ahead, outcome, Within}
 use Rattle.program.proofs.Stack.{waiting-push, pair-sum, slot-top, waiting-pop, Left, pop-left}
 
 -- ---- Lines.
@@ -36,316 +36,28 @@ laid-append pc (x ∷ xs) ys t =
     let e : pc + suc (length xs) ≡ suc pc + length xs = omega arith in
     rw (e) (laid-append (suc pc) xs ys (written pc x t))
 
+-- The first lines are laid already.
+laying-on : (pc q : ℕ) (xs ys : List Line) (t t' : Columns) → q ≡ pc + length xs → t' ≡ laid pc xs t → laying pc (xs ++ ys) t ≡ laying q ys t'
+unfolding laying
+laying-on pc q xs ys t t' e w =
+    let a : pc + (length xs + length ys) ≡ pc + length xs + length ys = omega arith in
+    rw (laid-append pc xs ys t, length-append xs ys, a, e, w)
+
+laying-one : (pc q : ℕ) (x : Line) (ls : List Line) (t t' : Columns) → q ≡ suc pc → t' ≡ written pc x t → laying pc (x ∷ ls) t ≡ laying q ls t'
+unfolding laying laid
+laying-one pc q x ls t t' e w = let a : pc + suc (length ls) ≡ suc pc + length ls = omega arith in rw (a, e, w)
+
 skips : (m : List ℤ) (o i : ℕ) (ts : List Waiting) (pc : ℕ) (ws : List ℤ) → linesFrom m o i ts pc ws ≡ linesFrom m 0 i ts pc (drop o ws)
 unfolding linesFrom
 skips m zero i ts pc ws = refl
 skips m (suc o) i ts pc [] = refl
 skips m (suc o) i ts pc (w ∷ ws) = skips m o i ts pc ws
 
--- ---- A turn, by the word at the index.
-
-tag-is : (p : List ℤ) (at t : ℕ) → t ≡ tagAt p at → tagZ (getD p at (negsuc 0)) ≡ t
-unfolding tagAt
-tag-is p at t e = sym e
-
-module _ (m p : List ℤ) (i : ℕ) (ts : List Waiting) (pc at t k o : ℕ) (h : at < length p) (e : t ≡ tagAt p at) (g : k ≡ tagAt m i) (x : o ≡ opOf t k) where
-  x' : o ≡ opOf (tagZ (getD p at (negsuc 0))) k
-  x' = rw (tag-is p at t e) x
-
-  turn-split : 7 < o → linesFrom m 0 i ts pc (drop at p)
-      ≡ divided m (reservedBy o (drop (suc at) p)) o i ts pc (λ skip j us q. linesFrom m skip j us q (drop (suc at) p))
-  turn-split l = ap (linesFrom m 0 i ts pc) (drop-cons p at (negsuc 0) h) ∙ lines-split m i _ k o g x' (lt-ltb 7 o l) ts pc (drop (suc at) p)
-
-  turn-leaf : o ≤ 7 → linesFrom m 0 i ts pc (drop at p)
-      ≡ stripLines k o i ++ (leafLine o i (slotOf ts) (drop (suc at) p)
-      ∷ resumed m ts (suc (pc + length (stripLines k o i))) (λ j us q. linesFrom m (operandsOf o) j us q (drop (suc at) p)))
-  turn-leaf l = ap (linesFrom m 0 i ts pc) (drop-cons p at (negsuc 0) h) ∙ lines-leaf m i _ k o g x' (le-ltb 7 o l) ts pc (drop (suc at) p)
-
--- ---- What holds at the loop's head.
-
-pub record Here (m p : List ℤ) (t₀ t : Columns) (under slots behind : List ℕ) (depth i pc at : ℕ) : Type 0 where
-  pub whole : laid 0 (linesOf m p) t₀ ≡ laid pc (linesFrom m 0 i (waitingAt under slots behind depth) pc (drop at p)) t
-  pub count : length (linesOf m p) ≡ pc + length (linesFrom m 0 i (waitingAt under slots behind depth) pc (drop at p))
-  pub place : 2 * pc + weight (waitingAt under slots behind depth) ≤ 5 * at
-  pub reach : at ≤ length p + 2
-  pub deep : depth ≤ at
-  pub bottom : getD slots 0 0 ≡ 0
-  pub floor : getD behind 0 0 ≡ 0
-  pub sums : (j : ℕ) → getD slots j 0 + few (getD behind j 0) ≤ pc
-  pub long : length under ≡ 257
-  pub wide : length slots ≡ 257
-  pub tall : length behind ≡ 257
-
-pub here-start : (m p : List ℤ) (t : Columns) (u s b : List ℕ) → length u ≡ 257 → length s ≡ 257 → length b ≡ 257
-    → ((j : ℕ) → getD s j 0 ≡ 0) → ((j : ℕ) → getD b j 0 ≡ 0) → Here m p t t u s b 0 0 0 0
-unfolding linesOf waitingAt weight
-here-start m p t u s b h l k e f = record {
-  whole = refl;
-  count = omega arith;
-  place = omega arith;
-  reach = omega arith;
-  deep = omega arith;
-  bottom = e 0;
-  floor = f 0;
-  sums = λ j. let x = e j in let y = few-part (getD b j 0) (omega (arith, f j)) in omega (arith, f j);
-  long = h;
-  wide = l;
-  tall = k;
-}
-
-laid-one : (pc : ℕ) (l : Line) (ls : List Line) (t : Columns) → laid pc (l ∷ ls) t ≡ laid (suc pc) ls (written pc l t)
-unfolding laid
-laid-one pc l ls t = refl
-
--- The places that are reserved are few for the words of their tag.
-pub reserved-few : (o : ℕ) (ws : List ℤ) → (reservedBy o ws ≤ 2) × (2 * reservedBy o ws ≤ 5 * operandsOf o)
-unfolding reservedBy operandsOf beyondTwo
-reserved-few o ws = go (eqb o 11)
-  where
-    go : (b : Bool) → (cond b (beyondTwo (tagAt ws 0)) 0 ≤ 2)
-        × (2 * cond b (beyondTwo (tagAt ws 0)) 0 ≤ 5 * cond b 1 (cond (ltb o 3) 0 (cond (ltb o 5) 1 (cond (ltb o 7) 2 0))))
-    go true =
-        let h : beyondTwo (tagAt ws 0) ≤ 2 = cond-le (eqb (tagAt ws 0) 3) 1 _ (omega arith) (cond-le (eqb (tagAt ws 0) 4) 2 0 (omega arith) (omega arith)) in
-        (h, omega arith)
-    go false = (omega arith, omega arith)
-
--- Else lines and what waits after them.
-else-few : (n : ℕ) → length (elseLines n) ≤ 1
-unfolding elseLines
-else-few n = go (eqb n 3)
-  where
-    go : (b : Bool) → length (cond b (elseLine ∷ []) []) ≤ 1
-    go true = omega arith
-    go false = omega arith
-
-else-weight : (m : List ℤ) (i c n : ℕ) (ts : List Waiting) → n ≤ 3 → 2 * length (elseLines n) + weight (others m i c n ts) ≤ weight (waits i c n ∷ ts) + 1
-unfolding weight heavy elseLines others
-else-weight m i c zero ts h = omega arith
-else-weight m i c (suc zero) ts h = omega arith
-else-weight m i c (suc (suc zero)) ts h = omega arith
-else-weight m i c (suc (suc (suc zero))) ts h = omega arith
-else-weight m i c (suc (suc (suc (suc n)))) ts h = absurd (omega arith)
-
-resumed-open : (m : List ℤ) (i c n : ℕ) (ts : List Waiting) (pc : ℕ) (again : ℕ → List Waiting → ℕ → List Line) → n ≤ 3
-    → resumed m (waits i c n ∷ ts) pc again ≡ elseLines n ++ again i (others m i c n ts) (pc + length (elseLines n))
-unfolding resumed
-resumed-open m i c n ts pc again h = rw (le-ltb 3 n h)
-
-module _ {m p : List ℤ} {t₀ t : Columns} {u s b : List ℕ} {d i pc at : ℕ} (H : Here m p t₀ t u s b d i pc at) (short : length p ≤ 256)
-    (h : at < length p) (tag j k o f : ℕ) (e : tag ≡ tagAt p at) (y : j ≡ i) (g : k ≡ tagAt m j) (x : o ≡ opOf tag k) (fs : f ≡ getD s d 0) where
-  g' : k ≡ tagAt m i
-  g' = rw (← y) g
-
-  slot-is : slotOf (waitingAt u s b d) ≡ f
-  slot-is = slot-top u s b d (H .bottom) ∙ sym fs
-
-  slot-low : slotOf (waitingAt u s b d) ≤ pc
-  slot-low = let a = H .sums d in let c = slot-top u s b d (H .bottom) in omega arith
-
-  module _ (l : 7 < o) (r i' u' c q sb bb fb : ℕ) (t' : Columns) (rs : r ≡ reservedBy o (drop (at + 1) p)) (v : u' ≡ secondUnder m o i) (z' : i' ≡ firstUnder o i)
-      (sl : sb ≡ cond (eqb o 15) f pc) (bl : bb ≡ behindBy o r) (fl : fb ≡ cond (eqb o 16) f 0)
-      (z : c ≡ operandsOf o) (a : q ≡ suc pc + r) (w : t' ≡ laid pc (line (o + r) fb 0 i (pos 0) ∷ reservedLines r) t) where
-    -- What comes after the lines of a tag with parts.
-    split-next : List Line
-    split-next = linesFrom m 0 i' (waits u' sb bb ∷ waitingAt u s b d) q (drop (at + 1 + c) p)
-
-    from-is : fromBy o (waitingAt u s b d) ≡ fb
-    unfolding fromBy
-    from-is = rw slot-is (sym fl)
-
-    by-is : slotBy o pc (waitingAt u s b d) ≡ sb
-    unfolding slotBy
-    by-is = rw slot-is (sym sl)
-
-    split-lines : linesFrom m 0 i (waitingAt u s b d) pc (drop at p) ≡ line (o + r) fb 0 i (pos 0) ∷ (reservedLines r ++ split-next)
-    unfolding divided split-next
-    split-lines =
-        let b1 : suc (pc + r) ≡ suc pc + r = omega arith in
-        turn-split m p i (waitingAt u s b d) pc at tag k o h e g' x l
-        ∙ rw (← add-one at, ← rs, from-is, by-is, ← bl, skips m (operandsOf o) (firstUnder o i) (waits (secondUnder m o i) sb bb ∷ waitingAt u s b d) (suc (pc + r)) (drop (at + 1) p), drop-drop (operandsOf o) (at + 1) p, ← z, ← v, ← z', b1, ← a)
-
-    by-low : sb + few bb ≤ pc + r
-    by-low = let b1 = by-few o pc r (waitingAt u s b d) slot-low (rw rs (reserved-few o (drop (at + 1) p) .0)) in rw (← by-is, bl) b1
-
-    pub here-split : Here m p t₀ t' (set u (d + 1) u') (set s (d + 1) sb) (set b (d + 1) bb) (d + 1) i' q (at + 1 + c)
-    unfolding split-next
-    here-split =
-        let v0 = H .deep in
-        let va = H .long in
-        let vb = H .wide in
-        let vc = H .tall in
-        let v1 = waiting-push u s b d u' sb bb (omega arith) (omega arith) (omega arith) in
-        let v5 = ap length split-lines in
-        let v6 = H .count in
-        let v7 = weight-one u' sb bb (waitingAt u s b d) in
-        let v8 = reserved-few o (drop (at + 1) p) in
-        let v9 = operands-le o in
-        let w2 = heavy-most bb in
-        let w3 = length-append (reservedLines r) split-next in
-        let w4 = reserved-length r in
-        let w5 = by-low in
-        let w1 : pc + suc (length (reservedLines r)) ≡ q = omega (arith, reserved-length r) in
-        record {
-          whole = rw (v1, w) (H .whole ∙ ap (λ ls. laid pc ls t) split-lines ∙ laid-append pc (line (o + r) fb 0 i (pos 0) ∷ reservedLines r) split-next t ∙ rw w1);
-          count = rw v1 (omega arith);
-          place = rw (v1, v7) (omega (arith, H .place, v8 .1));
-          reach = omega arith;
-          deep = omega arith;
-          bottom = getD-set-other s (d + 1) 0 sb 0 (λ z. omega arith) ∙ H .bottom;
-          floor = getD-set-other b (d + 1) 0 bb 0 (λ z. omega arith) ∙ H .floor;
-          sums = λ j. pair-sum s b (d + 1) sb bb j q (omega arith) (omega arith) (omega arith) (let a1 = H .sums j in omega arith);
-          long = length-set u (d + 1) u' ∙ H .long;
-          wide = length-set s (d + 1) sb ∙ H .wide;
-          tall = length-set b (d + 1) bb ∙ H .tall;
-        }
-
-  -- What comes after the line of a tag without parts, by what waits and the place.
-  next : List Waiting → ℕ → List Line
-  next ts q = resumed m ts q (λ j us z. linesFrom m (operandsOf o) j us z (drop (suc at) p))
-
-  module _ (l : o ≤ 7) (q : ℕ) (t' : Columns) (c : q ≡ suc (pc + length (stripLines k o i)))
-      (w : t' ≡ written (pc + length (stripLines k o i)) (leafLine o i f (drop (at + 1) p)) (laid pc (stripLines k o i) t)) where
-    lines-are : linesFrom m 0 i (waitingAt u s b d) pc (drop at p) ≡ stripLines k o i ++ (leafLine o i f (drop (at + 1) p) ∷ next (waitingAt u s b d) q)
-    unfolding next
-    lines-are = turn-leaf m p i (waitingAt u s b d) pc at tag k o h e g' x l ∙ rw (slot-is, ← c, add-one at)
-
-    leaf-whole : laid 0 (linesOf m p) t₀ ≡ laid q (next (waitingAt u s b d) q) t'
-    leaf-whole =
-        H .whole ∙ ap (λ ls. laid pc ls t) lines-are ∙ laid-append pc (stripLines k o i) _ t ∙ laid-one (pc + length (stripLines k o i)) _ _ _ ∙ rw (← w, ← c)
-
-    leaf-count : length (linesOf m p) ≡ q + length (next (waitingAt u s b d) q)
-    leaf-count =
-        let a1 = ap length lines-are in
-        let a2 = length-append (stripLines k o i) (leafLine o i f (drop (at + 1) p) ∷ next (waitingAt u s b d) q) in
-        let a3 = H .count in
-        omega arith
-
-    -- The ends on top have so few lines.
-    pub close-asks : (d < 257) × (getD b 0 0 ≡ 0) × (q + length (closeLines s b d) < entries)
-    close-asks =
-        let a1 = H .deep in
-        let a2 = H .place in
-        let a3 = strip-short k o i in
-        let a4 = weight-close u s b d in
-        (omega arith, H .floor, omega arith)
-
-    module _ (d' : ℕ) (t'' : Columns) (cd : d' + length (closeLines s b d) ≡ d) (cl : t'' ≡ laid q (closeLines s b d) t') where
-      down : d - length (closeLines s b d) ≡ d'
-      down = omega arith
-
-      close-next : next (waitingAt u s b d) q ≡ closeLines s b d ++ next (waitingAt u s b d') (q + (d - d'))
-      unfolding next
-      close-next =
-          let a1 : q + length (closeLines s b d) ≡ q + (d - d') = omega arith in
-          resumed-close m u s b (λ j us z. linesFrom m (operandsOf o) j us z (drop (suc at) p)) d q ∙ rw (down, a1)
-
-      close-whole : laid 0 (linesOf m p) t₀ ≡ laid (q + (d - d')) (next (waitingAt u s b d') (q + (d - d'))) t''
-      close-whole =
-          let a1 : q + length (closeLines s b d) ≡ q + (d - d') = omega arith in
-          leaf-whole ∙ ap (λ ls. laid q ls t') close-next ∙ laid-append q (closeLines s b d) _ t' ∙ rw (a1, ← cl)
-
-      close-count : length (linesOf m p) ≡ q + (d - d') + length (next (waitingAt u s b d') (q + (d - d')))
-      close-count =
-          let a1 = ap length close-next in
-          let a2 = length-append (closeLines s b d) (next (waitingAt u s b d') (q + (d - d'))) in
-          let a3 = leaf-count in
-          omega arith
-
-      pub close-low : q + (d - d') < entries
-      close-low = let a1 = close-asks .2 in omega arith
-
-      pub close-sub : d' ≤ d
-      close-sub = omega arith
-
-      pub close-fits : Fits w64 (q + (d - d'))
-      close-fits = let a1 = close-low in record { fits = omega arith }
-
-      next-end : d' ≡ 0 → next (waitingAt u s b d') (q + (d - d')) ≡ endLine ∷ []
-      unfolding next waitingAt resumed
-      next-end z = rw z
-
-      pub done-count : d' ≡ 0 → suc (q + (d - d')) ≡ length (linesOf m p)
-      done-count z = let a1 = ap length (next-end z) in let a2 = close-count in omega arith
-
-      pub done-laid : d' ≡ 0 → (v : Columns) → v ≡ written (q + (d - d')) endLine t'' → v ≡ laid 0 (linesOf m p) t₀
-      unfolding laid
-      done-laid z v y = y ∙ sym (close-whole ∙ rw (next-end z))
-
-      module _ (z : d' ≡ 0 → ⊥) where
-        pub open-asks : getD b d' 0 ≤ 3
-        open-asks = opened s b d d' cd z
-
-        pub pop-asks : (0 < d') × (d' < 257) × (getD s d' 0 < 1000)
-        pop-asks = let a1 = H .deep in let a2 = H .sums d' in let a3 = H .place in (omega arith, omega arith, omega arith)
-
-        module _ (q' : ℕ) (v : Columns) (oq : q' ≡ q + (d - d') + length (elseLines (getD b d' 0))) (ol : v ≡ laid (q + (d - d')) (elseLines (getD b d' 0)) t'')
-            (u' s' b' : List ℕ) (d'' : ℕ) (pop : stack u' s' b' d'' ≡ popped m (stack u s b d')) where
-          popped-left : Left m (stack u s b d') (stack u' s' b' d'')
-          popped-left =
-              let a1 = H .deep in
-              let a2 = H .long in
-              let a3 = H .wide in
-              let a4 = H .tall in
-              rw pop (pop-left m (stack u s b d') z open-asks (omega arith) (omega arith) (omega arith))
-
-          next-on : (r : ℕ) → r ≡ operandsOf o
-              → next (waitingAt u s b d') (q + (d - d')) ≡ elseLines (getD b d' 0) ++ linesFrom m 0 (getD u d' 0) (waitingAt u' s' b' d'') q' (drop (at + 1 + r) p)
-          unfolding next
-          next-on r y' =
-              rw (waiting-pop u s b d' z, popped-left .waits, oq)
-              (resumed-open m (getD u d' 0) (getD s d' 0) (getD b d' 0) (waitingAt u s b (d' - 1)) (q + (d - d')) _ open-asks
-              ∙ ap (λ ls. elseLines (getD b d' 0) ++ ls) (skips m (operandsOf o) (getD u d' 0) (others m (getD u d' 0) (getD s d' 0) (getD b d' 0) (waitingAt u s b (d' - 1))) (q + (d - d') + length (elseLines (getD b d' 0))) (drop (suc at) p)
-              ∙ rw (drop-drop (operandsOf o) (suc at) p, add-one at, y')))
-
-          lighter : 2 * length (elseLines (getD b d' 0)) + weight (waitingAt u' s' b' d'') ≤ weight (waitingAt u s b d') + 1
-          lighter = rw (waiting-pop u s b d' z, popped-left .waits) (else-weight m (getD u d' 0) (getD s d' 0) (getD b d' 0) (waitingAt u s b (d' - 1)) open-asks)
-
-          pub here-leaf : (r : ℕ) → r ≡ operandsOf o → Here m p t₀ v u' s' b' d'' (getD u d' 0) q' (at + 1 + r)
-          here-leaf r y' =
-              let a0 = next-on r y' in
-              let a1 = strip-short k o i in
-              let a2 = operands-le o in
-              let a3 = ap length a0 in
-              let a4 = lighter in
-              let a5 = popped-left .lower in
-              let a6 = H .place in
-              let a7 = H .deep in
-              let a8 = weight-close u s b d in
-              let a9 = close-count in
-              let b1 = length-append (elseLines (getD b d' 0)) (linesFrom m 0 (getD u d' 0) (waitingAt u' s' b' d'') q' (drop (at + 1 + r) p)) in
-              let b2 : weight (waitingAt u s b (d - length (closeLines s b d))) ≡ weight (waitingAt u s b d') = rw down in
-              record {
-                whole = close-whole ∙ ap (λ ls. laid (q + (d - d')) ls t'') a0 ∙ laid-append (q + (d - d')) (elseLines (getD b d' 0)) _ t'' ∙ rw (← ol, ← oq);
-                count = omega arith;
-                place = omega arith;
-                reach = omega arith;
-                deep = omega arith;
-                bottom = popped-left .bottom ∙ H .bottom;
-                floor = popped-left .floor ∙ H .floor;
-                sums = λ j. let c1 = popped-left .sums j in let c2 = H .sums j in omega arith;
-                long = popped-left .long ∙ H .long;
-                wide = popped-left .wide ∙ H .wide;
-                tall = popped-left .tall ∙ H .tall;
-              }
-
--- ---- The end of the words.
-
-module _ {m p : List ℤ} {t₀ t : Columns} {u s b : List ℕ} {d i pc at : ℕ} (H : Here m p t₀ t u s b d i pc at) (h : length p ≤ at) where
-  lines-end : linesFrom m 0 i (waitingAt u s b d) pc (drop at p) ≡ endLine ∷ []
-  unfolding linesFrom
-  lines-end = rw (drop-of-length-le p h)
-
-  pub end-count : suc pc ≡ length (linesOf m p)
-  end-count = let r = ap length lines-end in let v = H .count in omega arith
-
-  pub end-low : length p ≤ 256 → pc < entries
-  end-low l = let a = H .place in let b = H .reach in omega arith
-
-  pub end-laid : (t' : Columns) → t' ≡ written pc endLine t → t' ≡ laid 0 (linesOf m p) t₀
-  unfolding laid
-  end-laid t' v = v ∙ sym (H .whole ∙ rw lines-end)
-
--- ---- Bounds, as the code asks them.
+-- The places that are reserved are few.
+reserved-few : (o : ℕ) (ws : List ℤ) → reservedBy o ws ≤ 2
+unfolding reservedBy beyondTwo
+reserved-few o ws =
+    cond-le (eqb o 11) _ 0 (cond-le (eqb (tagAt ws 0) 3) 1 _ (omega arith) (cond-le (eqb (tagAt ws 0) 4) 2 0 (omega arith) (omega arith))) (omega arith)
 
 -- A cons or a tuple stands under a matcher that has words after its tag.
 op-under : (tag k : ℕ) → 7 < opOf tag k → (opOf tag k ≡ 10 → ⊥) → opOf tag k ≤ 13 → k < 2147483648
@@ -376,35 +88,284 @@ op-under (suc (suc (suc (suc (suc (suc (suc (suc (suc zero))))))))) k l z w = ab
 op-under (suc (suc (suc (suc (suc (suc (suc (suc (suc (suc zero)))))))))) k l z w = absurd (omega arith)
 op-under (suc (suc (suc (suc (suc (suc (suc (suc (suc (suc (suc t))))))))))) k l z w = absurd (omega arith)
 
-pub under-asks : (m : List ℤ) (tag i j k o : ℕ) → length m ≤ 64 → j ≡ i → k ≡ tagAt m j → o ≡ opOf tag k → 7 < o → (o ≡ 10 → ⊥) → o ≤ 13 → i + 2 < 256
-under-asks m tag i j k o s y g x l z w =
-    let b = op-under tag k (rw x at l) (λ e. z (x ∙ e)) (rw x at w) in
-    let r = within m j k g b in
-    omega arith
+resumed-open : (m : List ℤ) (i c n : ℕ) (ts : List Waiting) (pc : ℕ) (again : ℕ → List Waiting → ℕ → List Line) → n ≤ 3
+    → resumed m (waits i c n ∷ ts) pc again ≡ elseLines n ++ again i (others m i c n ts) (pc + length (elseLines n))
+unfolding resumed
+resumed-open m i c n ts pc again h = rw (le-ltb 3 n h)
 
-module _ {m p : List ℤ} {t₀ t : Columns} {u s b : List ℕ} {d i pc at : ℕ} (H : Here m p t₀ t u s b d i pc at) (l : length p ≤ 256) (h : at < length p) where
-  low : pc ≤ 637
-  low = let a = H .place in omega arith
+-- What comes after the lines of a tag without parts that has n operands, by what waits and the place.
+pub after : (m p : List ℤ) (n at : ℕ) → List Waiting → ℕ → List Line
+after m p n at ts pc = resumed m ts pc (λ j us q. linesFrom m n j us q (drop (suc at) p))
 
-  pub slot-asks : pc < 1000
-  slot-asks = let a = low in omega arith
+-- ---- What is known of the tag at the cursor.
 
-  pub leaf-asks : pc + 1 < entries
-  leaf-asks = let a = low in omega arith
+pub record Tagged (m p : List ℤ) (u s b : List ℕ) (c : Cursor) (t : Columns) (k o n : ℕ) : Type 0 where
+  pub fits : Within u s b c
+  pub brief : length m ≤ 64
+  pub short : length p ≤ 256
+  pub inside : c .at < length p
+  pub under : k ≡ tagAt m (c .i)
+  pub op : o ≡ opOf (tagAt p (c .at)) k
+  pub skip : n ≡ operandsOf o
+  pub low : outcome m p u s b c t .lines < entries
 
-  pub divide-asks : (tag k o r : ℕ) → o ≡ opOf tag k → r ≡ reservedBy o (drop (at + 1) p) → (suc pc + r < entries) × (o + r < 256)
-  divide-asks tag k o r x e = let a = reserved-few o (drop (at + 1) p) .0 in let b = low in let c = op-most tag k in (omega arith, omega arith)
+module _ {m p : List ℤ} {u s b : List ℕ} {c : Cursor} {t : Columns} {k o n : ℕ} (T : Tagged m p u s b c t k o n) where
+  slot-is : slotOf (waitingAt u s b (c .depth)) ≡ getD s (c .depth) 0
+  slot-is = slot-top u s b (c .depth) (T .fits .bottom)
 
-  pub depth-asks : d < 257
-  depth-asks = let a = H .deep in omega arith
+  pub slot-asks : c .pc < 1000
+  unfolding outcome laying
+  slot-asks = omega (arith, T .low)
 
-  pub push-asks : d + 1 < 257
-  push-asks = let a = H .deep in omega arith
+  pub skip-fits : Fits w64 (c .at + 1 + n)
+  skip-fits = record { fits = omega (arith, T .short, T .inside, T .skip, operands-le o) }
 
-pub skip-fits : (len at o c : ℕ) → len ≤ 256 → at < len → c ≡ operandsOf o → Fits w64 (at + 1 + c)
-skip-fits len at o c l h e = let b = operands-le o in record { fits = omega arith }
+  -- ---- A tag with parts.
 
-pub skip-less : (len at o c : ℕ) → at < len → c ≡ operandsOf o → len - (at + 1 + c) < len - at
-skip-less len at o c h e = omega arith
+  pub under-asks : 7 < o → (o ≡ 10 → ⊥) → o ≤ 13 → c .i + 2 < 256
+  under-asks l z w =
+      let e = T .op in
+      let a = within m (c .i) k (T .under) (op-under (tagAt p (c .at)) k (rw e at l) (λ f. z (e ∙ f)) (rw e at w)) in
+      omega (arith, T .brief)
 
-pub ruleset turn-rules = (here-start, here-split, here-leaf, done-count, done-laid, end-count, end-laid, end-low, under-asks, divide-asks, close-asks, close-low, close-fits, pop-asks, slot-asks, leaf-asks, depth-asks, push-asks, skip-fits, skip-less, needs)
+  module _ (l : 7 < o) (r : ℕ) (rs : r ≡ reservedBy o (drop (c .at + 1) p)) where
+    split-lines : ahead m p u s b c ≡ line (o + r) (fromBy o (waitingAt u s b (c .depth))) 0 (c .i) (pos 0) ∷ (reservedLines r ++ linesFrom m 0 (firstUnder o (c .i)) (waits (secondUnder m o (c .i)) (slotBy o (c .pc) (waitingAt u s b (c .depth))) (behindBy o r) ∷ waitingAt u s b (c .depth)) (suc (c .pc) + r) (drop (c .at + 1 + n) p))
+    unfolding ahead divided tagAt
+    split-lines =
+        let e : suc (c .pc + r) ≡ suc (c .pc) + r = omega arith in
+        ap (linesFrom m 0 (c .i) _ (c .pc)) (drop-cons p (c .at) (negsuc 0) (T .inside))
+        ∙ lines-split m (c .i) (getD p (c .at) (negsuc 0)) k o (T .under) (T .op) (lt-ltb 7 o l) (waitingAt u s b (c .depth)) (c .pc) (drop (suc (c .at)) p)
+        ∙ rw (← add-one (c .at), ← rs, ← T .skip, skips m n, drop-drop n (c .at + 1) p, e)
+
+    pub divide-asks : (suc (c .pc) + r < entries) × (o + r < 256)
+    unfolding outcome laying
+    divide-asks =
+        let a = simp (length-append, reserved-length) at (ap length split-lines) in
+        let g = reserved-few o (drop (c .at + 1) p) in
+        let h = op-most (tagAt p (c .at)) k in
+        (omega (arith, T .low), omega (arith, T .op))
+
+    module _ (i' u' q sb bb fb : ℕ) (t' : Columns) (x : i' ≡ firstUnder o (c .i)) (y : u' ≡ secondUnder m o (c .i))
+        (es : sb ≡ cond (eqb o 15) (getD s (c .depth) 0) (c .pc)) (eb : bb ≡ behindBy o r) (ef : fb ≡ cond (eqb o 16) (getD s (c .depth) 0) 0)
+        (eq : q ≡ suc (c .pc) + r) (w : t' ≡ laid (c .pc) (line (o + r) fb 0 (c .i) (pos 0) ∷ reservedLines r) t) where
+      from-is : fromBy o (waitingAt u s b (c .depth)) ≡ fb
+      unfolding fromBy
+      from-is = rw slot-is (sym ef)
+
+      by-is : slotBy o (c .pc) (waitingAt u s b (c .depth)) ≡ sb
+      unfolding slotBy
+      by-is = rw slot-is (sym es)
+
+      by-low : sb + few bb ≤ c .pc + r
+      by-low =
+          let a : slotOf (waitingAt u s b (c .depth)) ≤ c .pc = rw slot-is (omega (arith, T .fits .sums (c .depth))) in
+          rw (← by-is, eb) (by-few o (c .pc) r (waitingAt u s b (c .depth)) a (rw rs (reserved-few o (drop (c .at + 1) p))))
+
+      split-within : Within (set u (c .depth + 1) u') (set s (c .depth + 1) sb) (set b (c .depth + 1) bb) (cursor (c .at + 1 + n) q (c .depth + 1) i')
+      split-within =
+          let W = T .fits in
+          let e = T .inside in
+          let f = T .short in
+          let g = by-low in
+          record {
+            deep = omega arith;
+            bottom = getD-set-other s (c .depth + 1) 0 sb 0 (λ h. omega arith) ∙ W .bottom;
+            floor = getD-set-other b (c .depth + 1) 0 bb 0 (λ h. omega arith) ∙ W .floor;
+            sums = λ j. pair-sum s b (c .depth + 1) sb bb j q (omega arith) (omega arith) (omega arith) (omega (arith, W .sums j));
+            long = length-set u (c .depth + 1) u' ∙ W .long;
+            wide = length-set s (c .depth + 1) sb ∙ W .wide;
+            tall = length-set b (c .depth + 1) bb ∙ W .tall;
+          }
+
+      split-outcome : outcome m p (set u (c .depth + 1) u') (set s (c .depth + 1) sb) (set b (c .depth + 1) bb) (cursor (c .at + 1 + n) q (c .depth + 1) i') t' ≡ outcome m p u s b c t
+      unfolding outcome ahead
+      split-outcome =
+          let W = T .fits in
+          let e = T .inside in
+          let f = T .short in
+          let v = waiting-push u s b (c .depth) u' sb bb (omega arith) (omega arith) (omega arith) in
+          let g : q ≡ c .pc + suc (length (reservedLines r)) = omega (arith, reserved-length r) in
+          rw v (sym (ap (λ ls. laying (c .pc) ls t) split-lines ∙ rw (from-is, by-is, ← eb, ← x, ← y, ← eq) (laying-on (c .pc) q (line (o + r) fb 0 (c .i) (pos 0) ∷ reservedLines r) _ t t' g w)))
+
+      pub split-returns : (c .at < c .at + 1 + n)
+          × (Within (set u (c .depth + 1) u') (set s (c .depth + 1) sb) (set b (c .depth + 1) bb) (cursor (c .at + 1 + n) q (c .depth + 1) i')
+          × (outcome m p (set u (c .depth + 1) u') (set s (c .depth + 1) sb) (set b (c .depth + 1) bb) (cursor (c .at + 1 + n) q (c .depth + 1) i') t' ≡ outcome m p u s b c t))
+      split-returns = (omega arith, (split-within, split-outcome))
+
+-- ---- A tag without parts, and the ends that wait on top.
+
+pub record Closed (m p : List ℤ) (u s b : List ℕ) (c : Cursor) (t : Columns) (n d pc : ℕ) (t' : Columns) : Type 0 where
+  pub rest : outcome m p u s b c t ≡ laying pc (after m p n (c .at) (waitingAt u s b d) pc) t'
+  pub low : pc < entries
+  pub later : c .pc ≤ pc
+  pub lower : d ≤ c .depth
+  pub index : d < 257
+  pub top : (d ≡ 0 → ⊥) → getD b d 0 ≤ 3
+  pub fits : Within u s b c
+  pub brief : length m ≤ 64
+  pub inside : c .at < length p
+
+module _ {m p : List ℤ} {u s b : List ℕ} {c : Cursor} {t : Columns} {k o n : ℕ} (T : Tagged m p u s b c t k o n) (l : o ≤ 7) where
+  leaf-lines : ahead m p u s b c ≡ stripLines k o (c .i) ++ (leafLine o (c .i) (getD s (c .depth) 0) (drop (c .at + 1) p) ∷ after m p n (c .at) (waitingAt u s b (c .depth)) (suc (c .pc + length (stripLines k o (c .i)))))
+  unfolding ahead after tagAt
+  leaf-lines =
+      ap (linesFrom m 0 (c .i) _ (c .pc)) (drop-cons p (c .at) (negsuc 0) (T .inside))
+      ∙ lines-leaf m (c .i) (getD p (c .at) (negsuc 0)) k o (T .under) (T .op) (le-ltb 7 o l) (waitingAt u s b (c .depth)) (c .pc) (drop (suc (c .at)) p)
+      ∙ rw (slot-is T, add-one (c .at), ← T .skip)
+
+  pub leaf-asks : c .pc + 1 < entries
+  unfolding outcome laying
+  leaf-asks = let a = simp length-append at (ap length leaf-lines) in omega (arith, T .low)
+
+  module _ (q : ℕ) (t₁ : Columns) (e : q ≡ suc (c .pc + length (stripLines k o (c .i))))
+      (w : t₁ ≡ written (c .pc + length (stripLines k o (c .i))) (leafLine o (c .i) (getD s (c .depth) 0) (drop (c .at + 1) p)) (laid (c .pc) (stripLines k o (c .i)) t)) where
+    leaf-rest : outcome m p u s b c t ≡ laying q (after m p n (c .at) (waitingAt u s b (c .depth)) q) t₁
+    unfolding outcome
+    leaf-rest =
+        ap (λ ls. laying (c .pc) ls t) leaf-lines
+        ∙ laying-on (c .pc) (c .pc + length (stripLines k o (c .i))) (stripLines k o (c .i)) _ t _ refl refl
+        ∙ rw (← e) (laying-one _ q _ _ _ t₁ e w)
+
+    close-lines : after m p n (c .at) (waitingAt u s b (c .depth)) q
+        ≡ closeLines s b (c .depth) ++ after m p n (c .at) (waitingAt u s b (c .depth - length (closeLines s b (c .depth)))) (q + length (closeLines s b (c .depth)))
+    unfolding after
+    close-lines = resumed-close m u s b (λ j us z. linesFrom m n j us z (drop (suc (c .at)) p)) (c .depth) q
+
+    close-low : q + length (closeLines s b (c .depth)) < entries
+    unfolding laying
+    close-low = let a = ap (λ (r : Outcome). r .lines) leaf-rest in let f = simp length-append at (ap length close-lines) in omega (arith, T .low)
+
+    pub close-asks : (c .depth < 257) × ((getD b 0 0 ≡ 0) × (q + length (closeLines s b (c .depth)) < entries))
+    close-asks = (omega (arith, T .fits .deep, T .inside, T .short), (T .fits .floor, close-low))
+
+    pub closes : (d : ℕ) (t' : Columns) → d + length (closeLines s b (c .depth)) ≡ c .depth → t' ≡ laid q (closeLines s b (c .depth)) t₁
+        → Closed m p u s b c t n d (q + (c .depth - d)) t'
+    closes d t' h x =
+        let y : c .depth - length (closeLines s b (c .depth)) ≡ d = omega arith in
+        let z : q + length (closeLines s b (c .depth)) ≡ q + (c .depth - d) = omega arith in
+        let f = close-low in
+        record {
+          rest = leaf-rest ∙ ap (λ ls. laying q ls t₁) close-lines ∙ rw (y, z) (laying-on q (q + (c .depth - d)) (closeLines s b (c .depth)) _ t₁ t' (sym z) x);
+          low = omega arith;
+          later = omega arith;
+          lower = omega arith;
+          index = omega (arith, close-asks .0);
+          top = opened s b (c .depth) d h;
+          fits = T .fits;
+          brief = T .brief;
+          inside = T .inside;
+        }
+
+module _ {m p : List ℤ} {u s b : List ℕ} {c : Cursor} {t : Columns} {n d pc : ℕ} {t' : Columns} (C : Closed m p u s b c t n d pc t') where
+  pub close-fits : Fits w64 pc
+  close-fits = record { fits = omega (arith, C .low) }
+
+  -- Nothing waits: what is left of the words is passed over.
+  pub done : d ≡ 0 → (c .at < length p) × (Within u s b (cursor (length p) pc 0 0) × (outcome m p u s b (cursor (length p) pc 0 0) t' ≡ outcome m p u s b c t))
+  unfolding outcome ahead linesFrom after waitingAt resumed
+  done z =
+      let W = C .fits in
+      let e = C .later in (
+        C .inside,
+        (
+          record {
+            deep = omega arith;
+            bottom = W .bottom;
+            floor = W .floor;
+            sums = λ j. omega (arith, W .sums j);
+            long = W .long;
+            wide = W .wide;
+            tall = W .tall;
+          },
+          rw (drop-of-length-le p {i = length p} (omega arith)) (sym (C .rest ∙ rw z)),
+        ),
+      )
+
+  module _ (z : d ≡ 0 → ⊥) where
+    pub pop-asks : (length m ≤ 64) × ((0 < d) × (d < 257) × (getD s d 0 < 1000))
+    pop-asks = (C .brief, (omega arith, C .index, omega (arith, C .low, C .later, C .fits .sums d)))
+
+    module _ (q : ℕ) (t'' : Columns) (e : q ≡ pc + length (elseLines (getD b d 0))) (w : t'' ≡ laid pc (elseLines (getD b d 0)) t')
+        (u' s' b' : List ℕ) (d' : ℕ) (x : stack u' s' b' d' ≡ popped m (stack u s b d)) where
+      left : Left m (stack u s b d) (stack u' s' b' d')
+      left =
+          let W = C .fits in
+          let f = C .index in
+          rw x (pop-left m (stack u s b d) z (C .top z) (omega arith) (omega arith) (omega arith))
+
+      next-lines : after m p n (c .at) (waitingAt u s b d) pc ≡ elseLines (getD b d 0) ++ linesFrom m 0 (getD u d 0) (waitingAt u' s' b' d') q (drop (c .at + 1 + n) p)
+      unfolding after
+      next-lines =
+          rw (waiting-pop u s b d z, left .waits, e, add-one (c .at))
+          (resumed-open m (getD u d 0) (getD s d 0) (getD b d 0) (waitingAt u s b (d - 1)) pc _ (C .top z)
+          ∙ rw (skips m n, drop-drop n (suc (c .at)) p))
+
+      pub leaf-returns : (c .at < c .at + 1 + n) × (Within u' s' b' (cursor (c .at + 1 + n) q d' (getD u d 0))
+          × (outcome m p u' s' b' (cursor (c .at + 1 + n) q d' (getD u d 0)) t'' ≡ outcome m p u s b c t))
+      unfolding outcome ahead
+      leaf-returns =
+          let W = C .fits in
+          let f = C .later in
+          let g = C .lower in
+          let h = left .lower in (
+            omega arith,
+            (
+              record {
+                deep = omega arith;
+                bottom = left .bottom ∙ W .bottom;
+                floor = left .floor ∙ W .floor;
+                sums = λ j. omega (arith, left .sums j, W .sums j);
+                long = left .long ∙ W .long;
+                wide = left .wide ∙ W .wide;
+                tall = left .tall ∙ W .tall;
+              },
+              sym (C .rest ∙ ap (λ ls. laying pc ls t') next-lines ∙ laying-on pc q (elseLines (getD b d 0)) _ t' t'' e w),
+            ),
+          )
+
+-- ---- The pass as a whole, over the table t₀.
+
+pub record Passing (m p : List ℤ) (t₀ : Columns) (u s b : List ℕ) (c : Cursor) (t : Columns) : Type 0 where
+  pub fits : Within u s b c
+  pub whole : outcome m p u s b c t ≡ laying 0 (linesOf m p) t₀
+
+pub start : (m p : List ℤ) (t : Columns) (u s b : List ℕ) → length u ≡ 257 → length s ≡ 257 → length b ≡ 257
+    → ((j : ℕ) → getD s j 0 ≡ 0) → ((j : ℕ) → getD b j 0 ≡ 0) → Passing m p t u s b (cursor 0 0 0 0) t
+unfolding outcome ahead linesOf waitingAt
+start m p t u s b h l k e f = record {
+  fits = record {
+    deep = omega arith;
+    bottom = e 0;
+    floor = f 0;
+    sums = λ j. let x = e j in let y = few-part (getD b j 0) (omega (arith, f j)) in omega (arith, f j);
+    long = h;
+    wide = l;
+    tall = k;
+  };
+  whole = refl;
+}
+
+pub goes-on : {m p : List ℤ} {t₀ : Columns} {u s b u' s' b' : List ℕ} {c c' : Cursor} {t t' : Columns} → Passing m p t₀ u s b c t
+    → Within u' s' b' c' → outcome m p u' s' b' c' t' ≡ outcome m p u s b c t → Passing m p t₀ u' s' b' c' t'
+goes-on P W e = record { fits = W; whole = e ∙ P .whole }
+
+module _ {m p : List ℤ} {t₀ : Columns} {u s b : List ℕ} {c : Cursor} {t : Columns} (P : Passing m p t₀ u s b c t) (short : length p ≤ 256) where
+  pub lines-low : outcome m p u s b c t .lines < entries
+  unfolding laying
+  lines-low = rw (P .whole) (omega (arith, lines-few m p short))
+
+  module _ (h : length p ≤ c .at) where
+    end-is : laying (c .pc) (endLine ∷ []) t ≡ laying 0 (linesOf m p) t₀
+    unfolding outcome ahead linesFrom
+    end-is = rw (drop-of-length-le p h) at (P .whole)
+
+    end-count : suc (c .pc) ≡ length (linesOf m p)
+    unfolding laying
+    end-count = let a = ap (λ (r : Outcome). r .lines) end-is in omega arith
+
+    pub end-low : c .pc < entries
+    end-low = omega (arith, end-count, lines-few m p short)
+
+    pub end-returns : (t' : Columns) → t' ≡ written (c .pc) endLine t → (suc (c .pc) ≡ length (linesOf m p)) × (t' ≡ laid 0 (linesOf m p) t₀)
+    unfolding laying laid
+    end-returns t' w = (end-count, w ∙ ap (λ (r : Outcome). r .table) end-is)

@@ -21,8 +21,72 @@ use words::tag_at;
 ghost use mathlib.Core.Path.{_≡_};
 ghost use Prim.Native.Nat.{suc, _<_, _≤_};
 ghost use lib.ListN.{length};
+ghost use Rattle.words.specs.Words.{entries};
 ghost use Rattle.tables.specs.Line.{columnsOf};
 ghost use Rattle.program_rules.specs.Lines.{linesOf, laid};
+ghost use Rattle.program.specs.Pass.{Within, outcome};
+
+// How far the pass is: the index of the next word, the place of the next line, how many parts wait, and the matcher of the next pattern.
+pub struct Cursor {
+    pub at: usize,
+    pub pc: usize,
+    pub depth: usize,
+    pub i: u8,
+}
+
+// The lines of the next tag, and of the ends that wait no longer after it. Where nothing waits then, the words that are left are passed over.
+fn lay_next(
+    c: Cursor,
+    m: &[i32],
+    p: &[i32],
+    under: &mut [u8; 257],
+    slots: &mut [u16; 257],
+    behind: &mut [u8; 257],
+    lines: &mut Lines,
+) -> Cursor
+    requires { ⌜ length (now m) ≤ 64 ⌝ ∗ ⌜ length (now p) ≤ 256 ⌝ ∗ ⌜ c .at < length (now p) ⌝ ∗ ⌜ Within (now under) (now slots) (now behind) c ⌝ ∗ ⌜ outcome (now m) (now p) (now under) (now slots) (now behind) c (columnsOf (now lines)) .lines < entries ⌝ }
+    ensures { λ r. ⌜ c .at < r .at ⌝ ∗ ⌜ Within (now (under .exit)) (now (slots .exit)) (now (behind .exit)) r ⌝ ∗ ⌜ outcome (now (m .entry)) (now (p .entry)) (now (under .exit)) (now (slots .exit)) (now (behind .exit)) r (columnsOf (now (lines .exit))) ≡ outcome (now (m .entry)) (now (p .entry)) (now (under .entry)) (now (slots .entry)) (now (behind .entry)) c (columnsOf (now (lines .entry))) ⌝ }
+{
+    let depth = c.depth;
+    let k = tag_at(m, wide(c.i));
+    let o = op_of(tag_at(p, c.at), k);
+    let f = slots[depth];
+    let at = c.at + 1;
+    let next = at + operands(o);
+    if NIL < o {
+        let e = reserved(p, at, o);
+        let j = first_under(o, c.i);
+        let d = depth + 1;
+        under[d] = second_under(m, o, c.i);
+        slots[d] = slot_by(o, c.pc, f);
+        behind[d] = behind_by(o, e);
+        return Cursor {
+            at: next,
+            pc: divide(o, e, from_by(o, f), c.i, c.pc, lines),
+            depth: d,
+            i: j,
+        };
+    }
+    let q = leaf(p, at, k, o, c.i, f, c.pc, lines);
+    let d = close(depth, q, slots, behind, lines);
+    let end = q + (depth - d);
+    if d == 0 {
+        return Cursor {
+            at: p.len(),
+            pc: end,
+            depth: 0,
+            i: 0,
+        };
+    }
+    let i = under[d];
+    let pc = other(behind[d], end, lines);
+    Cursor {
+        at: next,
+        pc: pc,
+        depth: pop(m, d, under, slots, behind),
+        i: i,
+    }
+}
 
 // The rule's lines from the first entry on: the place of the last.
 pub fn lay(m: &[i32], p: &[i32], lines: &mut Lines) -> usize
@@ -32,41 +96,15 @@ pub fn lay(m: &[i32], p: &[i32], lines: &mut Lines) -> usize
     let mut under = [0u8; 257];
     let mut slots = [0u16; 257];
     let mut behind = [0u8; 257];
-    let mut depth: usize = 0;
-    let mut i: u8 = 0;
-    let mut pc: usize = 0;
-    let mut at: usize = 0;
-    while at < p.len() {
-        let t = tag_at(p, at);
-        let k = tag_at(m, wide(i));
-        let o = op_of(t, k);
-        let f = slots[depth];
-        at += 1;
-        if NIL < o {
-            let e = reserved(p, at, o);
-            let j = first_under(o, i);
-            depth += 1;
-            under[depth] = second_under(m, o, i);
-            slots[depth] = slot_by(o, pc, f);
-            behind[depth] = behind_by(o, e);
-            pc = divide(o, e, from_by(o, f), i, pc, lines);
-            i = j;
-            at += operands(o);
-        } else {
-            pc = leaf(p, at, k, o, i, f, pc, lines);
-            let d = close(depth, pc, &slots, &behind, lines);
-            pc += depth - d;
-            depth = d;
-            if depth == 0 {
-                put(pc, END, 0, 0, 0, 0, lines);
-                return pc;
-            }
-            i = under[depth];
-            pc = other(behind[depth], pc, lines);
-            depth = pop(m, depth, &mut under, &mut slots, &mut behind);
-            at += operands(o);
-        }
+    let mut c = Cursor {
+        at: 0,
+        pc: 0,
+        depth: 0,
+        i: 0,
+    };
+    while c.at < p.len() {
+        c = lay_next(c, m, p, &mut under, &mut slots, &mut behind, lines);
     }
-    put(pc, END, 0, 0, 0, 0, lines);
-    pc
+    put(c.pc, END, 0, 0, 0, 0, lines);
+    c.pc
 }

@@ -1,5 +1,5 @@
 -- The ends that wait on top of the stack: their lines, and what waits when they are written. Assumes nothing.
-use Prim.Native.Nat.{ℕ, zero, suc, _+_, _-_, _*_, _<_, _≤_}
+use Prim.Native.Nat.{ℕ, zero, suc, _+_, _-_, _<_, _≤_}
 use native.Mathlib.Numerals.{add-one}
 use native.Mathlib.Omega.{arith}
 use native.Mathlib.Decide.{decLt}
@@ -14,10 +14,9 @@ use mir.Val.{Fits}
 use Rattle.words.specs.Words.{entries}
 use Rattle.tables.specs.declared.line.Line.{Line}
 use Rattle.tables.specs.Line.{Columns, written}
-use Rattle.program_rules.specs.Lines.{Waiting, waits, closeLine, elseLines, others, resumed, laid}
+use Rattle.program_rules.specs.Lines.{Waiting, waits, closeLine, resumed, laid}
 use Rattle.program_rules.specs.Stack.{waitingAt, closeLines}
 use Rattle.program_rules.specs.Made.{resumed-end}
-use Rattle.program_rules.specs.Bounds.{weight, heavy, heavy-end}
 
 close-more : (s b : List ℕ) (d : ℕ) → 3 < getD b (suc d) 0 → closeLines s b (suc d) ≡ closeLine (getD b (suc d) 0) (getD s (suc d) 0) ∷ closeLines s b d
 unfolding closeLines
@@ -127,19 +126,3 @@ opened s b (suc d) e h z = go (decLt 3 (getD b (suc d) 0)) (λ g. opened s b d e
         let n : length (closeLines s b (suc d)) ≡ 0 = ap length (close-none s b (suc d) g) in
         let y : e ≡ suc d = omega arith in
         rw y g
-
-pub weight-close : (u s b : List ℕ) (d : ℕ) → weight (waitingAt u s b d) ≡ 2 * length (closeLines s b d) + weight (waitingAt u s b (d - length (closeLines s b d)))
-unfolding waitingAt closeLines weight
-weight-close u s b zero = refl
-weight-close u s b (suc d) = go (decLt 3 (getD b (suc d) 0)) (weight-close u s b d)
-  where
-    go : Dec (3 < getD b (suc d) 0) → weight (waitingAt u s b d) ≡ 2 * length (closeLines s b d) + weight (waitingAt u s b (d - length (closeLines s b d)))
-        → weight (waitingAt u s b (suc d)) ≡ 2 * length (closeLines s b (suc d)) + weight (waitingAt u s b (suc d - length (closeLines s b (suc d))))
-    go (yes h) r =
-        let y : suc d - suc (length (closeLines s b d)) ≡ d - length (closeLines s b d) = omega arith in
-        let x = heavy-end (getD b (suc d) 0) h in
-        rw (close-more s b d h, y) (omega arith)
-    go (no h) r =
-        let e : closeLines s b (suc d) ≡ [] = close-none s b (suc d) (omega arith) in
-        let y : suc d - 0 ≡ suc d = omega arith in
-        rw (e, y) (omega arith)

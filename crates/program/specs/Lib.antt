@@ -1,0 +1,2 @@
+-- The definitions that this layer cites.
+pub mod Pass
