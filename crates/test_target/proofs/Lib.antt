@@ -2,3 +2,4 @@
 pub mod Values
 pub mod Looks
 pub mod Steps
+pub mod Runs

@@ -2,7 +2,7 @@
 use mathlib.Core.Path.{_≡_, refl, sym, ap, _∙_}
 use mathlib.Core.Bool.{Bool, true, false, not, cond}
 use mathlib.Core.List.{List, [], _∷_}
-use Prim.Native.Nat.{ℕ, zero, suc, _+_, _-_, _*_, _^_, _<_, _≤_}
+use Prim.Native.Nat.{ℕ, zero, suc, _+_, _-_, _^_, _<_, _≤_}
 use native.Mathlib.Omega.{arith}
 use borrow.Author.Needs.{needs}
 use borrow.Author.Tests.{lt-leb, le-leb, lt-ltb, le-ltb, ne-eqb, eqb-true, ltb-true, leb-true, not-true, not-false}
@@ -18,7 +18,7 @@ use Rattle.forms.specs.Together.{value-well}
 use Rattle.words.specs.Words.{tagAt}
 use Rattle.words.proofs.Signed as signed
 use Rattle.test_forms.specs.Ends.{within}
-use Rattle.test_target.specs.Targets.{causeAt, countCause, countFits, found, plainAt, plainRun, valued, valuedFrom, further, inLine, wholeValue}
+use Rattle.test_target.specs.Targets.{causeAt, countCause, countFits, found, plainAt, valued, valuedFrom, further, inLine, wholeValue}
 use Rattle.test_target.specs.declared.Valued.{Valued}
 use Rattle.test_target.specs.declared.Valued.the-variants.{End, Bad}
 use Rattle.test_target.specs.declared.Found.{Found}
@@ -96,57 +96,6 @@ plain-words s at = go (eqb (tagAt s at) 0) refl (ltb (at + 1) (length s)) refl
 
 pub plain-next-2 : (s : List ℤ) (e : ℕ) (b : Bool) → b ≡ plainAt s e → b ≡ true → length s < 2 ^ 64 → Fits w64 (e + 2)
 plain-next-2 s e b q w l = let x = plain-words s e (sym q ∙ w) .1 in record { fits = omega arith }
-
--- ---- A run of them: i are passed, and r is how many there are.
-
-run-step : (s : List ℤ) (n e : ℕ) (b : Bool) → 0 < n → b ≡ plainAt s e → plainRun s n e ≡ cond b (suc (plainRun s (n - 1) (e + 2))) 0
-unfolding plainRun
-run-step s n e b h q = go n h
-  where
-    go : (k : ℕ) → 0 < k → plainRun s k e ≡ cond b (suc (plainRun s (k - 1) (e + 2))) 0
-    go zero l = absurd (omega arith)
-    go (suc k) l = let p : suc k - 1 ≡ k = omega arith in rw (q, p)
-
-module _ (s : List ℤ) (n e i r : ℕ) (q : r ≡ i + plainRun s (n - i) e) where
-  pub run-on : i < n → (b : Bool) → b ≡ plainAt s e → b ≡ true → r ≡ (i + 1) + plainRun s (n - (i + 1)) (e + 2)
-  run-on h b p w =
-      let z : n - i - 1 ≡ n - (i + 1) = omega arith in
-      let t : plainRun s (n - i) e ≡ suc (plainRun s (n - (i + 1)) (e + 2)) = run-step s (n - i) e b (omega arith) p ∙ rw (w, z) in
-      omega (arith, q, t)
-
-  pub run-here : i < n → (b : Bool) → b ≡ plainAt s e → b ≡ false → i ≡ r
-  run-here h b p w = let t : plainRun s (n - i) e ≡ 0 = run-step s (n - i) e b (omega arith) p ∙ rw w in omega (arith, q, t)
-
-  pub run-out : n ≤ i → i ≡ r
-  unfolding plainRun
-  run-out h = let z : n - i ≡ 0 = omega arith in let t : plainRun s (n - i) e ≡ 0 = rw z in omega (arith, q, t)
-
-pub run-start : (s : List ℤ) (n at : ℕ) → plainRun s n at ≡ 0 + plainRun s (n - 0) at
-run-start s n at =
-    let z : n - 0 ≡ n = omega arith in
-    let t : plainRun s (n - 0) at ≡ plainRun s n at = rw z in
-    omega (arith, t)
-
-pub ruleset run-rules = (run-start, run-on, run-here, run-out, plain-next-2, needs)
-
--- They stand within the words, and they are at most n.
-pub run-most : (s : List ℤ) (n e : ℕ) → plainRun s n e ≤ n
-unfolding plainRun
-run-most s zero e = omega arith
-run-most s (suc n) e = go (plainAt s e) (run-most s n (e + 2))
-  where
-    go : (b : Bool) → plainRun s n (e + 2) ≤ n → cond b (suc (plainRun s n (e + 2))) 0 ≤ suc n
-    go true r = omega arith
-    go false r = omega arith
-
-pub run-within : (s : List ℤ) (n e : ℕ) → e < 2 ^ 64 → length s < 2 ^ 64 → e + 2 * plainRun s n e < 2 ^ 64
-unfolding plainRun
-run-within s zero e h l = omega arith
-run-within s (suc n) e h l = go (plainAt s e) refl (λ a. run-within s n (e + 2) a l)
-  where
-    go : (b : Bool) → plainAt s e ≡ b → (e + 2 < 2 ^ 64 → e + 2 + 2 * plainRun s n (e + 2) < 2 ^ 64) → e + 2 * cond b (suc (plainRun s n (e + 2))) 0 < 2 ^ 64
-    go true q f = let x = plain-words s e q .1 in let r = f (omega arith) in omega arith
-    go false q f = omega arith
 
 -- ---- Returns before the elements.
 

@@ -40,11 +40,15 @@ unfoldable pub plainAt : List ℤ → ℕ → Bool
 unfolding tagAt
 plainAt s at = cond (eqb (tagAt s at) 0) (ltb (at + 1) (length s)) false
 
--- How many do from there on, at most n.
+-- Of how many values from an index on f holds, one after the other, each of so many words; at most n.
+unfoldable pub runOf : (ℕ → Bool) → (each n at : ℕ) → ℕ
+runOf f each zero at = 0
+runOf f each (suc n) at = cond (f at) (suc (runOf f each n (at + each))) 0
+
+-- How many integers stand whole from an index on, at most n.
 unfoldable pub plainRun : List ℤ → (n at : ℕ) → ℕ
-unfolding plainAt
-plainRun s zero at = 0
-plainRun s (suc n) at = cond (plainAt s at) (suc (plainRun s n (at + 2))) 0
+unfolding runOf plainAt
+plainRun s n at = runOf (plainAt s) 2 n at
 
 -- The value at an index, in which `depth` collections or tuples may stand one inside the other.
 unfoldable pub valueFrom : List ℤ → (depth at : ℕ) → Ended

@@ -4,10 +4,14 @@ use test_forms::LARGEST_WIDTH;
 use test_forms::LEAST_WIDTH;
 use test_forms::between;
 use words::tag_at;
+use words::tag_of;
 use words::target;
 ghost use mathlib.Core.Path.{_≡_};
+ghost use Prim.Native.Nat.{_-_, _/_, _<_, min};
+ghost use lib.ListN.{length};
 ghost use Rattle.rules.specs.Reading.{readTarget};
 ghost use Rattle.rules.specs.Causes.{causeOf};
+ghost use Rattle.words.specs.Words.{tagAt};
 ghost use Rattle.test_target.specs.Targets.{causeAt, countCause, countFits, found, plainAt, plainRun, valueFrom, valuedFrom, wholeValue};
 
 // Where a value ends, or the place and the cause of the first word at fault.
@@ -29,6 +33,9 @@ pub const ELEMENTS: u32 = 64;
 
 // How deep the collections and tuples of a target stand.
 pub const TARGET_LEVELS: u32 = 8;
+
+// The words of an integer.
+pub const INTEGER_WORDS: usize = 2;
 
 // The causes of a target's fault.
 pub const OVER_LENGTH: u32 = 1;
@@ -85,15 +92,36 @@ pub fn plain_at(ts: &[i32], at: usize) -> bool
     }
 }
 
-// How many integers stand whole from an index on, one after the other, at most n.
+// The tag at an index that has a word.
+pub fn tag_there(ts: &[i32], at: usize) -> u32
+    requires { ⌜ at < length (now ts) ⌝ }
+    ensures { λ r. ⌜ r ≡ tagAt (now (ts .entry)) at ⌝ }
+{
+    tag_of(ts[at])
+}
+
+// For how many values of so many words each there are words from an index on, at most n.
+pub fn most(ts: &[i32], at: usize, each: usize, n: u32) -> u32
+    requires { ⌜ 0 < each ⌝ }
+    ensures { λ r. ⌜ r ≡ min n ((length (now (ts .entry)) - at) / each) ⌝ }
+{
+    if ts.len() <= at {
+        return 0;
+    }
+    let m = (ts.len() - at) / each;
+    if (n as usize) < m { n } else { m as u32 }
+}
+
+// How many integers stand whole from an index on, one after the other, at most n. There are words for m, so the loop tests no length.
 pub fn plain_run(ts: &[i32], at: usize, n: u32) -> u32
     ensures { λ r. ⌜ r ≡ plainRun (now (ts .entry)) n at ⌝ }
 {
+    let m = most(ts, at, INTEGER_WORDS, n);
     let mut end = at;
     let mut i: u32 = 0;
-    while i < n {
-        if plain_at(ts, end) {
-            end += 2;
+    while i < m {
+        if tag_there(ts, end) == target::INTEGER {
+            end += INTEGER_WORDS;
             i += 1;
         } else {
             return i;
@@ -112,7 +140,7 @@ fn read_value(ts: &[i32], at: usize, depth: u32) -> Valued
     }
     if t == target::INTEGER {
         return if at + 1 < ts.len() {
-            Valued::End(at + 2)
+            Valued::End(at + INTEGER_WORDS)
         } else {
             Valued::Bad(at + 1, CUT_SHORT)
         };
@@ -127,7 +155,7 @@ fn read_value(ts: &[i32], at: usize, depth: u32) -> Valued
     let mut e = at + 2;
     while 0 < left {
         if plain_at(ts, e) {
-            e += 2;
+            e += INTEGER_WORDS;
             left -= 1;
         } else {
             match read_value(ts, e, depth - 1) {

@@ -17,10 +17,10 @@ use Rattle.test_forms.specs.Ends.{onward, within}
 use Rattle.matchers.specs.Places.{matcherEnd}
 use Rattle.matchers.proofs.Ends.{parts-none, words-one, end-turn, end-start, end-none}
 use Rattle.test_fit.specs.Shapes.{widthFits}
-use Rattle.test_target.specs.Targets.{plainAt, plainRun, valueFrom}
+use Rattle.test_target.specs.Targets.{plainAt, valueFrom}
 use Rattle.test_target.proofs.Values.{integer}
-use Rattle.test_target.proofs.Steps.{plain-words, run-most, run-within}
-use Rattle.test_unfit.specs.Unfit.{opensAt, underTag, membersOf, nextMember, numberFits, isPair, pairFits, plainWords, fitRun, underInteger, byMembers, inEach, insideFrom, fitFrom}
+use Rattle.test_target.proofs.Steps.{plain-words}
+use Rattle.test_unfit.specs.Unfit.{opensAt, underTag, membersOf, nextMember, numberFits, isPair, pairFits, plainWords, underInteger, byMembers, inEach, insideFrom, fitFrom}
 use Rattle.test_forms.specs.declared.Ended.{Ended}
 use Rattle.test_forms.specs.declared.Ended.the-variants.{End, Bad}
 use Rattle.test_unfit.specs.declared.Members.{Members}
@@ -151,31 +151,6 @@ module _ (s : List ℤ) (at t d : ℕ) where
 
 pub ruleset under-rules = (under-number, under-other, needs)
 
--- A run of them.
-module _ (s m : List ℤ) (at n k j t : ℕ) (e : t ≡ tagAt m j) where
-  pub run-there : (k ≡ 4 → ⊥) → t ≡ 1 → (r : ℕ) → r ≡ plainRun s n at → r ≡ fitRun s at n m k j
-  unfolding fitRun
-  run-there f h r q = q ∙ rw (ne-eqb k 4 f, ← e, h)
-
-  pub run-other : (k ≡ 4 → ⊥) → (t ≡ 1 → ⊥) → 0 ≡ fitRun s at n m k j
-  unfolding fitRun
-  run-other f h = rw (ne-eqb k 4 f, ← e, ne-eqb t 1 h)
-
-pub run-tuple : (s m : List ℤ) (at n k j : ℕ) → k ≡ 4 → 0 ≡ fitRun s at n m k j
-unfolding fitRun
-run-tuple s m at n k j h = rw h
-
-pub ruleset run-rules = (run-there, run-other, run-tuple, needs)
-
-by-run : (s m : List ℤ) (at n k j : ℕ) (P : ℕ → Type 0) → P 0 → ((k ≡ 4 → ⊥) → tagAt m j ≡ 1 → P (plainRun s n at)) → P (fitRun s at n m k j)
-unfolding fitRun
-by-run s m at n k j P z f = go (eqb k 4) refl (eqb (tagAt m j) 1) refl
-  where
-    go : (b : Bool) → eqb k 4 ≡ b → (c : Bool) → eqb (tagAt m j) 1 ≡ c → P (cond b 0 (cond c (plainRun s n at) 0))
-    go true p c q = z
-    go false p true q = f (λ y. let u : false ≡ true = sym p ∙ eq-eqb k 4 y in let w : _≡_ {A = ℕ} 0 1 = cc in absurd (omega arith)) (eqb-true (tagAt m j) 1 q)
-    go false p false q = z
-
 number-words : (s m : List ℤ) (at j : ℕ) → numberFits s at m j ≡ true → (tagAt m j ≡ 1) × (plainAt s at ≡ true)
 unfolding numberFits
 number-words s m at j = go (eqb (tagAt m j) 1) refl
@@ -240,7 +215,7 @@ module _ (s m : List ℤ) (i at k d : ℕ) (e : k ≡ tagAt m i) where
           unfolding byMembers
           loop-in l x = within-it ∙ rw x
 
-number-end : (s m : List ℤ) (at j d : ℕ) → numberFits s at m j ≡ true → End (at + 2) ≡ fitFrom s m d j at
+pub number-end : (s m : List ℤ) (at j d : ℕ) → numberFits s at m j ≡ true → End (at + 2) ≡ fitFrom s m d j at
 number-end s m at j d h =
     let a = number-words s m at j h in
     let b = plain-words s at (a .1) in
@@ -262,7 +237,7 @@ module _ (ws : List ℤ) (at tag t : ℕ) (e : t ≡ tagAt ws at) where
     pair-next h l = let w = signed.within ws at t e (omega arith) in record { fits = omega arith }
 
 -- A test that holds, and what it says.
-holds : (b c : Bool) → cond b c false ≡ true → (b ≡ true) × (c ≡ true)
+pub holds : (b c : Bool) → cond b c false ≡ true → (b ≡ true) × (c ≡ true)
 holds true c h = (refl, h)
 holds false c h = let z : _≡_ {A = ℕ} 0 1 = cc in absurd (omega arith)
 
@@ -338,7 +313,7 @@ unfolding pairFits
 pair-second s m at j h = holds (numberFits s (at + 2) m (j + 2)) _ (holds (isPair s at 2) _ (holds (isPair m j 4) _ h .1) .1) .1
 
 -- Its value, where a depth is left.
-pair-end : (s m : List ℤ) (at j d : ℕ) → pairFits s at m j ≡ true → End (at + 6) ≡ fitFrom s m (suc d) j at
+pub pair-end : (s m : List ℤ) (at j d : ℕ) → pairFits s at m j ≡ true → End (at + 6) ≡ fitFrom s m (suc d) j at
 unfolding pairFits inEach onward nextMember opensAt membersOf widthFits within
 pair-end s m at j d h =
     let a = holds (isPair m j 4) _ h in
@@ -378,56 +353,6 @@ plain-ends s m at j d = go (numberFits s at m j) refl (ltb 1 d) refl (pairFits s
     go false p true q true u h l = let v = ltb-true 1 d q in let z : d - 1 ≡ suc (d - 2) = omega arith in rw z (pair-end s m at j (d - 2) u)
     go false p true q false u h l = absurd (omega arith)
     go false p false q c u h l = absurd (omega arith)
-
--- ---- The elements that fit at once.
-
-pass-none : (f : ℕ → ℕ → Ended) (next : ℕ → ℕ) (n j e : ℕ) → inEach f next n j e ≡ inEach f next (n - 0) j (e + 2 * 0)
-pass-none f next n j e =
-    let x : n ≡ n - 0 = omega arith in
-    let y : e ≡ e + 2 * 0 = omega arith in
-    ap (λ c. inEach f next c j e) x ∙ ap (λ t. inEach f next (n - 0) j t) y
-
-module _ (s m : List ℤ) (d k j : ℕ) (f : k ≡ 4 → ⊥) (h : tagAt m j ≡ 1) where
-  same-next : nextMember m k j ≡ j
-  unfolding nextMember
-  same-next = rw (ne-eqb k 4 f)
-
-  plain-fits : (e : ℕ) → plainAt s e ≡ true → numberFits s e m j ≡ true
-  unfolding numberFits
-  plain-fits e p = rw (eq-eqb (tagAt m j) 1 h) p
-
-  one-on : (n e : ℕ) → plainAt s e ≡ true → inEach (fitFrom s m d) (nextMember m k) (suc n) j e ≡ inEach (fitFrom s m d) (nextMember m k) n j (e + 2)
-  unfolding inEach onward
-  one-on n e p = rw (← number-end s m e j d (plain-fits e p), same-next)
-
-  pass-run : (n e : ℕ) → inEach (fitFrom s m d) (nextMember m k) n j e ≡ inEach (fitFrom s m d) (nextMember m k) (n - plainRun s n e) j (e + 2 * plainRun s n e)
-  unfolding plainRun
-  pass-run zero e = let z : e ≡ e + 2 * 0 = omega arith in ap (λ x. inEach (fitFrom s m d) (nextMember m k) 0 j x) z
-  pass-run (suc n) e = go (plainAt s e) refl (pass-run n (e + 2))
-    where
-      go : (b : Bool) → plainAt s e ≡ b
-          → inEach (fitFrom s m d) (nextMember m k) n j (e + 2) ≡ inEach (fitFrom s m d) (nextMember m k) (n - plainRun s n (e + 2)) j (e + 2 + 2 * plainRun s n (e + 2))
-          → inEach (fitFrom s m d) (nextMember m k) (suc n) j e
-          ≡ inEach (fitFrom s m d) (nextMember m k) (suc n - cond b (suc (plainRun s n (e + 2))) 0) j (e + 2 * cond b (suc (plainRun s n (e + 2))) 0)
-      go true p r =
-          let x : n - plainRun s n (e + 2) ≡ suc n - suc (plainRun s n (e + 2)) = omega arith in
-          let y : e + 2 + 2 * plainRun s n (e + 2) ≡ e + 2 * suc (plainRun s n (e + 2)) = omega arith in
-          one-on n e p ∙ r
-          ∙ ap (λ c. inEach (fitFrom s m d) (nextMember m k) c j (e + 2 + 2 * plainRun s n (e + 2))) x
-          ∙ ap (λ t. inEach (fitFrom s m d) (nextMember m k) (suc n - suc (plainRun s n (e + 2))) j t) y
-      go false p r = pass-none (fitFrom s m d) (nextMember m k) (suc n) j e
-
-module _ (s m : List ℤ) (k j n e r : ℕ) (q : r ≡ fitRun s e n m k j) where
-  run-passed : (d : ℕ) → inEach (fitFrom s m d) (nextMember m k) n j e ≡ inEach (fitFrom s m d) (nextMember m k) (n - r) j (e + 2 * r)
-  run-passed d = rw q (by-run s m e n k j (λ c. inEach (fitFrom s m d) (nextMember m k) n j e ≡ inEach (fitFrom s m d) (nextMember m k) (n - c) j (e + 2 * c))
-      (pass-none (fitFrom s m d) (nextMember m k) n j e)
-      (λ f h. pass-run s m d k j f h n e))
-
-  pub run-few : r ≤ n
-  run-few = rw q (by-run s m e n k j (λ c. c ≤ n) (omega arith) (λ f h. run-most s n e))
-
-  run-in : e < 2 ^ 64 → length s < 2 ^ 64 → e + 2 * r < 2 ^ 64
-  run-in a l = rw q (by-run s m e n k j (λ c. e + 2 * c < 2 ^ 64) (omega arith) (λ f h. run-within s n e a l))
 
 -- ---- The elements or parts; v is what they are to give.
 
@@ -482,13 +407,4 @@ next-2 s m at i k n j e a w x l = let o = members-most m i k n j (sym w ∙ x) i
 pub plain-next : (s m : List ℤ) (e j d w : ℕ) → w ≡ plainWords s e m j d → 0 < w → length s < 2 ^ 64 → Fits w64 (e + w)
 plain-next s m e j d w q h l = record { fits = rw q (plain-within s m e j d (rw (← q) h) l) }
 
-pub behind-fits : (s m : List ℤ) (at i k n j r : ℕ) → n ≡ tagAt s (at + 1) → (a : Members) → a ≡ membersOf m i k n → a ≡ From j → r ≡ fitRun s (at + 2) n m k j → length s < 2 ^ 64
-    → at + 2 + 2 * r < 18446744073709551616
-behind-fits s m at i k n j r e a w x q l = run-in s m k j n (at + 2) r q (next-2 s m at i k n j e a w x l .fits) l
-
--- After those that fit at once.
-pub loop-run : (s m : List ℤ) (d k j n e r e′ : ℕ) (v : Ended) → v ≡ inEach (fitFrom s m d) (nextMember m k) n j e → r ≡ fitRun s e n m k j → e′ ≡ e + 2 * r
-    → v ≡ inEach (fitFrom s m d) (nextMember m k) (n - r) j e′
-loop-run s m d k j n e r e′ v x q p = x ∙ run-passed s m k j n e r q d ∙ rw p
-
-pub ruleset rules = (ret-something, ret-under, ret-closed, ret-deep, ret-unfit, loop-in, loop-out, loop-turn, loop-plain, loop-bad, next-i, next-at, next-2, plain-next, run-few, behind-fits, depth-pos, depth-less, needs)
+pub ruleset rules = (ret-something, ret-under, ret-closed, ret-deep, ret-unfit, loop-in, loop-out, loop-turn, loop-plain, loop-bad, next-i, next-at, next-2, plain-next, depth-pos, depth-less, needs)

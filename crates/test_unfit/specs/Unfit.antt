@@ -1,5 +1,5 @@
 -- Test 6 from a place on. A matcher is kept as the index of its tag in the matcher's words.
-use Prim.Native.Nat.{ℕ, zero, suc, _+_}
+use Prim.Native.Nat.{ℕ, zero, suc, _+_, _*_}
 use mathlib.Core.Bool.{Bool, false, cond}
 use mathlib.Core.List.{List}
 use lib.Dec.{eqb, ltb}
@@ -8,11 +8,12 @@ use Rattle.words.specs.Words.{tagAt}
 use Rattle.test_forms.specs.Ends.{onward, within}
 use Rattle.matchers.specs.Places.{matcherEnd}
 use Rattle.test_fit.specs.Shapes.{widthFits}
-use Rattle.test_target.specs.Targets.{plainAt, plainRun, valueFrom}
+use Rattle.test_target.specs.Targets.{plainAt, runOf, plainRun, valueFrom}
 use Rattle.test_forms.specs.declared.Ended.{Ended}
 use Rattle.test_forms.specs.declared.Ended.the-variants.{End, Bad}
 use Rattle.test_unfit.specs.declared.Members.{Members}
 use Rattle.test_unfit.specs.declared.Members.the-variants.{Unfit, From}
+use Rattle.test_unfit.specs.declared.Run.{Run}
 
 -- A list or a multiset is of a collection's elements, a tuple of a tuple's parts.
 unfoldable pub opensAt : ℕ → ℕ → Bool
@@ -58,10 +59,29 @@ unfoldable pub underInteger : (s : List ℤ) → (at t depth : ℕ) → Ended
 unfolding valueFrom
 underInteger s at t depth = cond (eqb t 0) (valueFrom s depth at) (Bad at)
 
--- How many of n members from an index on fit at once: integers of a collection under integer.
-unfoldable pub fitRun : (s : List ℤ) → (at n : ℕ) → (m : List ℤ) → (k j : ℕ) → ℕ
-unfolding plainRun tagAt
-fitRun s at n m k j = cond (eqb k 4) 0 (cond (eqb (tagAt m j) 1) (plainRun s n at) 0)
+-- Whether the members under the matcher j are pairs of integers: a tuple of two integers stands there, and a depth of two is left.
+unfoldable pub asksPairs : List ℤ → (j depth : ℕ) → Bool
+unfolding isPair tagAt
+asksPairs m j depth = cond (ltb 1 depth) (cond (isPair m j 4) (cond (eqb (tagAt m (j + 2)) 1) (eqb (tagAt m (j + 3)) 1) false) false) false
+
+-- Whether a pair of integers stands whole at an index, and how many do from there on, at most n.
+unfoldable pub plainPair : List ℤ → ℕ → Bool
+unfolding isPair plainAt
+plainPair s at = cond (isPair s at 2) (cond (plainAt s (at + 2)) (plainAt s (at + 4)) false) false
+
+unfoldable pub pairRun : List ℤ → (n at : ℕ) → ℕ
+unfolding runOf plainPair
+pairRun s n at = runOf (plainPair s) 6 n at
+
+-- A run of n members of so many words each.
+unfoldable pub passed : (at each n : ℕ) → Run
+passed at each n = record { members = n; end = at + each * n }
+
+-- Which of n members from an index on fit at once: a collection's integers under integer, and its pairs of integers under a tuple of two.
+unfoldable pub fitRun : (s : List ℤ) → (at n : ℕ) → (m : List ℤ) → (k j depth : ℕ) → Run
+unfolding passed plainRun pairRun asksPairs tagAt
+fitRun s at n m k j depth =
+    cond (eqb k 4) (passed at 0 0) (cond (eqb (tagAt m j) 1) (passed at 2 (plainRun s n at)) (cond (asksPairs m j depth) (passed at 6 (pairRun s n at)) (passed at 0 0)))
 
 unfoldable pub byMembers : Members → Ended → (ℕ → Ended) → Ended
 byMembers Unfit z k = z

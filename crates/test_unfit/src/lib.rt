@@ -4,20 +4,22 @@ use test_fit::shapes::width_fits;
 use test_forms::Ended;
 use test_forms::between;
 use test_target::ELEMENTS;
+use test_target::INTEGER_WORDS;
+use test_target::most;
 use test_target::plain_at;
 use test_target::plain_run;
+use test_target::tag_there;
 use test_target::value_end;
 use words::matcher;
 use words::tag_at;
 use words::target;
 ghost use mathlib.Core.Path.{_≡_};
 ghost use Prim.Native.Nat.{_+_, _*_, _<_, _≤_, _^_};
-ghost use Rattle.test_unfit.specs.Unfit.{opensAt, membersOf, nextMember, numberFits, isPair, pairFits, plainWords, fitRun, underInteger, fitFrom};
+ghost use lib.ListN.{length};
+ghost use Rattle.test_unfit.specs.Unfit.{opensAt, membersOf, nextMember, numberFits, isPair, pairFits, plainWords, asksPairs, plainPair, pairRun, passed, fitRun, underInteger, fitFrom};
 
-// The width of a pair, and the words of an integer and of a pair of integers.
+// The width of a pair, and the words of a pair of integers.
 const PAIR: u32 = 2;
-
-const INTEGER_WORDS: usize = 2;
 
 const PAIR_WORDS: usize = 6;
 
@@ -25,6 +27,12 @@ const PAIR_WORDS: usize = 6;
 pub enum Members {
     Unfit,
     From(usize),
+}
+
+// So many members that fit at once, and the index behind them.
+pub struct Run {
+    pub members: u32,
+    pub end: usize,
 }
 
 // Whether a value with the tag t has elements or parts for a matcher with the tag k.
@@ -135,27 +143,80 @@ fn under_integer(ts: &[i32], at: usize, t: u32, depth: u32) -> Ended
     }
 }
 
-// How many of n members fit at once: a collection's integers under integer.
-fn fit_run(ts: &[i32], at: usize, n: u32, ms: &[i32], k: u32, j: usize) -> u32
-    ensures { λ r. ⌜ r ≡ fitRun (now (ts .entry)) at n (now (ms .entry)) k j ⌝ }
+// Whether the members under the matcher j are pairs of integers: it is a tuple of two integers, and the depth reaches a pair's parts.
+fn asks_pairs(ms: &[i32], j: usize, depth: u32) -> bool
+    ensures { λ r. ⌜ r ≡ asksPairs (now (ms .entry)) j depth ⌝ }
 {
-    if k == matcher::TUPLE {
-        return 0;
+    if depth <= 1 {
+        return false;
     }
-    let t = tag_at(ms, j);
-    if t == matcher::INTEGER {
-        plain_run(ts, at, n)
-    } else {
-        0
+    if is_pair(ms, j, matcher::TUPLE) {
+        if tag_at(ms, j + 2) == matcher::INTEGER {
+            return tag_at(ms, j + 3) == matcher::INTEGER;
+        }
+    }
+    false
+}
+
+// Whether a pair of integers stands at an index from which there are words for one.
+fn plain_pair(ts: &[i32], at: usize) -> bool
+    requires { ⌜ at + 6 ≤ length (now ts) ⌝ }
+    ensures { λ r. ⌜ r ≡ plainPair (now (ts .entry)) at ⌝ }
+{
+    if tag_there(ts, at) == target::TUPLE {
+        if tag_there(ts, at + 1) == PAIR {
+            if tag_there(ts, at + 2) == target::INTEGER {
+                return tag_there(ts, at + 4) == target::INTEGER;
+            }
+        }
+    }
+    false
+}
+
+// How many pairs of integers stand whole from an index on, one after the other, at most n.
+fn pair_run(ts: &[i32], at: usize, n: u32) -> u32
+    ensures { λ r. ⌜ r ≡ pairRun (now (ts .entry)) n at ⌝ }
+{
+    let m = most(ts, at, PAIR_WORDS, n);
+    let mut end = at;
+    let mut i: u32 = 0;
+    while i < m {
+        if plain_pair(ts, end) {
+            end += PAIR_WORDS;
+            i += 1;
+        } else {
+            return i;
+        }
+    }
+    i
+}
+
+// The run of n members of so many words each.
+fn pass(at: usize, each: usize, n: u32) -> Run
+    requires { ⌜ at + each * n < 2 ^ 64 ⌝ }
+    ensures { λ r. ⌜ r ≡ passed at each n ⌝ }
+{
+    Run {
+        members: n,
+        end: at + each * (n as usize),
     }
 }
 
-// The index behind so many integers.
-fn behind(at: usize, n: u32) -> usize
-    requires { ⌜ at + 2 * n < 2 ^ 64 ⌝ }
-    ensures { λ r. ⌜ r ≡ at + 2 * n ⌝ }
+// Which of n members fit at once: a collection's integers under integer, and its pairs of integers under a tuple of two.
+fn fit_run(ts: &[i32], at: usize, n: u32, ms: &[i32], k: u32, j: usize, depth: u32) -> Run
+    ensures { λ r. ⌜ r ≡ fitRun (now (ts .entry)) at n (now (ms .entry)) k j depth ⌝ }
 {
-    at + 2 * (n as usize)
+    if k == matcher::TUPLE {
+        return pass(at, 0, 0);
+    }
+    let t = tag_at(ms, j);
+    if t == matcher::INTEGER {
+        return pass(at, INTEGER_WORDS, plain_run(ts, at, n));
+    }
+    if asks_pairs(ms, j, depth) {
+        return pass(at, PAIR_WORDS, pair_run(ts, at, n));
+    }
+    pass(at, 0, 0)
 }
 
 // Where the value at an index of `ts` ends, if it fits the matcher at the index i of `ms`; else the place of the tag that does not.
@@ -181,9 +242,9 @@ pub fn fit_end(ts: &[i32], at: usize, ms: &[i32], i: usize, depth: u32) -> Ended
         Members::Unfit => return Ended::Bad(at),
         Members::From(first) => first,
     };
-    let run = fit_run(ts, at + 2, n, ms, k, j);
-    let mut e = behind(at + 2, run);
-    let mut left = n - run;
+    let run = fit_run(ts, at + 2, n, ms, k, j, depth);
+    let mut e = run.end;
+    let mut left = n - run.members;
     while 0 < left {
         let plain = plain_words(ts, e, ms, j, depth);
         if 0 < plain {

@@ -4,7 +4,8 @@ use mathlib.Core.Path.{_≡_}
 use borrow.Fn.Kinds.{In}
 use borrow.Fn.PlainCycle.{Measures, is, falls, and}
 use Rattle.test_unfit.specs.Unfit.{nextMember, inEach, fitFrom}
-use Rattle.test_unfit.proofs.Steps.{rules, loop-in, loop-run, loop-plain, loop-turn, loop-bad, loop-out}
+use Rattle.test_unfit.proofs.Steps.{rules, loop-in, loop-turn, loop-bad, loop-out}
+use Rattle.test_unfit.proofs.Runs.{run-few, loop-run}
 use Rattle.test_unfit.proofs.fit_end.Reads as fit-end
 use Rattle.test_unfit.proofs.fit_end.Kinds as fit-end-kinds
 use Rattle.test_unfit.proofs.+fit_end.Lts-fit_end as fit-end-lts
@@ -16,7 +17,6 @@ use Rattle.test_unfit.proofs.next_member.Reads as next-member-reads
 use Rattle.test_unfit.proofs.plain_words.Reads as plain-words-reads
 use Rattle.test_unfit.proofs.under_integer.Reads as under-integer-reads
 use Rattle.test_unfit.proofs.fit_run.Reads as fit-run-reads
-use Rattle.test_unfit.proofs.behind.Reads as behind-reads
 use Rattle.test_unfit.proofs.+fit_end.{statement}
 use Rattle.test_unfit.proofs.+fit_end.Tie.{close}
 
@@ -30,10 +30,10 @@ abbrev fit-end-below : ℕ → In 2 fit-end-kinds.ps
 fit-end-below t = and 2 fit-end-kinds.ps (falls 2 fit-end-kinds.ps _<_ μ-fit-end t) fit-end.Pre
 
 abbrev Inv-loop : fit-end-lts.InvT-loop
-Inv-loop s at m i depth k t n j₀ run e₀ left₀ j e left = fitFrom s m depth i at ≡ inEach (fitFrom s m (depth - 1)) (nextMember m k) left j e
+Inv-loop s at m i depth k t n j₀ e₀ left₀ j e left = fitFrom s m depth i at ≡ inEach (fitFrom s m (depth - 1)) (nextMember m k) left j e
 
 abbrev μ-loop : fit-end-lts.MeasureT-loop
-μ-loop s at m i depth k t n j₀ run e₀ left₀ j e left = left
+μ-loop s at m i depth k t n j₀ e₀ left₀ j e left = left
 
 pub +fit-end-spec : {M : Type 1} → statement M
 +fit-end-spec = close μ-fit-end λ t. fit-end-lts.spec (
@@ -49,8 +49,6 @@ pub +fit-end-spec : {M : Type 1} → statement M
   members-of-reads.Learnt,
   fit-run-reads.Asked,
   fit-run-reads.Learnt,
-  behind-reads.Asked,
-  behind-reads.Learnt,
   plain-words-reads.Asked,
   plain-words-reads.Learnt,
   next-member-reads.Asked,
@@ -75,10 +73,8 @@ pub +fit-end-spec : {M : Type 1} → statement M
     (λ c. search rules)  -- enum-known-first
     (λ c. search rules)  -- add-fit-run
     (λ c. search rules)  -- fit-run-requires
-    (λ c. search rules)  -- add-behind
-    (λ c. search rules)  -- behind-requires
-    (λ c. search rules)  -- sub-left
-    (λ c. loop-run _ _ _ _ _ _ _ _ _ _ (loop-in _ _ _ _ _ _ (c .before .before .before .before .before .before .before .before .before .before .before .before .before .tag-at .ensures) _ (c .before .before .before .before .before .before .before .before .before .before .before .tag-at2 .ensures) (c .before .before .before .before .before .before .before .before .before .before .before .before .if1 .left) (c .before .before .before .before .before .before .before .before .before .before .if2 .left) _ (c .before .before .before .before .before .before .before .before .before .opens .ensures) (c .before .before .before .before .before .before .before .before .if3 .left) (c .before .before .before .before .before .before .before .if4 .left) _ (c .before .before .before .before .before .before .tag-at3 .ensures) _ (c .before .before .before .before .before .members-of .ensures) _ (c .before .before .before .first .given .1)) (c .before .fit-run .ensures) (c .behind .ensures))  -- loop-holds
+    (λ c. search (rules, run-few))  -- sub-left
+    (λ c. loop-run _ _ _ _ _ _ _ _ (c .before .fit-run .ensures) _ (loop-in _ _ _ _ _ _ (c .before .before .before .before .before .before .before .before .before .before .before .before .before .tag-at .ensures) _ (c .before .before .before .before .before .before .before .before .before .before .before .tag-at2 .ensures) (c .before .before .before .before .before .before .before .before .before .before .before .before .if1 .left) (c .before .before .before .before .before .before .before .before .before .before .if2 .left) _ (c .before .before .before .before .before .before .before .before .before .opens .ensures) (c .before .before .before .before .before .before .before .before .if3 .left) (c .before .before .before .before .before .before .before .if4 .left) _ (c .before .before .before .before .before .before .tag-at3 .ensures) _ (c .before .before .before .before .before .members-of .ensures) _ (c .before .before .before .first .given .1)))  -- loop-holds
     (λ c. search rules)  -- plain-words-requires
     (λ c. search rules)  -- add-e
     (λ c. search rules)  -- next-member-requires
