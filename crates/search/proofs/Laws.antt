@@ -2,7 +2,7 @@
 use mathlib.Core.Path.{_≡_, refl, sym, _∙_, ap, subst}
 use mathlib.Core.Bool.{Bool, true, false}
 use mathlib.Core.List.{List}
-use Prim.Native.Nat.{ℕ, suc, _+_, _-_, _*_, _^_, _<_, _≤_}
+use Prim.Native.Nat.{ℕ, _+_, _-_, _*_, _^_, _<_, _≤_}
 use native.Mathlib.Omega.{arith}
 use borrow.Author.Tests.{eq-eqb, ne-eqb, lt-ltb, le-ltb, eqb-true, eqb-false, ltb-true, ltb-false}
 use lib.ListN.{length, getD, set}
@@ -29,7 +29,7 @@ use Rattle.search_step.specs.Steps.{Turned, turned, counted, dropped, headOf, S
 use Rattle.search_machine.specs.Operations.{opensWith}
 use Rattle.search.specs.Plain.{splitOf, divideOf, stepBy, stepOf}
 use Rattle.search_choice.specs.Choices.{pickOf, settleOf, Named, PicksIf}
-use Rattle.search.specs.Run.{Env, Run, run, goesOn, valueOf, filled, wroteTo, wrote, endBy, endOf, askOf, boundAt, asked, choicesIn, choicesOf, afterTurn, afterEnd, takeEnd, takeBind, takeStep, takeOf, settled, runOf, answerOf}
+use Rattle.search.specs.Run.{Env, Run, run, goesOn, valueOf, filled, wroteTo, wrote, Ended, ended, endBy, endOf, askOf, boundAt, asked, choicesIn, choicesOf, afterTurn, afterEnd, takeEnd, takeBind, takeStep, takeOf, settled, runOf, answerOf}
 use Rattle.search.specs.declared.Report.{Report}
 use Rattle.search.specs.Told.{reported}
 use Rattle.search.specs.Valid.{Fine, Valid, Rows}
@@ -62,8 +62,26 @@ module _ (form : Form) (s : List ℤ) (b : List Binding) (n free : ℕ) (g : Tar
   pub short-ample : n * (length s + 1) ≤ free → false ≡ ltb free (length (row form (bound s b n)))
   short-ample l = let m = row-within s b n q g form w in sym (le-ltb free (length (row form (bound s b n))) (omega arith))
 
+pub fits-short : (words long size : ℕ) → words ≤ long → (r : Bool) → r ≡ ltb (long - words) size → r ≡ false → words + size ≤ long
+fits-short words long size w r p f = let l = ltb-false (long - words) size (sym p ∙ f) in omega (arith, l, w)
+
 pub turned-path : {x y : State} {t u : Tables} → x ≡ y → t ≡ u → turned x t ≡ turned y u
 turned-path p q i = turned (p i) (q i)
+
+-- ---- A state with no atom left: its row does not fit; or it is written.
+
+module _ (form : Form) (s : List ℤ) (n : ℕ) (x : State) (b : List Binding) (room : List ℤ) (y : State) (room′ : List ℤ) where
+  pub end-full : length room - x .words < length (row form (bound s b n)) → y ≡ filled x → room′ ≡ room → ended y room′ ≡ endOf form s n x b room
+  unfolding endOf endBy when
+  end-full l p k = rw (p, k, lt-ltb _ _ l)
+
+  pub end-wrote : (w : ℕ) → length (row form (bound s b n)) ≤ length room - x .words → y ≡ wroteTo x w → w ≡ x .words + length (row form (bound s b n))
+      → room′ ≡ put room (x .words) (row form (bound s b n)) → ended y room′ ≡ endOf form s n x b room
+  unfolding endOf endBy when wrote wroteTo
+  end-wrote w l p i k = rw (p, i, k, le-ltb _ _ l)
+
+pub ended-at : (y y′ : State) (room room′ : List ℤ) → y ≡ y′ → room ≡ room′ → ended y room ≡ ended y′ room′
+ended-at y y′ room room′ p q i = ended (p i) (q i)
 
 -- ---- At the loop's head: the whole run w is what is left of it from here.
 
@@ -197,23 +215,14 @@ module _ (e : Env) (x : State) (t : Tables) (b : List Binding) (room : List ℤ)
   unfolding when
   new-binds z = a .binds ∙ rw (eq-eqb _ _ z)
 
-  -- The row does not fit; it is written; or a step is taken.
-  pub took-full : (y : State) (u : Tables) (room′ : List ℤ) → getD (e .op) (x .pc) 0 ≡ 0 → length room - x .words < length (row (e .form) (bound (e .words) b′ (e .vars)))
-      → y ≡ filled x → u ≡ t → room′ ≡ room → run y u b′ room′ ≡ takeOf e (run x t b room)
-  unfolding takeOf takeEnd endOf endBy afterEnd when
-  took-full y u room′ z l p d k =
-      let s = same-binds (λ w. omega arith) in
-      let m : length room - x .words < length (row (e .form) (bound (e .words) b (e .vars))) = rw s at l in
-      rw (p, d, k, s, eq-eqb _ _ z, lt-ltb _ _ m)
-
-  pub took-wrote : (y : State) (u : Tables) (room′ : List ℤ) (w : ℕ) → getD (e .op) (x .pc) 0 ≡ 0 → length (row (e .form) (bound (e .words) b′ (e .vars))) ≤ length room - x .words
-      → y ≡ wroteTo x w → w ≡ x .words + length (row (e .form) (bound (e .words) b′ (e .vars))) → u ≡ t → room′ ≡ put room (x .words) (row (e .form) (bound (e .words) b′ (e .vars)))
+  -- The row is taken up, or a step is taken.
+  pub took-end : (y : State) (u : Tables) (room′ : List ℤ) → getD (e .op) (x .pc) 0 ≡ 0 → ended y room′ ≡ endOf (e .form) (e .words) (e .vars) x b′ room → u ≡ t
       → run y u b′ room′ ≡ takeOf e (run x t b room)
-  unfolding takeOf takeEnd endOf endBy afterEnd when wrote wroteTo
-  took-wrote y u room′ w z l p i d k =
+  unfolding takeOf takeEnd afterEnd when
+  took-end y u room′ z p d =
       let s = same-binds (λ w. omega arith) in
-      let m : length (row (e .form) (bound (e .words) b (e .vars))) ≤ length room - x .words = rw s at l in
-      rw (p, i, d, k, s, eq-eqb _ _ z, le-ltb _ _ m)
+      let q : ended y room′ ≡ endOf (e .form) (e .words) (e .vars) x b room = rw s at p in
+      rw (d, s, eq-eqb _ _ z) (ap (λ (k : Ended). afterEnd k t b) q)
 
   stepped : Turned
   stepped = stepOf (e .op) (e .from) (e .to) (e .con) (e .words) q (choicesOf e (run x t b room)) x t

@@ -1,5 +1,5 @@
 -- A state is taken up, and then choices of a leaf: what the code of the run asks for. Assumes nothing.
-use Prim.Native.Nat.{ℕ, _+_, _-_, _*_, _^_, _<_, _≤_}
+use Prim.Native.Nat.{ℕ, _+_, _-_, _*_, _<_}
 use native.Mathlib.Omega.{arith}
 use mathlib.Core.Path.{_≡_, refl, sym, ap, subst, _∙_}
 use mathlib.Core.Logic.{_⊎_, inl, inr}
@@ -8,11 +8,11 @@ use mathlib.Core.List.{List}
 use lib.ListN.{length, getD, set}
 use lib.Seq.{getD-set-same, set-getD}
 use lib.Dec.{eqb}
-use lib.IntN.{ℤ, pos}
+use lib.IntN.{ℤ}
 use mir.Syntax.{w64}
 use mir.Val.{Fits}
 use Rattle.words.specs.Words.{entries}
-use Rattle.value_places.specs.Places.{Target, marksAt}
+use Rattle.value_places.specs.Places.{Target}
 use Rattle.value_places.specs.Held.{Held}
 use Rattle.value_places.proofs.Elements.{second}
 use Rattle.value_rows.specs.Row.{formBy, Bound, nothing}
@@ -20,14 +20,13 @@ use Rattle.value_rows.specs.declared.Binding.{Binding}
 use Rattle.tables.specs.Slot.{Tables, putLeft, viewOf, Slotted, Alone}
 use Rattle.search_atom.specs.Leaves.{when}
 use Rattle.search_step.specs.declared.State.{State}
-use Rattle.search_step.specs.Steps.{Turned}
-use Rattle.search_choice.specs.Choices.{Frame, Picks, PicksIf, pickOf}
+use Rattle.search_choice.specs.Choices.{Frame, pickOf}
 use Rattle.search_leaf.specs.Leaf.{firstOf, partOf, tallied, Took, None, Takes}
-use Rattle.search_leaf.specs.Lines.{Tested, Leafs, Looks}
-use Rattle.search_leaf.specs.declared.Tally.{Tally}
+use Rattle.search_leaf.specs.Lines.{Leafs, Looks}
+use Rattle.search_leaf.specs.declared.Bounds.{Bounds}
 use Rattle.search_leaf.proofs.Rows.{leaf-some, leaf-held}
 use Rattle.search.specs.Run.{Env, Run, run, afterTurn, takeOf, settled, runOf}
-use Rattle.search.specs.Valid.{Fine, Valid}
+use Rattle.search.specs.Valid.{Fine}
 use Rattle.search.proofs.Counts.{settled-is}
 use Rattle.search.proofs.Sweeps.{run-add, Turns}
 use Rattle.search.proofs.Laws.{Here}
@@ -89,9 +88,9 @@ module _ (e : Env) (w : Run) (budget : ℕ) (room₀ : List ℤ) (r : Run) (h : 
     leaf-number-mul v p = let k = leaf-number v p in record { fits = omega arith }
 
     -- What the choices ask.
-    pub leaf-takes : Takes (e .words) (e .con) (e .vars) i (partOf (e .op) (e .arg) (e .con) i b y u) budget b y u room
+    asks : Takes (e .words) (e .con) (e .vars) i (partOf (e .op) (e .arg) (e .con) i b y u) budget b y u room
     unfolding partOf firstOf
-    leaf-takes = record {
+    asks = record {
       some = (let t = lines .some in omega (arith, t));
       place = leaf-place;
       constant = fine .constants i leaf-place;
@@ -111,6 +110,9 @@ module _ (e : Env) (w : Run) (budget : ℕ) (room₀ : List ℤ) (r : Run) (h : 
       });
     }
 
+    pub leaf-takes : (most vars : ℕ) → most ≡ budget → vars ≡ e .vars → Takes (e .words) (e .con) vars i (partOf (e .op) (e .arg) (e .con) i b y u) most b y u room
+    leaf-takes most vars p q = rw (p, q) asks
+
     pub leaf-slotted : (slots : List ℕ) → u ≡ viewOf (e .arg) slots → Slotted (e .arg) slots (y .top - 1)
     leaf-slotted slots p = leaf-looks slots p .frame (lines .live) (lines .some)
 
@@ -124,14 +126,14 @@ module _ (e : Env) (w : Run) (budget : ℕ) (room₀ : List ℤ) (r : Run) (h : 
 
       module _ (k : Took (e .words) o (e .vars) (partOf (e .op) (e .arg) (e .con) i b y u) budget b y u room y′ u′ last room′) where
         turns : Turns e (run y u b room) (run (tallied y (k .tally)) (putLeft (y .top - 1) (k .tally .left) u) (set b (getD (e .arg) i 0) last) room′)
-        turns = leaf-turns e g o form y u b room i budget lines leaf-takes (k .words) (k .tells) (k .tally) (k .told .told) last room′ (k .told .leaf)
+        turns = leaf-turns e g o form y u b room i budget lines asks (k .words) (k .tells) (k .tally) (k .told .told) last room′ (k .told .leaf)
 
         some-left : 0 < k .tally .left
-        some-left = leaf-some (e .words) o (e .vars) _ (firstOf y u) (k .words) room g (leaf-takes .part) (k .tally) (k .told .told) last room′ (k .told .leaf)
+        some-left = leaf-some (e .words) o (e .vars) _ (firstOf y u) (k .words) room g (asks .part) (k .tally) (k .told .told) last room′ (k .told .leaf)
 
         held-left : Held (e .words) (getD (u .ats) (y .top - 1) 0) (k .tally .left)
         unfolding partOf
-        held-left = leaf-held (e .words) o (e .vars) (partOf (e .op) (e .arg) (e .con) i b y u) (firstOf y u) (k .words) room g (leaf-takes .part) (k .tally) (k .told .told) last room′ (k .told .leaf)
+        held-left = leaf-held (e .words) o (e .vars) (partOf (e .op) (e .arg) (e .con) i b y u) (firstOf y u) (k .words) room g (asks .part) (k .tally) (k .told .told) last room′ (k .told .leaf)
 
         next-frame : Frame (getD (e .op) (y .top - 1) 0) (e .words) (y .top - 1) (getD (u .ats) (y .top - 1) 0) (getD (u .wholes) (y .top - 1) 0) (k .tally .left)
         next-frame = record {
@@ -159,10 +161,16 @@ module _ (e : Env) (w : Run) (budget : ℕ) (room₀ : List ℤ) (r : Run) (h : 
           long = m .long;
         })
 
-      pub swept-leaf : None (partOf (e .op) (e .arg) (e .con) i b y u) y u room y′ u′ last room′
+      swept-either : None (partOf (e .op) (e .arg) (e .con) i b y u) y u room y′ u′ last room′
           ⊎ Took (e .words) o (e .vars) (partOf (e .op) (e .arg) (e .con) i b y u) budget b y u room y′ u′ last room′ → Swept e r budget y′ u′ (set b v last) room′
-      swept-leaf (inl n) = left-none n
-      swept-leaf (inr k) = left-some k
+      swept-either (inl n) = left-none n
+      swept-either (inr k) = left-some k
+
+    pub swept-leaf : (k : Bounds) → k .budget ≡ budget → k .shape .vars ≡ e .vars → e .form ≡ formBy (k .shape .origins)
+        → (y′ : State) (u′ : Tables) (last : Binding) (room′ : List ℤ) (v : ℕ) → v ≡ getD (e .arg) i 0 → None (partOf (e .op) (e .arg) (e .con) i b y u) y u room y′ u′ last room′
+        ⊎ Took (e .words) (k .shape .origins) (k .shape .vars) (partOf (e .op) (e .arg) (e .con) i b y u) (k .budget) b y u room y′ u′ last room′
+        → Swept e r budget y′ u′ (set b v last) room′
+    swept-leaf k p q f y′ u′ last room′ v d z = swept-either (k .shape .origins) f y′ u′ last room′ v d (rw (p, q) at z)
 
 pub swept-as : (e : Env) (r : Run) (budget : ℕ) (y y′ : State) (u u′ : Tables) (b b′ : List Binding) (room room′ : List ℤ) → y ≡ y′ → u ≡ u′ → b ≡ b′ → room ≡ room′
     → Swept e r budget y′ u′ b′ room′ → Swept e r budget y u b room

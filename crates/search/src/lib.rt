@@ -8,9 +8,9 @@ use asking::is_sum_at;
 use asking::value_of;
 use narrowing::narrow;
 use search_choice::settle;
+use search_leaf::last_of;
 use search_leaf::lines::leaf_at;
 use search_leaf::take;
-use search_leaf::told::Shape;
 use search_seek::asked::asked_at;
 use search_seek::asked::pass;
 use search_step::Asked;
@@ -31,17 +31,15 @@ use tables::place::Places;
 use tables::place::no_places;
 use tables::slot::Slots;
 use tables::slot::no_slots;
-use taking::filled;
+use taking::bounds_of;
 use taking::goes_on;
-use taking::is_short;
-use taking::wrote;
+use taking::take_end;
 use value_firsts::fresh::fresh_places;
 use value_places::places::places_of;
 use value_places::places::whole;
 use value_rows::Binding;
 use value_rows::Bindings;
 use value_rows::VARIABLES;
-use value_rows::put_entry;
 ghost use mathlib.Core.Path.{_≡_};
 ghost use Prim.Native.Nat.{_-_, _<_};
 ghost use lib.ListN.{length};
@@ -91,32 +89,19 @@ pub fn advance(
         let o = op_at(lines, x.pc);
         let mut same = false;
         if DROP < o {
+            let v = arg_at(lines, x.pc);
             if o == SUM {
-                let v = arg_at(lines, x.pc);
                 same = is_sum_at(x, b[v], s, lines);
             } else if o < SUM {
                 if o == BIND {
-                    let v = arg_at(lines, x.pc);
                     b[v] = value_of(x);
                 }
             } else if o < NIL {
-                let v = arg_at(lines, x.pc);
                 same = is_equal_at(x, b[v], mt, s, places, lines);
             }
         }
         if o == END {
-            let mut e = x.words;
-            if is_short(terms, b, room.len() - e, s, places) {
-                x = filled(x);
-            } else {
-                let mut v: usize = 0;
-                while v < terms.vars {
-                    let y = b[v];
-                    e = put_entry(terms.origins, s, places, y.at, y.marks, room, e);
-                    v += 1;
-                }
-                x = wrote(x, e);
-            }
+            x = take_end(x, b, terms, s, places, room);
         } else {
             x = x.step(Asked { same: same }, s, places, lines, slots);
             if o == MULTISET_CONS {
@@ -129,15 +114,9 @@ pub fn advance(
                 }
                 let i = leaf_at(x, lines, slots);
                 if 0 < i {
-                    let v = arg_at(lines, i);
-                    let shape = Shape {
-                        vars: terms.vars,
-                        origins: terms.origins,
-                    };
-                    let r = take(x, i, b, terms.budget, shape, s, places, lines, slots, room);
+                    let r = take(x, i, b, bounds_of(terms), s, places, lines, slots, room);
                     x = r.state;
-                    let last = r.last;
-                    b[v] = last;
+                    b[arg_at(lines, i)] = last_of(r);
                 }
             }
         }

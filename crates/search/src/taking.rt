@@ -1,11 +1,14 @@
 // Document 01, section 4: whether a state is taken up; one with no atom left, whose row is written or does not fit.
 use crate::Terms;
+use search_leaf::Bounds;
+use search_leaf::told::Shape;
 use search_step::CHOOSES;
 use search_step::FULL;
 use search_step::STANDS;
 use search_step::State;
 use tables::place::Places;
 use value_rows::Bindings;
+use value_rows::put_entry;
 use value_rows::row_size;
 ghost use mathlib.Core.Path.{_≡_};
 ghost use Prim.Native.Nat.{_+_, _^_, _<_};
@@ -14,8 +17,8 @@ ghost use lib.Dec.{ltb};
 ghost use Rattle.rules.specs.Rows.{row};
 ghost use Rattle.value_rows.specs.Row.{formBy, bound, Bound};
 ghost use Rattle.search_step.specs.Steps.{counted, lived};
-ghost use Rattle.search.specs.Run.{goesOn, filled, wroteTo};
-ghost use Rattle.search.specs.Valid.{Given};
+ghost use Rattle.search.specs.Run.{goesOn, filled, wroteTo, endOf, ended};
+ghost use Rattle.search.specs.Valid.{Given, Rows};
 
 // Whether a state stands, and the budget is not used up.
 pub fn goes_on(x: State, budget: u64) -> bool
@@ -25,6 +28,20 @@ pub fn goes_on(x: State, budget: u64) -> bool
         return x.steps < budget;
     }
     false
+}
+
+// What the choices of a leaf keep to.
+pub fn bounds_of(terms: Terms) -> Bounds
+    ensures { λ r. ⌜ r .budget ≡ terms .budget ⌝ ∗ ⌜ r .shape .vars ≡ terms .vars ⌝ ∗ ⌜ r .shape .origins ≡ terms .origins ⌝ }
+{
+    let shape = Shape {
+        vars: terms.vars,
+        origins: terms.origins,
+    };
+    Bounds {
+        budget: terms.budget,
+        shape: shape,
+    }
 }
 
 // Whether a row does not fit into the words that are free. Its size is asked only where it could be so: no value has more words than the target.
@@ -65,4 +82,29 @@ pub fn wrote(mut x: State, end: usize) -> State
     x.words = end;
     x.rows = x.rows + 1;
     ended(x, CHOOSES)
+}
+
+// Takes up a state with no atom left: its row is written, unless it does not fit.
+pub fn take_end(
+    x: State,
+    b: Bindings,
+    terms: Terms,
+    s: &[i32],
+    places: &Places,
+    room: &mut [i32],
+) -> State
+    requires { ⌜ Given (now s) (now places) ⌝ ∗ ⌜ 0 < length (now s) ⌝ ∗ ⌜ Rows (now s) b (terms .vars) x (now room) ⌝ }
+    ensures { λ r. ⌜ ended r (now (room .exit)) ≡ endOf (formBy (terms .origins)) (now (s .entry)) (terms .vars) x b (now (room .entry)) ⌝ }
+{
+    let mut e = x.words;
+    if is_short(terms, b, room.len() - e, s, places) {
+        return filled(x);
+    }
+    let mut v: usize = 0;
+    while v < terms.vars {
+        let y = b[v];
+        e = put_entry(terms.origins, s, places, y.at, y.marks, room, e);
+        v += 1;
+    }
+    wrote(x, e)
 }

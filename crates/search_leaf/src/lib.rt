@@ -188,26 +188,37 @@ pub struct Leaves {
     pub last: Binding,
 }
 
+pub fn last_of(r: Leaves) -> Binding
+    ensures { λ y. ⌜ y ≡ r .last ⌝ }
+{
+    r.last
+}
+
+// What choices keep to: the most steps, and the shape of a row.
+pub struct Bounds {
+    pub budget: u64,
+    pub shape: Shape,
+}
+
 // The choices of the last open frame but the last are taken up; i: the line at which the first part is tested or bound.
 pub fn take(
     mut x: State,
     i: usize,
     b: Bindings,
-    budget: u64,
-    shape: Shape,
+    by: Bounds,
     s: &[i32],
     places: &Places,
     lines: &Lines,
     slots: &mut Slots,
     room: &mut [i32],
 ) -> Leaves
-    requires { ⌜ Target (now s) ⌝ ∗ ⌜ Placed (now s) (now places) ⌝ ∗ ⌜ Takes (now s) (columnsOf (now lines) .con) (shape .vars) i (partOf (columnsOf (now lines) .op) (columnsOf (now lines) .arg) (columnsOf (now lines) .con) i b x (viewOf (columnsOf (now lines) .arg) (now slots))) budget b x (viewOf (columnsOf (now lines) .arg) (now slots)) (now room) ⌝ ∗ ⌜ Slotted (columnsOf (now lines) .arg) (now slots) (x .top - 1) ⌝ ∗ ⌜ Alone (columnsOf (now lines) .arg) (x .top - 1) ⌝ }
-    ensures { λ r. ⌜ None (partOf (columnsOf (now (lines .entry)) .op) (columnsOf (now (lines .entry)) .arg) (columnsOf (now (lines .entry)) .con) i b x (viewOf (columnsOf (now (lines .entry)) .arg) (now (slots .entry)))) x (viewOf (columnsOf (now (lines .entry)) .arg) (now (slots .entry))) (now (room .entry)) (r .state) (viewOf (columnsOf (now (lines .entry)) .arg) (now (slots .exit))) (r .last) (now (room .exit)) ⊎ Took (now (s .entry)) (shape .origins) (shape .vars) (partOf (columnsOf (now (lines .entry)) .op) (columnsOf (now (lines .entry)) .arg) (columnsOf (now (lines .entry)) .con) i b x (viewOf (columnsOf (now (lines .entry)) .arg) (now (slots .entry)))) budget b x (viewOf (columnsOf (now (lines .entry)) .arg) (now (slots .entry))) (now (room .entry)) (r .state) (viewOf (columnsOf (now (lines .entry)) .arg) (now (slots .exit))) (r .last) (now (room .exit)) ⌝ }
+    requires { ⌜ Target (now s) ⌝ ∗ ⌜ Placed (now s) (now places) ⌝ ∗ ⌜ Takes (now s) (columnsOf (now lines) .con) (by .shape .vars) i (partOf (columnsOf (now lines) .op) (columnsOf (now lines) .arg) (columnsOf (now lines) .con) i b x (viewOf (columnsOf (now lines) .arg) (now slots))) (by .budget) b x (viewOf (columnsOf (now lines) .arg) (now slots)) (now room) ⌝ ∗ ⌜ Slotted (columnsOf (now lines) .arg) (now slots) (x .top - 1) ⌝ ∗ ⌜ Alone (columnsOf (now lines) .arg) (x .top - 1) ⌝ }
+    ensures { λ r. ⌜ None (partOf (columnsOf (now (lines .entry)) .op) (columnsOf (now (lines .entry)) .arg) (columnsOf (now (lines .entry)) .con) i b x (viewOf (columnsOf (now (lines .entry)) .arg) (now (slots .entry)))) x (viewOf (columnsOf (now (lines .entry)) .arg) (now (slots .entry))) (now (room .entry)) (r .state) (viewOf (columnsOf (now (lines .entry)) .arg) (now (slots .exit))) (r .last) (now (room .exit)) ⊎ Took (now (s .entry)) (by .shape .origins) (by .shape .vars) (partOf (columnsOf (now (lines .entry)) .op) (columnsOf (now (lines .entry)) .arg) (columnsOf (now (lines .entry)) .con) i b x (viewOf (columnsOf (now (lines .entry)) .arg) (now (slots .entry)))) (by .budget) b x (viewOf (columnsOf (now (lines .entry)) .arg) (now (slots .entry))) (now (room .entry)) (r .state) (viewOf (columnsOf (now (lines .entry)) .arg) (now (slots .exit))) (r .last) (now (room .exit)) ⌝ }
 {
     let o = op_at(lines, i);
     let v = arg_at(lines, i);
     let mut words = [0i32; VARIABLES];
-    let told = told_of(shape, b, v, but_of(o, v), s, &mut words);
+    let told = told_of(by.shape, b, v, but_of(o, v), s, &mut words);
     let y = told.value;
     if !told.all {
         return Leaves { state: x, last: y };
@@ -230,9 +241,9 @@ pub fn take(
     let mut t = first;
     let mut last = y;
     if o == SUM {
-        t = take_sums(first, part, budget, shape, &words, s, places, room);
+        t = take_sums(first, part, by.budget, by.shape, &words, s, places, room);
     } else {
-        let r = take_all(first, part, budget, shape, words, s, places, room);
+        let r = take_all(first, part, by.budget, by.shape, words, s, places, room);
         t = r.tally;
         last = r.last;
     }
