@@ -14,7 +14,7 @@ use Rattle.words.proofs.Signed.{getD-any}
 use Rattle.words.specs.Marked.{nth}
 use Rattle.value_places.specs.Places.{firsts, node, forest, headOf, valueAt, elements, countBy, countAt, Target, Tag, Standing, hops, elementAt}
 use Rattle.forms.specs.Written.{length-words}
-use Rattle.value_places.proofs.Forest.{Here, here, is-here, hop-none, hop-one, standing-tag, standing-next}
+use Rattle.value_places.proofs.Forest.{Here, here, is-here, hop-none, hop-one, standing-less, standing-tag, standing-next}
 
 count-firsts : (n : ℕ) (vs : Values) → count (firsts n vs) ≤ count vs
 unfolding firsts count
@@ -169,7 +169,7 @@ module _ (s : List ℤ) (at : ℕ) (g : Target s) (w : Tag s at) where
 place-tag : (s : List ℤ) (j k e : ℕ) → Target s → Standing s k e → j < k → Tag s (hops s j e)
 place-tag s zero k e g r h = rw (sym (hop-none s zero e (omega arith))) (standing-tag s k e g r (omega arith))
 place-tag s (suc j) k e g r h =
-    let x : Standing s (suc j) e = record { even = r .even; some = omega (arith, r .some) } in
+    let x = standing-less s k (suc j) e r (omega arith) in
     let p : suc j - 1 ≡ j = omega arith in
     rw (hop-one s (suc j) e g x (omega arith), p) (place-tag s j (k - 1) (e + size (valueAt s e)) g (standing-next s k e g r (omega arith)) (omega arith))
 
@@ -180,7 +180,7 @@ place-value s zero k e g r h =
     rw (sym (hop-none s zero e (omega arith)), w .more)
 place-value s (suc j) k e g r h =
     let w = here s e g (r .even) (omega (arith, r .some)) in
-    let x : Standing s (suc j) e = record { even = r .even; some = omega (arith, r .some) } in
+    let x = standing-less s k (suc j) e r (omega arith) in
     let p : suc j - 1 ≡ j = omega arith in
     rw (hop-one s (suc j) e g x (omega arith), p, w .more) (place-value s j (k - 1) (e + size (valueAt s e)) g (standing-next s k e g r (omega arith)) (omega arith))
 

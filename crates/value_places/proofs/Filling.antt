@@ -1,44 +1,33 @@
--- The places of elements, as the code asks: of one collection, of all, and one element found. Assumes nothing.
-use mathlib.Core.Path.{_≡_, refl, _∙_, ap}
+-- The places of values, as the code asks: of values that stand one after the other, of all elements and parts, and one found. Assumes nothing.
+use mathlib.Core.Path.{_≡_, _∙_, ap}
 use mathlib.Core.List.{List}
-use Prim.Native.Nat.{ℕ, zero, suc, _+_, _-_, _*_, _/_, _%_, _<_, _≤_}
-use native.Mathlib.Decide.{decLt, ℕ-discrete}
+use Prim.Native.Nat.{ℕ, zero, suc, _+_, _-_, _/_, _%_, _<_, _≤_}
+use native.Mathlib.Decide.{decLt}
 use native.Mathlib.Omega.{arith}
 use borrow.Author.Needs.{needs}
-use lib.ListN.{length, getD, drop, set, length-set, length-drop}
-use lib.Seq.{getD-set-same, getD-set-other}
+use lib.ListN.{length, getD, drop, set, length-set}
+use lib.Seq.{drop-length, getD-set-same, getD-set-other}
 use lib.IntN.{ℤ, negsuc}
 use mir.Syntax.{w64}
 use mir.Val.{Fits}
-use Rattle.rules.specs.Forms.{collection, Values, empty, _▸_, count, size, sizeAll}
+use Rattle.rules.specs.Forms.{Values, empty, _▸_, count, size}
 use Rattle.words.specs.Words.{tagZ, tagAt}
-use Rattle.words.proofs.Signed.{inside}
-use Rattle.tables.specs.Place.{Sections, sectionsOf, Whole, putBase, putPlace}
-use Rattle.tables.specs.PlaceLaws.{base-whole, place-whole}
-use Rattle.value_places.specs.Places.{lasts, node, forest, valueAt, countBy, countAt, Target, Tag, Standing, elementAt}
-use Rattle.value_places.specs.Tables.{Ends, Filled, PlacesTo, Placed}
-use Rattle.forms.specs.Written.{length-words-all}
-use Rattle.value_places.proofs.Forest.{flat-at, two-words, hop-none, hop-more, standing-tag, standing-next}
-use Rattle.value_places.proofs.Elements.{second, forest-at, standing-at}
+use Rattle.tables.specs.Place.{Sections, sectionsOf, Whole, putEnd, putBase, putPlace}
+use Rattle.tables.specs.PlaceLaws.{end-whole, place-whole}
+use Rattle.value_places.specs.Places.{lasts, node, forest, valueAt, countBy, countAt, Target, Tag, Standing, hops, elementAt}
+use Rattle.value_places.specs.Tables.{EndsFrom, Ends, Filled, PlacesFrom, Placed}
+use Rattle.value_places.proofs.Forest.{even-length, hop-none, hop-after, hop-more, standing-less, standing-tag, standing-next}
+use Rattle.value_places.proofs.Elements.{forest-at, standing-at}
 use Rattle.value_places.proofs.Counting.{tag-half}
+use Rattle.value_places.proofs.Ends.{ends-done, ends-base, ends-tag, ends-in, ends-from, one-more, ends-standing, ends-none, ends-small, ends-turn}
 
--- ---- The places of one collection's elements.
+-- ---- The places of values that stand one after the other.
 
-pub fill-none : (s : List ℤ) (at from : ℕ) (x : Sections) → Filled s at (from - from) from x x
-fill-none s at from x = record { ends = refl; bases = refl; long = refl; below = λ j h. refl; written = λ k h. absurd (omega arith) }
+pub fill-from : (s : List ℤ) (at from : ℕ) → at ≡ hops s (from - from) at
+fill-from s at from = hop-none s (from - from) at (omega arith)
 
-pub fill-from : (s : List ℤ) (at from : ℕ) → at + 2 ≡ elementAt s at (from - from)
-unfolding elementAt
-fill-from s at from = hop-none s (from - from) (at + 2) (omega arith)
-
-pub fill-standing : (s : List ℤ) (at n : ℕ) → Target s → Tag s at → n ≡ countAt s at → Standing s n (at + 2)
-fill-standing s at n g w d = standing-at s at g w n (omega arith)
-
-pub fill-next : (s : List ℤ) (at : ℕ) → Target s → Tag s at → Fits w64 (at + 2)
-fill-next s at g w = let l = g .short in let h = w .inside in record { fits = omega arith }
-
-module _ (s : List ℤ) (old new : Sections) (at from n o e left : ℕ) (g : Target s) (q : Ends s (old .ends)) (w : Tag s at) (c : n ≡ countAt s at)
-    (r : Standing s left e) (h : 0 < left) (i : e ≡ elementAt s at (o - from)) (l : from ≤ o) (z : o + left ≡ from + n) where
+module _ (s : List ℤ) (old new : Sections) (at from n o e left : ℕ) (g : Target s) (q : EndsFrom s (old .ends) at) (w : Standing s n at)
+    (r : Standing s left e) (h : 0 < left) (i : e ≡ hops s (o - from) at) (l : from ≤ o) (z : o + left ≡ from + n) where
   here-tag : Tag s e
   here-tag = standing-tag s left e g r h
 
@@ -48,24 +37,21 @@ module _ (s : List ℤ) (old new : Sections) (at from n o e left : ℕ) (g : Tar
   pub fill-small : e < 65536
   fill-small = let y = g .short in omega (arith, here-tag .inside)
 
-  pub fill-in : from + n ≤ 512 → o < 512
-  fill-in b = omega arith
-
   module _ (f : Filled s at (o - from) from old new) (next : Sections) (p : next ≡ putPlace o e new) where
     module _ (x : ℕ) (d : x ≡ getD (next .ends) (e / 2) 0) where
       fill-end : x ≡ e + size (valueAt s e)
       unfolding putPlace
-      fill-end = d ∙ ap (λ (y : Sections). getD (y .ends) (e / 2) 0) p ∙ ap (λ l. getD l (e / 2) 0) (f .ends) ∙ q .are e here-tag
+      fill-end =
+          d ∙ ap (λ (y : Sections). getD (y .ends) (e / 2) 0) p ∙ ap (λ l. getD l (e / 2) 0) (f .ends)
+          ∙ q .are e here-tag (omega (arith, i, hop-after s (o - from) at))
 
       pub fill-next-standing : Standing s (left - 1) x
       fill-next-standing = rw fill-end (standing-next s left e g r h)
 
-      pub fill-next-element : x ≡ elementAt s at (o + 1 - from)
-      unfolding elementAt
-      fill-next-element =
+      pub fill-next-hops : x ≡ hops s (o + 1 - from) at
+      fill-next-hops =
           let p : o + 1 - from ≡ suc (o - from) = omega arith in
-          let y = standing-at s at g w (suc (o - from)) (omega arith) in
-          fill-end ∙ rw (p, hop-more s (o - from) (at + 2) g y, i)
+          fill-end ∙ rw (p, hop-more s (o - from) at g (standing-less s n (suc (o - from)) at w (omega arith)), i)
 
     pub fill-turn : Whole new → from + n ≤ 512 → Filled s at (o + 1 - from) from old next
     unfolding putPlace
@@ -75,21 +61,32 @@ module _ (s : List ℤ) (old new : Sections) (at from n o e left : ℕ) (g : Tar
       long = length-set (new .places) o e ∙ f .long;
       below = λ a k. getD-set-other (new .places) o a e 0 (λ y. omega arith) ∙ f .below a k;
       written = λ k m. go k m u (decLt k (o - from));
+      above = λ a k. getD-set-other (new .places) o a e 0 (λ y. omega arith) ∙ f .above a (omega arith);
     })
       where
-        go : (k : ℕ) → k < o + 1 - from → length (new .places) ≡ 512 → Dec (k < o - from) → getD (set (new .places) o e) (from + k) 0 ≡ elementAt s at k
+        go : (k : ℕ) → k < o + 1 - from → length (new .places) ≡ 512 → Dec (k < o - from) → getD (set (new .places) o e) (from + k) 0 ≡ hops s k at
         go k m u (yes y) = getD-set-other (new .places) o (from + k) e 0 (λ u. omega arith) ∙ f .written k y
         go k m u (no y) =
             let a : from + k ≡ o = omega arith in
             let b : k ≡ o - from = omega arith in
             rw (a, b) (getD-set-same (new .places) o e 0 (omega arith) ∙ i)
 
-pub fill-out : (s : List ℤ) (at from n o left : ℕ) (old new : Sections) → o + left ≡ from + n → left ≤ 0 → from ≤ o → Filled s at (o - from) from old new → Filled s at n from old new
-fill-out s at from n o left old new z h l f = let p : o - from ≡ n = omega arith in rw p at f
+module _ (s : List ℤ) (at from n o left : ℕ) (l : from ≤ o) (z : o + left ≡ from + n) (h : left ≤ 0) where
+  all-done : o - from ≡ n
+  all-done = omega arith
 
-pub ruleset fill-rules = (fill-none, fill-from, fill-standing, fill-next, fill-half, fill-small, fill-in, fill-next-standing, fill-next-element, fill-turn, fill-out, place-whole, needs)
+  pub fill-out : (e : ℕ) → e ≡ hops s (o - from) at → e ≡ hops s n at
+  fill-out e i = rw all-done at i
 
--- ---- The places of all collections' elements.
+  pub fill-all : (old new : Sections) → Filled s at (o - from) from old new → Filled s at n from old new
+  fill-all old new f = rw all-done at f
+
+pub fill-whole : (s : List ℤ) (at n from : ℕ) (old new : Sections) → Filled s at n from old new → Whole old → Whole new
+fill-whole s at n from old new f v = record { ends = ap length (f .ends) ∙ v .ends; bases = ap length (f .bases) ∙ v .bases; places = f .long ∙ v .places }
+
+pub ruleset fill-rules = (fill-from, fill-half, fill-small, fill-next-standing, fill-next-hops, fill-turn, fill-out, fill-all, place-whole, needs)
+
+-- ---- The places of the elements and parts of all values, from the right.
 
 count-lasts : (n : ℕ) (vs : Values) → n ≤ count vs → count (lasts n vs) + n ≡ count vs
 unfolding lasts count
@@ -103,110 +100,78 @@ count-node zero x vs h = omega arith
 count-node (suc zero) x vs h = omega (arith, count-lasts (tagZ x) vs h)
 count-node (suc (suc t)) x vs h = omega (arith, count-lasts (tagZ x) vs h)
 
--- a value gives way to its elements
+-- A value stands for its elements or parts.
 count-step : (s : List ℤ) (at : ℕ) → Target s → Tag s at → count (forest (drop (at + 2) s)) + 1 ≡ countAt s at + count (forest (drop at s))
 unfolding countAt tagAt
 count-step s at g w =
     rw (forest-at s at g w) (count-node (tagAt s at) (getD s (at + 1) (negsuc 0)) (forest (drop (at + 2) s)) (standing-at s at g w (countAt s at) (omega arith) .some))
 
-two-each : (vs : Values) → count vs + count vs ≤ sizeAll vs
-unfolding count sizeAll
-two-each empty = omega arith
-two-each (v ▸ vs) = omega (arith, two-each vs, two-words v)
+-- At the end of the words there are no values.
+pub from-start : (s : List ℤ) → Target s → 0 + count (forest (drop (length s) s)) + length s / 2 ≤ 512
+unfolding forest count
+from-start s g = rw (drop-length s) (let l = g .short in omega arith)
 
--- half as many values as words
-count-half : (s : List ℤ) (at : ℕ) → Target s → at % 2 ≡ 0 → count (forest (drop at s)) + count (forest (drop at s)) ≤ length s - at
-count-half s at g e = omega (arith, ap length (flat-at s at g e), length-drop at s, length-words-all (forest (drop at s)), two-each (forest (drop at s)))
+-- An end that is put leaves the places.
+pub from-end : (s : List ℤ) (at used i v : ℕ) (x y : Sections) → y ≡ putEnd i v x → PlacesFrom s x at used → PlacesFrom s y at used
+unfolding putEnd
+from-end s at used i v x y b p = rw b (record { low = p .low; are = p .are })
 
-module _ (s : List ℤ) (at used n : ℕ) (g : Target s) (e : at % 2 ≡ 0) (l : at < length s) (c : n ≡ countAt s at)
-    (u : used + count (forest s) ≡ at / 2 + count (forest (drop at s))) where
-  pub all-tag : Tag s at
-  all-tag = record { even = e; inside = l }
+module _ (s : List ℤ) (at used n : ℕ) (g : Target s) (e : at % 2 ≡ 0) (l : at ≤ length s) (h : 1 < at) (c : n ≡ countAt s (at - 2))
+    (u : used + count (forest (drop at s)) + at / 2 ≤ 512) where
+  pub from-room : used + n ≤ 512
+  from-room = let z : at - 2 + 2 ≡ at = omega arith in omega (arith, rw z at (ends-standing s at g e l h n c .some))
 
-  pub all-room : used + n ≤ 512
-  all-room = omega (arith, count-step s at g all-tag, count-half s (at + 2) g (omega arith), second s at g all-tag, g .short)
+  from-step : used + n + count (forest (drop (at - 2) s)) + (at - 2) / 2 ≤ 512
+  from-step = let z : at - 2 + 2 ≡ at = omega arith in omega (arith, rw z at (count-step s (at - 2) g (ends-tag s at g e l h)))
 
-  pub all-small : used < 65536
-  all-small = omega (arith, all-room)
+  pub from-turn : (k : ℕ) → k ≡ n → used + k + count (forest (drop (at - 2) s)) + (at - 2) / 2 ≤ 512
+  from-turn k d = rw d from-step
 
-  pub all-used : (used′ : ℕ) → used′ ≡ used + n → used′ ≤ 512
-  all-used used′ k = omega (arith, all-room)
+  module _ (z : n ≡ 0) where
+    pub from-none-turn : used + count (forest (drop (at - 2) s)) + (at - 2) / 2 ≤ 512
+    from-none-turn = omega (arith, from-step)
 
-  pub all-turn : (used′ : ℕ) → used′ ≡ used + n → used′ + count (forest s) ≡ (at + 2) / 2 + count (forest (drop (at + 2) s))
-  all-turn used′ k = omega (arith, count-step s at g all-tag)
-
-  module _ (x y z : Sections) (used′ : ℕ) (b : y ≡ putBase (at / 2) used x) (k : used′ ≡ used + n) (f : Filled s at n used y z) where
-    pub all-places : Whole x → PlacesTo s x at used → PlacesTo s z (at + 2) used′
-    unfolding putBase
-    all-places v p = record {
-      low = λ a j w l m. low′ a j w l m (ℕ-discrete a at);
-      are = λ a j w l m. are′ a j w l m (ℕ-discrete a at);
-    }
+    pub from-none : (x : Sections) → PlacesFrom s x at used → PlacesFrom s x (at - 2) used
+    from-none x p = record { low = λ a j w m o. p .low a j w (after a j w m o) o; are = λ a j w m o. p .are a j w (after a j w m o) o }
       where
-        based : (a : ℕ) → getD (z .bases) (a / 2) 0 ≡ getD (set (x .bases) (at / 2) used) (a / 2) 0
+        after : (a j : ℕ) → Tag s a → at - 2 ≤ a → j < countAt s a → at ≤ a
+        after a j = one-more s at g e l h (λ a. j < countAt s a → at ≤ a) (λ a w m o. m) (λ o. absurd (omega arith)) a
+
+  module _ (x y z : Sections) (b : y ≡ putBase ((at - 2) / 2) used x) (f : Filled s (at - 2 + 2) n used y z) where
+    pub from-some : (k : ℕ) → k ≡ n → Whole x → PlacesFrom s x at used → PlacesFrom s z (at - 2) (used + k)
+    unfolding putBase elementAt
+    from-some k i v p = rw i (record {
+      low = λ a j w m. one-more s at g e l h (λ a. j < countAt s a → getD (z .bases) (a / 2) 0 + j < used + n)
+          (λ a w m o. rw (other a m) (let d = p .low a j w m o in omega arith))
+          (λ o. rw same (omega arith))
+          a w m;
+      are = λ a j w m. one-more s at g e l h (λ a. j < countAt s a → getD (z .places) (getD (z .bases) (a / 2) 0 + j) 0 ≡ elementAt s a j)
+          (λ a w m o. rw (other a m) (below (getD (x .bases) (a / 2) 0 + j) (p .low a j w m o) ∙ p .are a j w m o))
+          (λ o. rw same (f .written j (omega arith)))
+          a w m;
+    })
+      where
+        based : (a : ℕ) → getD (z .bases) (a / 2) 0 ≡ getD (set (x .bases) ((at - 2) / 2) used) (a / 2) 0
         based a = ap (λ l. getD l (a / 2) 0) (f .bases ∙ ap (λ (t : Sections). t .bases) b)
 
-        same-base : getD (z .bases) (at / 2) 0 ≡ used
-        same-base = let l = v .bases in based at ∙ getD-set-same (x .bases) (at / 2) used 0 (omega (arith, tag-half s at g all-tag))
+        same : getD (z .bases) ((at - 2) / 2) 0 ≡ used
+        same = based (at - 2) ∙ getD-set-same (x .bases) ((at - 2) / 2) used 0 (omega (arith, v .bases, ends-in s at g e l h))
 
-        other-base : (a : ℕ) → Tag s a → (a ≡ at → ⊥) → getD (z .bases) (a / 2) 0 ≡ getD (x .bases) (a / 2) 0
-        other-base a w v = based a ∙ getD-set-other (x .bases) (at / 2) (a / 2) used 0 (λ z. v (omega (arith, w .even)))
+        other : (a : ℕ) → at ≤ a → getD (z .bases) (a / 2) 0 ≡ getD (x .bases) (a / 2) 0
+        other a m = based a ∙ getD-set-other (x .bases) ((at - 2) / 2) (a / 2) used 0 (λ y. omega arith)
 
-        low′ : (a j : ℕ) → Tag s a → a < at + 2 → j < countAt s a → Dec (a ≡ at) → getD (z .bases) (a / 2) 0 + j < used′
-        low′ a j w l m (yes v) = rw (v, same-base) (let d : j < countAt s at = rw (ap (countAt s) v) at m in omega arith)
-        low′ a j w l m (no v) = rw (other-base a w v) (let d = p .low a j w (omega (arith, w .even)) m in omega arith)
+        below : (j : ℕ) → j < used → getD (z .places) j 0 ≡ getD (x .places) j 0
+        below j m = f .below j m ∙ ap (λ (t : Sections). getD (t .places) j 0) b
 
-        are′ : (a j : ℕ) → Tag s a → a < at + 2 → j < countAt s a → Dec (a ≡ at) → getD (z .places) (getD (z .bases) (a / 2) 0 + j) 0 ≡ elementAt s a j
-        are′ a j w l m (yes v) = let d : j < countAt s at = rw (ap (countAt s) v) at m in rw (v, same-base) (f .written j (omega arith))
-        are′ a j w l m (no v) =
-            let q = p .low a j w (omega (arith, w .even)) m in
-            rw (other-base a w v)
-            (f .below (getD (x .bases) (a / 2) 0 + j) q
-            ∙ ap (λ (t : Sections). getD (t .places) (getD (x .bases) (a / 2) 0 + j) 0) b
-            ∙ p .are a j w (omega (arith, w .even)) m)
-
-    pub all-whole : Whole x → Whole z
-    unfolding putBase
-    all-whole v = let u = base-whole (at / 2) used x y b v in record {
-      ends = ap length (f .ends) ∙ u .ends;
-      bases = ap length (f .bases) ∙ u .bases;
-      places = f .long ∙ u .places;
-    }
-
-    pub all-ends : Ends s (x .ends) → Ends s (z .ends)
-    unfolding putBase
-    all-ends q = let e : z .ends ≡ x .ends = f .ends ∙ ap (λ (t : Sections). t .ends) b in rw e q
-
-pub base-ends : (s : List ℤ) (i v : ℕ) (x y : Sections) → y ≡ putBase i v x → Ends s (x .ends) → Ends s (y .ends)
-unfolding putBase
-base-ends s i v x y b q = rw b q
-
-pub all-even : (at : ℕ) → at % 2 ≡ 0 → (at + 2) % 2 ≡ 0
-all-even at e = omega arith
-
-pub all-le : (s : List ℤ) (at : ℕ) → Target s → at % 2 ≡ 0 → at < length s → at + 2 ≤ length s
-all-le s at g e l = let h = second s at g (record { even = e; inside = l }) in omega arith
-
-pub all-half : (s : List ℤ) (at : ℕ) → Target s → at % 2 ≡ 0 → at < length s → at / 2 < 512
-all-half s at g e l = tag-half s at g (record { even = e; inside = l })
-
-pub all-start : (s : List ℤ) (x : Sections) → PlacesTo s x 0 0
-all-start s x = record { low = λ a k w h c. absurd (omega arith); are = λ a k w h c. absurd (omega arith) }
-
-pub all-start-count : (s : List ℤ) → 0 + count (forest s) ≡ 0 / 2 + count (forest (drop 0 s))
-all-start-count s = refl
-
-pub all-bound : (s : List ℤ) (at used : ℕ) → Target s → at % 2 ≡ 0 → used + count (forest s) ≡ at / 2 + count (forest (drop at s)) → at ≤ length s → used ≤ 512
-all-bound s at used g e u l = omega (arith, count-half s at g e, g .short)
-
-pub all-done : (s : List ℤ) (t : List ℕ) (at used : ℕ) → Ends s (sectionsOf t .ends) → PlacesTo s (sectionsOf t) at used → length s ≤ at → used ≤ 512 → Placed s t
-all-done s t at used q p h b = record {
+pub from-done : (s : List ℤ) (t : List ℕ) (at used : ℕ) → Ends s (sectionsOf t .ends) → PlacesFrom s (sectionsOf t) at used → at ≤ 1 → at % 2 ≡ 0
+    → used + count (forest (drop at s)) + at / 2 ≤ 512 → Placed s t
+from-done s t at used q p h e u = record {
   ends = q;
-  low = λ a k w c. let i = w .inside in let d = p .low a k w (omega arith) c in omega arith;
-  are = λ a k w c. let i = w .inside in p .are a k w (omega arith) c;
+  low = λ a k w c. let d = p .low a k w (omega arith) c in omega arith;
+  are = λ a k w c. p .are a k w (omega arith) c;
 }
 
-pub ruleset all-rules = (all-tag, all-room, all-small, all-used, all-turn, all-places, all-whole, all-ends, base-ends, base-whole, all-even, all-le, all-half, all-start, all-start-count, all-bound, all-done, needs)
+pub ruleset from-rules = (even-length, ends-done, ends-base, ends-from, ends-standing, ends-none, ends-small, ends-turn, from-start, from-end, from-room, from-turn, from-none-turn, from-none, from-done, end-whole, needs)
 
 -- ---- An element found.
 

@@ -186,6 +186,14 @@ unfolding hops firsts sizeAll
 hop-none s zero e h = omega arith
 hop-none s (suc k) e h = absurd (omega arith)
 
+pub hop-after : (s : List ℤ) (k e : ℕ) → e ≤ hops s k e
+unfolding hops
+hop-after s k e = omega arith
+
+-- Fewer stand there too.
+pub standing-less : (s : List ℤ) (k j e : ℕ) → Standing s k e → j ≤ k → Standing s j e
+standing-less s k j e r h = record { even = r .even; some = omega (arith, r .some) }
+
 module _ (s : List ℤ) (k e : ℕ) (g : Target s) (r : Standing s k e) (h : 0 < k) where
   at-first : Here s e
   at-first = here s e g (r .even) (omega (arith, r .some))
@@ -213,7 +221,7 @@ pub hop-more : (s : List ℤ) (j e : ℕ) → Target s → Standing s (suc j) e 
 hop-more s zero e g r =
     hop-one s 1 e g r (omega arith) ∙ sym (hop-none s 0 (e + size (valueAt s e)) (omega arith)) ∙ ap (λ (x : ℕ). x + size (valueAt s x)) (hop-none s 0 e (omega arith))
 hop-more s (suc j) e g r =
-    let x : Standing s (suc j) e = record { even = r .even; some = omega (arith, r .some) } in
+    let x = standing-less s (suc (suc j)) (suc j) e r (omega arith) in
     let p : suc (suc j) - 1 ≡ suc j = omega arith in
     let q : suc j - 1 ≡ j = omega arith in
     let a = rw p at (hop-one s (suc (suc j)) e g r (omega arith)) in

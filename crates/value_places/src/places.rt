@@ -10,12 +10,10 @@ use words::casts::index;
 use words::marks::full;
 ghost use mathlib.Core.Path.{_≡_};
 ghost use Prim.Native.Nat.{_+_, _<_, _≤_};
-ghost use lib.ListN.{length, getD};
-ghost use Rattle.rules.specs.Forms.{size};
 ghost use Rattle.words.specs.Words.{tagAt};
 ghost use Rattle.tables.specs.Place.{sectionsOf, Whole};
-ghost use Rattle.value_places.specs.Places.{valueAt, countAt, marksAt, Target, Tag, Standing, hops, elementAt};
-ghost use Rattle.value_places.specs.Tables.{EndsFrom, Ends, Filled, Placed};
+ghost use Rattle.value_places.specs.Places.{countAt, marksAt, Target, Tag, Standing, hops, elementAt};
+ghost use Rattle.value_places.specs.Tables.{EndsFrom, Filled, Placed};
 ghost use Rattle.value_places.specs.Held.{wholeAt};
 
 // A word that is not negative, as a number.
@@ -59,40 +57,12 @@ pub fn whole(s: &[i32], at: usize) -> u64
     full(n)
 }
 
-// Where k values end that stand one after the other from an index on.
-fn hop(s: &[i32], places: &Places, from: usize, k: u32) -> usize
-    requires { ⌜ Target (now s) ⌝ ∗ ⌜ EndsFrom (now s) (sectionsOf (now places) .ends) from ⌝ ∗ ⌜ Standing (now s) k from ⌝ }
-    ensures { λ r. ⌜ r ≡ hops (now (s .entry)) k from ⌝ }
-{
-    let mut e = from;
-    let mut left = k;
-    while 0 < left {
-        e = end_at(places, e);
-        left -= 1;
-    }
-    e
-}
-
-// Where each value ends, from the right.
-fn put_ends(s: &[i32], places: &mut Places)
-    requires { ⌜ Target (now s) ⌝ ∗ ⌜ Whole (sectionsOf (now places)) ⌝ }
-    ensures { λ r. ⌜ Ends (now (s .entry)) (sectionsOf (now (places .exit)) .ends) ⌝ ∗ ⌜ Whole (sectionsOf (now (places .exit))) ⌝ }
-{
-    let mut at = s.len();
-    while 1 < at {
-        at -= 2;
-        let n = count_at(s, at);
-        let e = hop(s, places, at + 2, n);
-        put_end(places, at, e);
-    }
-}
-
-// The places of the elements or parts of one value.
+// The places of n values that stand one after the other from an index on, put from `from` on; and where the values end.
 fn fill(s: &[i32], places: &mut Places, at: usize, n: u32, from: usize) -> usize
-    requires { ⌜ Target (now s) ⌝ ∗ ⌜ Ends (now s) (sectionsOf (now places) .ends) ⌝ ∗ ⌜ Tag (now s) at ⌝ ∗ ⌜ (n ≡ countAt (now s) at) × (from + n ≤ 512) × Whole (sectionsOf (now places)) ⌝ }
-    ensures { λ r. ⌜ (r ≡ from + n) × Filled (now (s .entry)) at n from (sectionsOf (now (places .entry))) (sectionsOf (now (places .exit))) ⌝ }
+    requires { ⌜ Target (now s) ⌝ ∗ ⌜ EndsFrom (now s) (sectionsOf (now places) .ends) at ⌝ ∗ ⌜ Standing (now s) n at ⌝ ∗ ⌜ (from + n ≤ 512) × Whole (sectionsOf (now places)) ⌝ }
+    ensures { λ r. ⌜ (r ≡ hops (now (s .entry)) n at) × Filled (now (s .entry)) at n from (sectionsOf (now (places .entry))) (sectionsOf (now (places .exit))) ⌝ }
 {
-    let mut e = at + 2;
+    let mut e = at;
     let mut o = from;
     let mut left = n;
     while 0 < left {
@@ -101,31 +71,28 @@ fn fill(s: &[i32], places: &mut Places, at: usize, n: u32, from: usize) -> usize
         o += 1;
         left -= 1;
     }
-    o
+    e
 }
 
-// The places of the elements and parts of all values.
-fn fill_all(s: &[i32], places: &mut Places)
-    requires { ⌜ Target (now s) ⌝ ∗ ⌜ Ends (now s) (sectionsOf (now places) .ends) ⌝ ∗ ⌜ Whole (sectionsOf (now places)) ⌝ }
-    ensures { λ r. ⌜ Placed (now (s .entry)) (now (places .exit)) ⌝ }
-{
-    let mut at: usize = 0;
-    let mut used: usize = 0;
-    while at < s.len() {
-        let n = count_at(s, at);
-        put_base(places, at, used);
-        used = fill(s, places, at, n, used);
-        at += 2;
-    }
-}
-
-// The table of a target's values.
+// The table of a target's values. From the right, so that a value's elements or parts have their ends before it; a value that has none gets no base.
 pub fn places_of(s: &[i32], places: &mut Places)
     requires { ⌜ Target (now s) ⌝ ∗ ⌜ Whole (sectionsOf (now places)) ⌝ }
     ensures { λ r. ⌜ Placed (now (s .entry)) (now (places .exit)) ⌝ }
 {
-    put_ends(s, places);
-    fill_all(s, places);
+    let mut at = s.len();
+    let mut used: usize = 0;
+    while 1 < at {
+        at -= 2;
+        let n = count_at(s, at);
+        if n == 0 {
+            put_end(places, at, at + 2);
+        } else {
+            put_base(places, at, used);
+            let e = fill(s, places, at + 2, n, used);
+            put_end(places, at, e);
+            used += index(n);
+        }
+    }
 }
 
 // Where element k of the collection, or part k of the tuple, at an index stands.
