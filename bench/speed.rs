@@ -22,7 +22,7 @@ pub enum Per {
 }
 
 /// The deepest stack of a match call that is allowed, in bytes.
-pub const STACK_BAR: usize = 29_312;
+pub const STACK_BAR: usize = 29_440;
 
 /// The same of an advance.
 pub const ADVANCE_STACK_BAR: usize = 65_024;
@@ -67,18 +67,18 @@ pub const CASES: [Case; 12] = [
         matcher: LIST, pattern: TWICE_IN_A_LIST, target: || units(64, |k| k % 24), budget: u32::MAX },
     Case { name: "T6", about: "three of a rank, 64 in 8 ranks", bar: 220, per: Per::Step,
         matcher: MULTISET, pattern: THREE_OF_A_RANK, target: || units(64, |k| k % 8), budget: u32::MAX },
-    Case { name: "T7", about: "pairs, one kind, ranks one apart, 32", bar: 340, per: Per::Step,
+    Case { name: "T7", about: "pairs, one kind, ranks one apart, 32", bar: 320, per: Per::Step,
         matcher: PAIRS, pattern: ONE_KIND_TWO_RANKS, target: || pairs(32, |k| (k % 4, k / 4)), budget: u32::MAX },
-    Case { name: "T8", about: "pairs, no other of its kind, 32", bar: 350, per: Per::Step,
+    Case { name: "T8", about: "pairs, no other of its kind, 32", bar: 310, per: Per::Step,
         matcher: PAIRS, pattern: NO_OTHER_OF_ITS_KIND, target: || pairs(32, |k| (k % 12, k)), budget: u32::MAX },
     Case { name: "T9", about: "list: join, three conses, 64", bar: 355, per: Per::Step,
         matcher: LIST, pattern: THREE_IN_A_ROW, target: || units(64, |k| k), budget: u32::MAX },
     Case { name: "T10", about: "twelve hands of six, as multisets", bar: 1950, per: Per::Step,
         matcher: HANDS, pattern: TWO_OF_A_RANK, target: || hands(12), budget: u32::MAX },
-    Case { name: "none", about: "budget 0 on 64 units, whole call", bar: 52_700, per: Per::Call,
+    Case { name: "none", about: "budget 0 on 64 units, whole call", bar: 36_000, per: Per::Call,
         matcher: MULTISET, pattern: TWO_OF_A_RANK, target: || units(64, |_| 7), budget: 0 },
     // with some twenty for the caller's own instructions, which differ from compiler to compiler
-    Case { name: "P1", about: "two of a rank, {2 8 2}, whole call", bar: 33_200, per: Per::Call,
+    Case { name: "P1", about: "two of a rank, {2 8 2}, whole call", bar: 32_500, per: Per::Call,
         matcher: MULTISET, pattern: TWO_OF_A_RANK, target: || vec![1, 3, 0, 2, 0, 8, 0, 2], budget: u32::MAX },
 ];
 
