@@ -78,7 +78,7 @@ pub const CASES: [Case; 12] = [
     Case { name: "none", about: "budget 0 on 64 units, whole call", bar: 36_000, per: Per::Call,
         matcher: MULTISET, pattern: TWO_OF_A_RANK, target: || units(64, |_| 7), budget: 0 },
     // with some twenty for the caller's own instructions, which differ from compiler to compiler
-    Case { name: "P1", about: "two of a rank, {2 8 2}, whole call", bar: 32_500, per: Per::Call,
+    Case { name: "P1", about: "two of a rank, {2 8 2}, whole call", bar: 33_000, per: Per::Call,
         matcher: MULTISET, pattern: TWO_OF_A_RANK, target: || vec![1, 3, 0, 2, 0, 8, 0, 2], budget: u32::MAX },
 ];
 
