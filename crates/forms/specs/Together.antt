@@ -102,6 +102,8 @@ module _ (d : ℕ) (part : (at : ℕ) (ws : List ℤ) → Agree d at ws (target 
         split = t.0 ∙ ap (λ l. words g.it ++ l) a.split ∙ sym (append_assoc (words g.it) (words_all a.before) a.us);
         bad = subst (λ j. Bad d j a.us i c) (omega (arith, t.1, length-append (words g.it) (words_all a.before))) a.bad;
       }
+  row_after n at ws g e (ok h) (wrong c) a = elim a [ ]
+  row_after n at ws g e (fault i) (well us) a = elim a [ ]
 
   row_first : (n at : ℕ) (ws : List ℤ) → ((i : ℕ) (us : List ℤ) → AgreeRow d n i us (reads n i us) (looks n us))
       → (x : Verdict (Got Value)) → target d at ws ≡ x → (y : Look) → Agree d at ws x y
@@ -118,6 +120,8 @@ module _ (d : ℕ) (part : (at : ℕ) (ws : List ℤ) → Agree d at ws (target 
     split = refl;
     bad = subst (λ j. Bad d j ws i c) (omega arith) a;
   }
+  row_first n at ws next (ok g) e (wrong c) a = elim a [ ]
+  row_first n at ws next (fault i) e (well us) a = elim a [ ]
 
   row_agrees : (n at : ℕ) (ws : List ℤ) → AgreeRow d n at ws (reads n at ws) (looks n ws)
   unfolding AgreeRow times in_turn give ◌>>=◌
@@ -147,6 +151,8 @@ module _ (d : ℕ) (part : (at : ℕ) (ws : List ℤ) → Agree d at ws (target 
           spot = b.spot;
           place = omega (arith, b.place, length-append (words_all a.before) b.front);
         }
+    counted_after n at w ws e (ok h) (wrong c) a = elim a [ ]
+    counted_after n at w ws e (fault i) (well us) a = elim a [ ]
 
     counted_agrees : (at : ℕ) (ws : List ℤ)
         → Agree (suc d) at (pos t ∷ ws) ((known number >>= λ n. (λ i us. reads n i us) >>= λ vs. give (f vs)) (suc at) ws) (see c number looks ws)
@@ -201,4 +207,5 @@ value_well d at ws g e = go (target d at ws) e (value d ws) (target_agrees d at 
   where
     go : (x : Verdict (Got Value)) → x ≡ ok g → (y : Look) → Agree d at ws x y → y ≡ well g.rest
     go (ok h) q (well us) a = let r : h ≡ g = cc in ap well (a ∙ ap (λ (x : Got Value). x.rest) r)
+    go (ok h) q (wrong c) a = elim a [ ]
     go (fault i) q y a = let z : ◌≡◌ {A = ℕ} 0 1 = cc in absurd (suc-ne-zero 0 (sym z))
