@@ -10,7 +10,7 @@ use lib.Seq.{sets}
 use lib.Dec.{eqb, ltb}
 use lib.IntN.{ℤ, pos, negsuc}
 use borrow.Author.Rules.{rules}
-use borrow.Author.Tests.{eq-eqb, ne_eqb, ltb_true, ltb_false}
+use borrow.Author.Tests.{eq-eqb, ne_eqb, ltb-true, ltb-false}
 use mir.Syntax.{w16, w32}
 use mir.Val.{Fits, to_z, of_z}
 use mir.Facts.{of_z-to_z, to_z_pos, to_z-neg}
@@ -150,9 +150,9 @@ unfolding signed
 signed_is u h = by (ltb u 2147483648) refl
   where
     by : (t : Bool) → ltb u 2147483648 ≡ t → to_z w32 u ≡ elim t [ true ↦ pos u | false ↦ negsuc (4294967295 - u) ]
-    by true p = to_z_pos w32 (ltb_true u 2147483648 p)
+    by true p = to_z_pos w32 (ltb-true u 2147483648 p)
     by false p =
-        let l : 2147483648 ≤ u = ltb_false u 2147483648 p in
+        let l : 2147483648 ≤ u = ltb-false u 2147483648 p in
         let e : 4294967296 - suc (4294967295 - u) ≡ u = omega arith in
         ap (to_z w32) (sym e) ∙ to_z-neg w32 (4294967295 - u) (omega arith)
 

@@ -28,4 +28,4 @@ module _ {A : Type 0} (l : List A) (i : ℕ) (x : A) where
   pub still_long : (k : ℕ) → length l ≡ k → length (set l i x) ≡ k
   still_long k e = rw (length-set l i x) e
 
-pub ruleset rules = (falls, count_of, in_text, still_in, still_long, rules)
+pub ruleset own_rules = (falls, count_of, in_text, still_in, still_long, rules)

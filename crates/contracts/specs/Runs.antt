@@ -1,7 +1,7 @@
 -- The contracts of a run leave nothing open where it is lent as the last call left it: any two results that they allow agree, in every number and every word
 -- of the room. What crosses the border then are the numbers of one match.
 use Rattle.std.specs.Prelude.{ℕ, ◌+◌, ◌≤◌, ◌<◌, ◌≡◌, Bool, true, false, List, ◌++◌, length, take, drop, ltb, ℤ}
-use Rattle.std.proofs.Common.{arith, sym, ◌∙◌, ltb_true, ltb_false}
+use Rattle.std.proofs.Common.{arith, sym, ◌∙◌, ltb-true, ltb-false}
 use Rattle.std.proofs.Math.Path.{refl, ap}
 use Rattle.rules.specs.Services.{Matched, match_picked}
 use Rattle.run_rules.specs.Lent.{Numbers, Lent, cut, opened, advanced}
@@ -28,10 +28,10 @@ pub open_called_once : (r : Run) (form dialect : ℕ) (ms ps ts : List ℤ) (siz
 open_called_once r form dialect ms ps ts size numbers a b m n p q = go (ltb (length numbers) 24) refl
   where
     go : (x : Bool) → ltb (length numbers) 24 ≡ x → (a ≡ b) × (m ≡ n)
-    go true e = let s = p.short (ltb_true _ _ e) in let t = q.short (ltb_true _ _ e) in (s.0 ∙ sym t.0, s.1 ∙ sym t.1)
+    go true e = let s = p.short (ltb-true _ _ e) in let t = q.short (ltb-true _ _ e) in (s.0 ∙ sym t.0, s.1 ∙ sym t.1)
     go false e =
-        let s = p.starts (ltb_false _ _ e) in
-        let t = q.starts (ltb_false _ _ e) in
+        let s = p.starts (ltb-false _ _ e) in
+        let t = q.starts (ltb-false _ _ e) in
         let z = opened_once form dialect ms ps ts size s.start t.start s.opens t.opens in
         (s.is ∙ ap (λ (y : Start). both y.run y.answer) z ∙ sym t.is, s.written ∙ ap (λ (y : Start). over (bytes_of (start_numbers y)) numbers) z ∙ sym t.written)
 
@@ -64,12 +64,12 @@ module _ (r : Run) (l : Lent) (k : Kept r l) (n : ℕ) (room : List ℤ) where
     where
       go : (z : Bool) → ltb (length numbers) 48 ≡ z → (a.answer ≡ b.answer) × (x ≡ y) × (m ≡ w)
       go true e =
-          let s = p.short (ltb_true _ _ e) in
-          let t = q.short (ltb_true _ _ e) in
+          let s = p.short (ltb-true _ _ e) in
+          let t = q.short (ltb-true _ _ e) in
           (ap (λ (c : Called). c.answer) (s.0 ∙ sym t.0), s.1 ∙ sym t.1, s.2 ∙ sym t.2)
       go false e =
-          let s = advance_bytes numbers (ltb_false _ _ e) a x m p in
-          let t = advance_bytes numbers (ltb_false _ _ e) b y w q in
+          let s = advance_bytes numbers (ltb-false _ _ e) a x m p in
+          let t = advance_bytes numbers (ltb-false _ _ e) b y w q in
           (s.0 ∙ sym t.0, s.1 ∙ sym t.1, s.2 ∙ sym t.2)
 
 -- ---- After an opening and any calls: "the rows, steps and answer shall be those of one match with the portions' sum, cut at 4,294,967,295, as budget".

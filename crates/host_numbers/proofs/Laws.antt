@@ -81,4 +81,4 @@ pub long : (l m : List ℕ) (i x n : ℕ) → m ≡ put l i (digits 8 x) → n �
 unfolding put
 long l m i x n e h = let k = length-sets l i (digits 8 x) in rw e (omega arith)
 
-pub ruleset rules = (turn, written, begins, kept, three, six, long, rules)
+pub ruleset own_rules = (turn, written, begins, kept, three, six, long, rules)

@@ -7,7 +7,7 @@ use native.Mathlib.Numerals.{add-one, add-two}
 use native.Mathlib.Omega.{arith}
 use native.Mathlib.Decide.{dec_lt}
 use borrow.Author.Rules.{rules}
-use borrow.Author.Tests.{eq-eqb, ne_eqb, eqb_true, eqb-false, lt-ltb, le-ltb}
+use borrow.Author.Tests.{eq-eqb, ne_eqb, eqb-true, eqb-false, lt-ltb, le-ltb}
 use lib.Dec.{eqb}
 use lib.ListN.{length, get_or, drop, drop_of_length-le, get_or-eq_default}
 use lib.Seq.{drop-cons}
@@ -119,7 +119,7 @@ step_is ms at n h = rw (drop-cons ms at (negsuc 0) h) (go (eqb (tag_at ms at) 4)
     go : (b : Bool) → eqb (tag_at ms at) 4 ≡ b
         → elim b as (λ _. ℕ) [ true ↦ 2 + spans_wide (drop (suc at) ms) n | false ↦ 1 + spans (drop (suc at) ms) (parts_by (tag_at ms at) 0 + n) ]
         ≡ words_by (tag_at ms at) + spans (drop (at + words_by (tag_at ms at)) ms) (parts_by (tag_at ms at) (tag_at ms (at + 1)) + n)
-    go true e = let z = eqb_true (tag_at ms at) 4 e in rw (z, add-two at, add-one at, wide_is ms (suc at) n)
+    go true e = let z = eqb-true (tag_at ms at) 4 e in rw (z, add-two at, add-one at, wide_is ms (suc at) n)
     go false e = let z = eqb-false (tag_at ms at) 4 e in rw (e, add-one at, parts_same (tag_at ms at) 0 (tag_at ms (suc at)) z)
 
 -- ---- The loop.

@@ -2,7 +2,7 @@
 use mathlib.Core.Path.{◌≡◌, refl, sym, ◌∙◌, ap, ap₂}
 use mathlib.Core.List.{List, [], ◌∷◌, ◌++◌, append_assoc}
 use Prim.Native.Nat.{ℕ, zero, suc, ◌+◌, ◌-◌, ◌*◌, ◌^◌, ◌<◌, ◌≤◌}
-use native.Mathlib.Nat.{zero_add}
+use native.Mathlib.Nat.{zero-add}
 use native.Mathlib.Omega.{arith}
 use borrow.Author.Tests.{le-ltb}
 use lib.ListN.{length, get_or, drop, get_or-eq_default, length-append}
@@ -92,7 +92,7 @@ unfolding width_of IsWidth
 width_of_lem k w = rw (le-ltb 4 k w.1)
 
 one_more : (ws : List ℤ) (n : ℕ) → 1 + spans ws (0 + n) ≡ 1 + spans ws n
-one_more ws n = rw (zero_add n)
+one_more ws n = rw (zero-add n)
 
 -- n + 1 matchers over the words of one are n after it.
 mutual
@@ -106,7 +106,7 @@ mutual
   spans_words (tuple_of ms) w l n = rw (width_of_lem (countᵐ ms) w.0) (omega (arith, spans_all ms w.1 l n))
 
   pub spans_all : (ms : Matchers) → WidthsAllᵐ ms → (l : List ℤ) (n : ℕ) → spans (matcher_words_all ms ++ l) (countᵐ ms + n) ≡ length (matcher_words_all ms) + spans l n
-  spans_all no_matchers w l n = rw (zero_add n, zero_add (spans l n))
+  spans_all no_matchers w l n = rw (zero-add n, zero-add (spans l n))
   spans_all (m ▸ᵐ ms) w l n =
       let e : suc (countᵐ ms) + n ≡ suc (countᵐ ms + n) = omega arith in
       rw (append_assoc, e, spans_words m w.0 (matcher_words_all ms ++ l) (countᵐ ms + n), spans_all ms w.1 l n, length-append (matcher_words m) (matcher_words_all ms)) (omega arith)

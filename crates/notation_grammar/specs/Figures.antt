@@ -1,6 +1,6 @@
 -- Numbers in a word, plain and behind a minus, and when they are too large.
 use Rattle.std.specs.Prelude.{ℕ, zero, suc, ◌+◌, ◌-◌, ◌%◌, ◌≤◌, ◌<◌, ◌^◌, ◌≡◌, refl, Bool, true, false, not, cond, eqb, ltb, leb, T, ℤ, pos, negsuc}
-use Rattle.std.proofs.Common.{arith, mod-eq_of_lt, sym, ap, ◌∙◌, lt-ltb, le-ltb, le-leb, ltb_true, ltb_false, ltb→lt}
+use Rattle.std.proofs.Common.{arith, mod-eq_of_lt, sym, ap, ◌∙◌, lt-ltb, le-ltb, le-leb, ltb-true, ltb-false, ltb→lt}
 use Rattle.std.proofs.lemmas.Bool.{lt-leb}
 use Rattle.std.specs.Int.{w32}
 use mir.Val.{to_z, sel}
@@ -13,8 +13,8 @@ unfolding too_large in_range
 large_plain n = go (ltb n 2147483648) refl
   where
     go : (b : Bool) → ltb n 2147483648 ≡ b → leb 2147483648 n ≡ not b
-    go true e = lt-leb 2147483648 n (ltb_true n 2147483648 e)
-    go false e = le-leb 2147483648 n (ltb_false n 2147483648 e)
+    go true e = lt-leb 2147483648 n (ltb-true n 2147483648 e)
+    go false e = le-leb 2147483648 n (ltb-false n 2147483648 e)
 
 pub large_minus : (n : ℕ) → too_large 2 n ≡ not (in_range (minus' n))
 unfolding too_large in_range minus'
@@ -22,8 +22,8 @@ large_minus zero = refl
 large_minus (suc n) = go (ltb n 2147483648) refl
   where
     go : (b : Bool) → ltb n 2147483648 ≡ b → ltb 2147483648 (suc n) ≡ not b
-    go true e = let l = ltb_true n 2147483648 e in le-ltb 2147483648 (suc n) (omega arith)
-    go false e = let l = ltb_false n 2147483648 e in lt-ltb 2147483648 (suc n) (omega arith)
+    go true e = let l = ltb-true n 2147483648 e in le-ltb 2147483648 (suc n) (omega arith)
+    go false e = let l = ltb-false n 2147483648 e in lt-ltb 2147483648 (suc n) (omega arith)
 
 small : (n : ℕ) → n < 2147483648 → to_z w32 n ≡ pos n
 small n h = ap (λ b. sel b (pos n) (negsuc (2 ^ 32 - suc n))) (lt-ltb n 2147483648 h)

@@ -4,7 +4,7 @@ use Rattle.std.proofs.Common.{arith, add-one, sym, ◌∙◌, length-drop, drop_
 use Rattle.std.specs.Prelude.{◌≡◌, Bool, true, false, cond, ◌||◌, List, [], ◌∷◌, length, get_or, set, drop, eqb, ltb, leb, ℤ, pos}
 use Rattle.std.proofs.Math.Path.{refl, ap}
 use Rattle.std.proofs.Math.Option.{Option, none, some}
-use borrow.Author.Tests.{lt-ltb, le-ltb, leb_true, leb_false, eqb_true, eqb-false}
+use borrow.Author.Tests.{lt-ltb, le-ltb, leb-true, leb-false, eqb-true, eqb-false}
 use Rattle.std.proofs.Math.Seq.{slice}
 use Rattle.rules.specs.Limits.{variables_limit}
 use Rattle.notation_rules.specs.Tokens.{Cause, unknown_name, bound_twice, used_before, over_limit, Raw, TokenOf, mark, sign, binds, uses, number, wrong}

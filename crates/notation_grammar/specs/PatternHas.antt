@@ -1,6 +1,6 @@
 -- A step in the pattern of a rule, after a pattern: a sign, a comma, a bracket's end.
 use Rattle.std.specs.Prelude.{ℕ, zero, suc, ◌+◌, ◌-◌, ◌%◌, ◌≤◌, ◌<◌, ◌≡◌, Bool, length, ltb, leb, T, pos}
-use Rattle.std.proofs.Common.{arith, mod-eq_of_lt, sym, ◌∙◌, ne_eqb, le-leb, le-ltb, ltb_true, ltb_false}
+use Rattle.std.proofs.Common.{arith, mod-eq_of_lt, sym, ◌∙◌, ne_eqb, le-leb, le-ltb, ltb-true, ltb-false}
 use Rattle.std.proofs.Math.Path.{refl, ap, subst}
 use Rattle.std.proofs.Math.Bool.{true, false, cond}
 use Rattle.std.proofs.Math.Option.{Option}

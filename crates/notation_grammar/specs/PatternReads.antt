@@ -1,6 +1,6 @@
 -- A step in the pattern of a rule, after a pattern.
 use Rattle.std.specs.Prelude.{ℕ, zero, suc, ◌+◌, ◌-◌, ◌%◌, ◌≤◌, ◌<◌, ◌≡◌, Bool, cond, length, eqb, ltb, leb, T, ℤ, pos}
-use Rattle.std.proofs.Common.{arith, mod-eq_of_lt, sym, ◌∙◌, ne_eqb, le-leb, le-ltb, ltb_true, ltb_false}
+use Rattle.std.proofs.Common.{arith, mod-eq_of_lt, sym, ◌∙◌, ne_eqb, le-leb, le-ltb, ltb-true, ltb-false}
 use Rattle.std.proofs.Math.Path.{refl, ap, subst}
 use Rattle.std.proofs.Math.Bool.{true, false}
 use Rattle.std.proofs.Math.Option.{Option}
@@ -56,8 +56,8 @@ level_small anding = omega arith
 level_small oring = omega arith
 
 tighter : (k r : ℕ) (b : Bool) → k < 8 → ltb r k ≡ b → leb (k % 8) r ≡ cond b false true
-tighter k r true h e = let l = ltb_true r k e in ap (λ x. leb x r) (mod-eq_of_lt h) ∙ lt-leb k r (omega arith)
-tighter k r false h e = let l = ltb_false r k e in ap (λ x. leb x r) (mod-eq_of_lt h) ∙ le-leb k r (omega arith)
+tighter k r true h e = let l = ltb-true r k e in ap (λ x. leb x r) (mod-eq_of_lt h) ∙ lt-leb k r (omega arith)
+tighter k r false h e = let l = ltb-false r k e in ap (λ x. leb x r) (mod-eq_of_lt h) ∙ le-leb k r (omega arith)
 
 built : (s : Sign) (p q : Pattern) → (pos (sign_tag s) ∷ pattern_words p) ++ pattern_words q ≡ pattern_words (P.build s p q)
 unfolding sign_tag pattern_words P.build

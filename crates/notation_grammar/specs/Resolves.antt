@@ -2,7 +2,7 @@
 use Prim.Native.Nat.{ℕ, zero, suc, ◌+◌, ◌-◌, ◌≤◌, ◌<◌}
 use native.Mathlib.Omega.{arith}
 use Rattle.std.proofs.Math.Path.{◌≡◌, refl, ap, subst}
-use Rattle.std.proofs.Common.{sym, ◌∙◌, lt-ltb, le-ltb, le-leb, eqb_true, ltb_true, ltb_false, length-set}
+use Rattle.std.proofs.Common.{sym, ◌∙◌, lt-ltb, le-ltb, le-leb, eqb-true, ltb-true, ltb-false, length-set}
 use Rattle.std.specs.Prelude.{Bool, length, drop, set, eqb, leb, T, pos}
 use Rattle.std.proofs.Math.Bool.{true, false, cond}
 use Rattle.std.proofs.Math.Option.{Option, none, some}
@@ -108,7 +108,7 @@ module _ (text : List ℕ) (ns : Names) (g : Named' ns) (t : Token) (ts : List R
       go : (b c : Bool) → ltb ns.count 16 ≡ b → c ≡ ltb ns.count 16
           → Same text ns t (elim c as (λ _. List Resolved) [ true ↦ binds (pos (length es)) ∷ resolve (slice t.name t.to text ∷ es) ts | false ↦ wrong over_limit ∷ resolve es ts ]) ts
           (cond b (plain 21 ns.count) (plain 33 0))
-      go true true e f = new_name (ltb_true ns.count 16 e)
+      go true true e f = new_name (ltb-true ns.count 16 e)
       go true false e f = let z : ◌≡◌ {A = Bool} false true = f ∙ e in let y : ◌≡◌ {A = ℕ} 0 1 = cc in absurd (omega arith)
       go false true e f = let z : ◌≡◌ {A = Bool} true false = f ∙ e in let y : ◌≡◌ {A = ℕ} 0 1 = cc in absurd (omega arith)
       go false false e f = kept (wrong over_limit ∷ resolve es ts) 33 0 refl (omega arith) (λ e. absurd (omega arith)) refl (λ e. omega arith)

@@ -1,6 +1,6 @@
 -- A step of the code from what it stands for is a step of the notation's reader.
 use Rattle.std.specs.Prelude.{ℕ, zero, suc, ◌≤◌, ◌<◌, ◌≡◌, refl, Bool, List, [], ◌++◌, ltb, T, ℤ}
-use Rattle.std.proofs.Common.{arith, sym, ap, ltb_true, ltb_false}
+use Rattle.std.proofs.Common.{arith, sym, ap, ltb-true, ltb-false}
 use Rattle.std.proofs.Math.Path.{subst}
 use Rattle.std.proofs.Math.Bool.{true, false}
 use Rattle.std.proofs.Math.Option.{Option}
@@ -70,8 +70,8 @@ module _ (lent : List ℤ) (n : ℕ) (more : n < 16384) (k value : ℕ) where
   simulates h e z x v a = go (ltb k 24) refl
     where
       go : (b : Bool) → ltb k 24 ≡ b → Follows lent (suc n) (step_of x (tok k value)) (after v)
-      go true q = readable (ltb_true k 24 q) z x v a
-      go false q = let m = ltb_false k 24 q in from_wrong lent (suc n) x v.stack v.words v.stand k value (omega (arith, e)) h
+      go true q = readable (ltb-true k 24 q) z x v a
+      go false q = let m = ltb-false k 24 q in from_wrong lent (suc n) x v.stack v.words v.stand k value (omega (arith, e)) h
 
 -- No cause so far.
 none : {lent : List ℤ} {n place m p : ℕ} {base : List ℤ} {gs : List Wait} {item : List ℤ} {b : Bool} {v : View} → At lent n place m p base gs item b v → v.stand.cause ≡ 0

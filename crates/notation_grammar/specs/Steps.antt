@@ -1,6 +1,6 @@
 -- A step of the code from what it stands for, by the kind of the token.
 use Rattle.std.specs.Prelude.{ℕ, zero, suc, ◌+◌, ◌-◌, ◌%◌, ◌≤◌, ◌<◌, Bool, List, [], ◌∷◌, ◌++◌, length, eqb, ltb, leb, T, ℤ, pos}
-use Rattle.std.proofs.Common.{arith, sym, ◌∙◌, le-leb, ltb_true, ltb_false}
+use Rattle.std.proofs.Common.{arith, sym, ◌∙◌, le-leb, ltb-true, ltb-false}
 use Rattle.std.proofs.Math.Path.{◌≡◌, refl, ap, subst}
 use Rattle.std.proofs.Math.Bool.{true, false, not, cond}
 use Rattle.std.proofs.lemmas.Bool.{lt-leb}
@@ -163,5 +163,5 @@ module _ (ws₀ : List ℤ) (n : ℕ) {A : Type 0} (f : A → Mode) (o : Next) w
 -- A bracket has room for a part as long as it has fewer than four.
 pub roomy : (c : ℕ) (b : Bool) → ltb (suc c) 4 ≡ b → crowded_by 0 c ≡ not b
 unfolding crowded_by
-roomy c true e = let l = ltb_true (suc c) 4 e in lt-leb 3 c (omega arith)
-roomy c false e = let l = ltb_false (suc c) 4 e in le-leb 3 c (omega arith)
+roomy c true e = let l = ltb-true (suc c) 4 e in lt-leb 3 c (omega arith)
+roomy c false e = let l = ltb-false (suc c) 4 e in le-leb 3 c (omega arith)

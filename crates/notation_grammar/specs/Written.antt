@@ -1,6 +1,6 @@
 -- The text of a rule has bytes only.
 use Rattle.std.specs.Prelude.{ℕ, zero, suc, ◌+◌, ◌/◌, ◌%◌, ◌≤◌, ◌<◌, ◌≡◌, refl, Bool, true, false, ◌&&◌, ◌||◌, List, [], ◌∷◌, ◌++◌, get_or, ltb, leb, T}
-use Rattle.std.proofs.Common.{arith, mod-lt, ltb_true, ltb_false, leb→le, ltb→lt}
+use Rattle.std.proofs.Common.{arith, mod-lt, ltb-true, ltb-false, leb→le, ltb→lt}
 use Rattle.notation_rules.specs.Tokens.{consing, joining, anding, oring, Mark, underscore, hash, bang, plus, minus, comma, opening, closing, left, right, anything, integers, list_of, multiset_of, matching, by, with', Raw, mark, sign, binds, uses, number, wrong}
 use Rattle.notation_rules.specs.Letters.{last_digits, decimal, spell_mark, spell_sign, spell, joined, spaced, print_rest, print, is_letter}
 use Rattle.notation_rules.specs.LettersBack.{Lettered, Spelled, SpelledAll}
@@ -28,8 +28,8 @@ digits (suc most) n cs h a = go (ltb n 10) refl (λ l. digits most (n / 10) ((48
   where
     go : (b : Bool) → ltb n 10 ≡ b → (10 ≤ n → AllBytes (last_digits most (n / 10) ((48 + n % 10) ∷ cs)))
         → AllBytes (elim b as (λ _. List ℕ) [ true ↦ (48 + n) ∷ cs | false ↦ last_digits most (n / 10) ((48 + n % 10) ∷ cs) ])
-    go true e i = let l = ltb_true n 10 e in (omega arith, a)
-    go false e i = i (ltb_false n 10 e)
+    go true e i = let l = ltb-true n 10 e in (omega arith, a)
+    go false e i = i (ltb-false n 10 e)
 
 letter_small : (c : ℕ) → T (is_letter c) → c < 256
 unfolding is_letter

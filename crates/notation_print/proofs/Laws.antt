@@ -5,7 +5,7 @@ use mathlib.Core.List.{List, [], ◌∷◌, ◌++◌}
 use Prim.Native.Nat.{ℕ, zero, suc, ◌+◌, ◌-◌, ◌*◌, ◌/◌, ◌%◌, ◌^◌, ◌<◌, ◌≤◌}
 use native.Mathlib.Omega.{arith}
 use borrow.Author.Rules.{rules}
-use borrow.Author.Tests.{lt-ltb, le-ltb, ltb_false, eq-eqb, ne_eqb}
+use borrow.Author.Tests.{lt-ltb, le-ltb, ltb-false, eq-eqb, ne_eqb}
 use lib.Dec.{eqb, ltb}
 use lib.ListN.{length, get_or, set, length-set}
 use Rattle.notation_rules.specs.Letters.{last_digits, decimal}
@@ -94,7 +94,7 @@ digits_enough (suc k) (suc j) n cs h i = go (ltb n 10) refl (λ g. digits_enough
         → ◌≡◌ {A = List ℕ} (elim b as (λ _. List ℕ) [ true ↦ (48 + n) ∷ cs | false ↦ last_digits k (n / 10) ((48 + n % 10) ∷ cs) ])
         (elim b as (λ _. List ℕ) [ true ↦ (48 + n) ∷ cs | false ↦ last_digits j (n / 10) ((48 + n % 10) ∷ cs) ])
     go true e f = refl
-    go false e f = f (ltb_false n 10 e)
+    go false e f = f (ltb-false n 10 e)
 
 digits_behind : (k n : ℕ) (cs ds : List ℕ) → last_digits k n (cs ++ ds) ≡ last_digits k n cs ++ ds
 unfolding last_digits

@@ -1,6 +1,6 @@
 -- What a character is by the code's table is what the notation says it is.
 use Rattle.std.specs.Prelude.{ℕ, zero, suc, ◌+◌, ◌/◌, ◌%◌, ◌≤◌, ◌<◌, ◌≡◌, refl, Bool, true, false, cond, List, [], ◌∷◌, get_or, eqb, ltb, T}
-use Rattle.std.proofs.Common.{arith, subst, eqb_true}
+use Rattle.std.proofs.Common.{arith, subst, eqb-true}
 use Rattle.std.proofs.lemmas.Bool.{eqb-false}
 use Rattle.notation_rules.specs.Tokens.{Cause, unknown_sign, misplaced, cut_short, bracket_open, unknown_name, bound_twice, used_before, out_of_range, over_limit, Sign, consing, joining, anding, oring}
 use Rattle.notation_rules.specs.Tokens.{underscore, hash, bang, plus, minus, comma, opening, closing, left, right, anything, integers, list_of, multiset_of, matching, by, with'}
@@ -53,7 +53,7 @@ pick P zero s k a l h = absurd (omega arith)
 pick P (suc n) s k a l h = go (eqb s k) refl (λ m. pick P n (suc s) k a.1 m (omega arith))
   where
     go : (t : Bool) → eqb s k ≡ t → (suc s ≤ k → P k) → P k
-    go true e i = subst P (eqb_true s k e) a.0
+    go true e i = subst P (eqb-true s k e) a.0
     go false e i = let d : s ≡ k → ⊥ = eqb-false s k e in i (omega (arith, d))
 
 every : All Says 0 256

@@ -1,7 +1,7 @@
 -- The tokens that the scanner's code gives, with their places, are the notation's.
 use Prim.Native.Nat.{ℕ, zero, suc, ◌+◌, ◌-◌, ◌*◌, ◌/◌, ◌%◌, ◌≤◌, ◌<◌}
 use native.Mathlib.Omega.{arith}
-use Rattle.std.proofs.Common.{add-one, sym, subst, ◌∙◌, leb_true, leb_false, length-drop, drop-cons, take-suc, length-take-le}
+use Rattle.std.proofs.Common.{add-one, sym, subst, ◌∙◌, leb-true, leb-false, length-drop, drop-cons, take-suc, length-take-le}
 use Rattle.std.specs.Prelude.{◌≡◌, Bool, get_or, drop, take, eqb, ltb, leb, T}
 use Rattle.std.proofs.Math.Path.{refl, ap}
 use Rattle.std.proofs.Math.Bool.{true, false, cond}
@@ -251,10 +251,10 @@ module _ (text : List ℕ) (b : Code) (i c : ℕ) (cs : List ℕ) (d : drop i te
       ≡ spotted text (cond (cond l' false q) (token text b i) (scan_from text (cond q (new b c i) (on b c)) (i + 1) cs))
   unfolding after put next begun_of
   cases true true e f =
-      ap (λ ts. put ts (length text - b.from) (spots (begin (kind c)) (suc (length cs)) cs)) (no_tokens b.value (slice b.from i text) st (leb_true b.state 1 e)).0 ∙ new_same
+      ap (λ ts. put ts (length text - b.from) (spots (begin (kind c)) (suc (length cs)) cs)) (no_tokens b.value (slice b.from i text) st (leb-true b.state 1 e)).0 ∙ new_same
   cases true false e f = on_same (eqb-false (next_of b.state (char_of c)) 15 f)
   cases false true e f =
-      ends_one text b i st (spots (begin (kind c)) (suc (length cs)) cs) (leb_false b.state 1 e) (ap (spots (full []) 0) d ∙ anew 0 c cs)
+      ends_one text b i st (spots (begin (kind c)) (suc (length cs)) cs) (leb-false b.state 1 e) (ap (spots (full []) 0) d ∙ anew 0 c cs)
   cases false false e f = on_same (eqb-false (next_of b.state (char_of c)) 15 f)
 
   step_same : spots (begun_of text b i) (length text - b.from) (c ∷ cs) ≡ spotted text (scan_from text b i (c ∷ cs))
@@ -269,8 +269,8 @@ unfolding scan_from spots Bytes begun_of
 scan_spots text bytes [] b i d l st fr nm = go (leb b.state 1) refl
   where
     go : (t : Bool) → leb b.state 1 ≡ t → put (tokens (begun_of text b i)) (length text - b.from) [] ≡ spotted text (token text b i)
-    go true e = ap (λ ts. put ts (length text - b.from) []) (no_tokens b.value (slice b.from i text) st (leb_true b.state 1 e)).0 ∙ sym (ends_none text b i st (leb_true b.state 1 e))
-    go false e = ends_one text b i st [] (leb_false b.state 1 e) (ap (spots (full []) 0) d)
+    go true e = ap (λ ts. put ts (length text - b.from) []) (no_tokens b.value (slice b.from i text) st (leb-true b.state 1 e)).0 ∙ sym (ends_none text b i st (leb-true b.state 1 e))
+    go false e = ends_one text b i st [] (leb-false b.state 1 e) (ap (spots (full []) 0) d)
 scan_spots text bytes (c ∷ cs) b i d l st fr nm =
     step_same text b i c cs d l st fr nm (told c (subst (λ x. x < 256) (head_is text i c cs d l) (bytes i)))
     (λ x s f n. scan_spots text bytes cs x (i + 1) (tail_is text i c cs d l) (omega arith) s f n)

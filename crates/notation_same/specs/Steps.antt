@@ -1,6 +1,6 @@
 -- One character more: what was begun by the code's table is what was begun by the notation.
 use Rattle.std.specs.Prelude.{ℕ, zero, suc, ◌+◌, ◌*◌, ◌/◌, ◌%◌, ◌≤◌, ◌<◌, ◌≡◌, Bool, cond, get_or, eqb, ltb, leb, T}
-use Rattle.std.proofs.Common.{arith, sym, ◌∙◌, lt-ltb, le-ltb, leb_true, leb_false, ltb→lt}
+use Rattle.std.proofs.Common.{arith, sym, ◌∙◌, lt-ltb, le-ltb, leb-true, leb-false, ltb→lt}
 use Rattle.std.proofs.Math.Path.{refl, ap, subst}
 use Rattle.std.proofs.Math.Bool.{true, false}
 use Rattle.std.proofs.Math.Option.{Option, none, some}
@@ -63,8 +63,8 @@ unfolding by_digit number_of more_of
 numbers_more value c = go (ltb 2147483648 value) refl
   where
     last : (v : ℕ) → (t : Bool) → leb v 2147483648 ≡ t → ◌≡◌ {A = Option Begun} (elim t as (λ _. Option Begun) [ true ↦ some (digits v) | false ↦ some huge ]) (some (cond (ltb 2147483648 v) huge (digits v)))
-    last v true e = ap some (ap (λ t. cond t huge (digits v)) (sym (le-ltb 2147483648 v (leb_true v 2147483648 e))))
-    last v false e = ap some (ap (λ t. cond t huge (digits v)) (sym (lt-ltb 2147483648 v (leb_false v 2147483648 e))))
+    last v true e = ap some (ap (λ t. cond t huge (digits v)) (sym (le-ltb 2147483648 v (leb-true v 2147483648 e))))
+    last v false e = ap some (ap (λ t. cond t huge (digits v)) (sym (lt-ltb 2147483648 v (leb-false v 2147483648 e))))
 
     go : (t : Bool) → ltb 2147483648 value ≡ t → by_digit (cond t huge (digits value)) (c % 48) ≡ some (number_of (cond t value (value * 10 + c % 48)))
     go true e = ap some (ap (λ t. cond t huge (digits value)) (sym e))

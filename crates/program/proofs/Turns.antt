@@ -5,7 +5,7 @@ use native.Mathlib.Omega.{arith}
 use mathlib.Core.Path.{◌≡◌, refl, sym, ap, ◌∙◌}
 use mathlib.Core.Bool.{Bool, true, false, cond}
 use mathlib.Core.List.{List, [], ◌∷◌, ◌++◌}
-use borrow.Author.Tests.{eqb_true, lt-ltb, le-ltb}
+use borrow.Author.Tests.{eqb-true, lt-ltb, le-ltb}
 use lib.Dec.{eqb}
 use lib.ListN.{length, length-append, get_or, drop, set, length-set, drop_of_length-le}
 use lib.Seq.{drop-cons, drop-drop, get_or-set_other}
@@ -71,14 +71,14 @@ op_under (suc (suc (suc zero))) k l z w = go (eqb k 1) l
     go true h = absurd (omega arith)
     go false h = absurd (omega arith)
 op_under (suc (suc (suc (suc zero)))) k l z w = absurd (omega arith)
-op_under (suc (suc (suc (suc (suc zero))))) k l z w = go (eqb k 2) (eqb_true k 2) (eqb k 3) (eqb_true k 3) l
+op_under (suc (suc (suc (suc (suc zero))))) k l z w = go (eqb k 2) (eqb-true k 2) (eqb k 3) (eqb-true k 3) l
   where
     go : (a : Bool) → (a ≡ true → k ≡ 2) → (b : Bool) → (b ≡ true → k ≡ 3) → 7 < cond a 8 (cond b 9 0) → k < 2147483648
     go true f b g h = let e = f refl in omega arith
     go false f true g h = let e = g refl in omega arith
     go false f false g h = absurd (omega arith)
 op_under (suc (suc (suc (suc (suc (suc zero)))))) k l z w = absurd (z refl)
-op_under (suc (suc (suc (suc (suc (suc (suc zero))))))) k l z w = go (eqb k 4) (eqb_true k 4) l
+op_under (suc (suc (suc (suc (suc (suc (suc zero))))))) k l z w = go (eqb k 4) (eqb-true k 4) l
   where
     go : (a : Bool) → (a ≡ true → k ≡ 4) → 7 < cond a 11 0 → k < 2147483648
     go true f h = let e = f refl in omega arith

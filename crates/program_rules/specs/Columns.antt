@@ -2,7 +2,7 @@
 use Rattle.std.specs.Prelude.{ℕ, zero, suc, ◌+◌, ◌<◌, ◌≤◌, ◌≡◌, Bool, true, false, List, [], ◌∷◌, ltb, length, get_or, replicate, ℤ, pos}
 use native.Mathlib.Omega.{arith}
 use Rattle.std.proofs.Math.Path.{refl, sym, ap}
-use Rattle.std.proofs.Common.{◌∙◌, ltb_true, ltb_false, length-set, get_or-set_same, get_or-set_other}
+use Rattle.std.proofs.Common.{◌∙◌, ltb-true, ltb-false, length-set, get_or-set_same, get_or-set_other}
 use Rattle.std.proofs.lemmas.List.{length-replicate}
 use Rattle.std.proofs.Math.ListN.{get_or-eq_default}
 use Rattle.rules.specs.Services.{accepted, Rule, rule_of}
@@ -133,9 +133,9 @@ pub laid_blank : (ls : List Line) (t : Columns) → Blank t → length ls ≤ en
 laid_blank ls t b h pc = go (ltb pc (length ls)) refl
   where
     go : (s : Bool) → ltb pc (length ls) ≡ s → line_in (laid 0 ls t) pc ≡ get_or ls pc end_line
-    go true l = let e : 0 + pc ≡ pc = omega arith in rw e at (laid_line 0 ls t pc b.sized (omega arith) (ltb_true pc (length ls) l))
+    go true l = let e : 0 + pc ≡ pc = omega arith in rw e at (laid_line 0 ls t pc b.sized (omega arith) (ltb-true pc (length ls) l))
     go false l =
-        let g = ltb_false pc (length ls) l in
+        let g = ltb-false pc (length ls) l in
         laid_after 0 ls t pc (omega arith) ∙ b.ends pc ∙ sym (get_or-eq_default ls end_line g)
 
 -- ---- The slots numbered: the line at a place, with its slot's number in `arg` if it has one.

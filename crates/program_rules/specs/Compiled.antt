@@ -1,6 +1,6 @@
 -- The compiler's lines are the program of the pattern: of a rule that is accepted each line means the instruction at its place.
 use Prim.Native.Nat.{ℕ, zero, suc, ◌+◌, ◌-◌, ◌%◌, ◌<◌, ◌≤◌}
-use Rattle.std.proofs.Common.{mod-eq_of_lt, arith, sym, ◌∙◌, ltb_true, le-ltb, ne_eqb, length-append}
+use Rattle.std.proofs.Common.{mod-eq_of_lt, arith, sym, ◌∙◌, ltb-true, le-ltb, ne_eqb, length-append}
 use Rattle.std.specs.Prelude.{◌≡◌, Bool, true, false, cond, eqb, ltb, length, ℤ, pos}
 use Rattle.std.proofs.Math.Path.{refl, ap}
 use mathlib.Core.List.{List, [], ◌∷◌, ◌++◌, append_assoc}
@@ -222,7 +222,7 @@ value_means i f n c ws l m t a to = let z : n % 16 ≡ n = mod-eq_of_lt l in rw 
 no_operands : (o : ℕ) → ltb 7 o ≡ true → eqb o 11 ≡ false → operands_of o ≡ 0
 unfolding operands_of
 no_operands o l h =
-    let g = ltb_true 7 o l in
+    let g = ltb-true 7 o l in
     rw (h, le-ltb o 3 (omega arith), le-ltb o 5 (omega arith), le-ltb o 7 (omega arith))
 
 two_parts : (ms : List ℤ) (o i : ℕ) (us : List Waiting) (pc : ℕ) (ws : List ℤ) (again : ℕ → ℕ → List Waiting → ℕ → List Line) → eqb o 11 ≡ false → operands_of o ≡ 0

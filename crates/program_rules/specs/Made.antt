@@ -6,7 +6,7 @@ use Rattle.std.proofs.Math.Path.{refl}
 use Rattle.std.proofs.Common.{ap, length-append}
 use Rattle.std.proofs.Math.Bool.{true, false}
 use mathlib.Core.List.{List, [], ◌∷◌, ◌++◌}
-use borrow.Author.Tests.{eqb_true, ltb_false, lt-ltb, le-ltb, ne_eqb}
+use borrow.Author.Tests.{eqb-true, ltb-false, lt-ltb, le-ltb, ne_eqb}
 use Rattle.std.proofs.Math.Dec.{ltb}
 use Rattle.std.proofs.Math.ListN.{length}
 use Rattle.words.specs.Words.{tag_z, tag_at}
@@ -68,7 +68,7 @@ op_most t k = (op_both t k).0
 
 reserving_is : (o : ℕ) (ws : List ℤ) → (12 ≤ o → 14 ≤ o) → Reserving o (reserved_by o ws) (operands_of o) ws
 unfolding reserved_by operands_of beyond_two tag_at
-reserving_is o ws l = go (eqb o 11) (eqb_true o 11) ws
+reserving_is o ws l = go (eqb o 11) (eqb-true o 11) ws
   where
     go : (b : Bool) → (b ≡ true → o ≡ 11) → (ws : List ℤ) → Reserving o (cond b (beyond_two (tag_at ws 0)) 0) (operands_of o) ws
     go false h ws = reserving_none l
@@ -133,7 +133,7 @@ module _ (ms : List ℤ) (w : ℤ) (ws : List ℤ) (on : (s i : ℕ) (ts : List 
       go : (b : Bool) → ltb 7 o ≡ b → Made ms false 0 ts pc (w ∷ ws) (lines_from ms 0 i ts pc (w ∷ ws))
       go true l = rw (lines_split ms i w k o g x l ts pc ws) (made_divided o i (second_under ms o i) (reserving_is o ws (rw x (op_both (tag_z w) k).1))
           (on (operands_of o) (first_under o i) (waits (second_under ms o i) (slot_by o pc ts) (behind_by o (reserved_by o ws)) ∷ ts) (suc (pc + reserved_by o ws))))
-      go false l = rw (lines_leaf ms i w k o g x l ts pc ws) (strip_made k o i ts pc (ltb_false 7 o l))
+      go false l = rw (lines_leaf ms i w k o g x l ts pc ws) (strip_made k o i ts pc (ltb-false 7 o l))
 
 pub made : (ms : List ℤ) (ws : List ℤ) (s i : ℕ) (ts : List Waiting) (pc : ℕ) → Made ms false s ts pc ws (lines_from ms s i ts pc ws)
 unfolding lines_from

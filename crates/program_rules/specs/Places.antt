@@ -1,6 +1,6 @@
 -- The places that the second pass finds, in their array: as many as lines, none beyond the last, and each reads back as it was put.
 use Rattle.std.specs.Prelude.{ℕ, zero, suc, ◌+◌, ◌<◌, ◌≤◌, ◌≡◌, refl, Bool, true, false, cond, List, [], ◌∷◌, eqb, ltb, length, get_or, set, replicate}
-use Rattle.std.proofs.Common.{arith, sym, ap, ◌∙◌, ltb_true, ltb_false, length-set, get_or-set_same, get_or-set_other}
+use Rattle.std.proofs.Common.{arith, sym, ap, ◌∙◌, ltb-true, ltb-false, length-set, get_or-set_same, get_or-set_other}
 use Rattle.std.proofs.lemmas.List.{length-replicate}
 use Rattle.std.proofs.Math.ListN.{get_or-eq_default}
 use Rattle.tables.specs.declared.line.Line.{Line}
@@ -111,5 +111,5 @@ placed_zeros n xs h pc = go (ltb pc (length xs)) refl
     go true l =
         let e : 0 + pc ≡ pc = omega arith in
         let m = length-replicate {A = ℕ} n 0 in
-        rw e at (placed_at 0 xs (replicate n 0) pc (omega arith) (ltb_true pc (length xs) l))
-    go false l = let g = ltb_false pc (length xs) l in placed_after 0 xs (replicate n 0) pc (omega arith) ∙ zeros n pc ∙ sym (get_or-eq_default xs 0 g)
+        rw e at (placed_at 0 xs (replicate n 0) pc (omega arith) (ltb-true pc (length xs) l))
+    go false l = let g = ltb-false pc (length xs) l in placed_after 0 xs (replicate n 0) pc (omega arith) ∙ zeros n pc ∙ sym (get_or-eq_default xs 0 g)

@@ -1,6 +1,6 @@
 -- Laws of the numbers of slots: no two lines have the same, and every line that divides has one.
 use Rattle.std.specs.Prelude.{ℕ, zero, suc, ◌+◌, ◌-◌, ◌<◌, ◌≤◌, ◌≡◌, refl, Bool, true, false, cond, List, [], ◌∷◌, ◌++◌, eqb, ltb, length, get_or, set, ℤ, pos}
-use Rattle.std.proofs.Common.{arith, sym, ap, ◌∙◌, ltb_true, ltb_false, lt-ltb, le-ltb, ne_eqb, length-set, get_or-set_same, get_or-set_other}
+use Rattle.std.proofs.Common.{arith, sym, ap, ◌∙◌, ltb-true, ltb-false, lt-ltb, le-ltb, ne_eqb, length-set, get_or-set_same, get_or-set_other}
 use Rattle.tables.specs.declared.line.Line.{Line}
 use Rattle.program_rules.specs.Lines.{line, end_line, else_line, fi_line, cut_line, reserved_line, reserved_lines, leaf_line, Waiting, slot_of, from_by, close_line, lines_of}
 use Rattle.program_rules.specs.Link.{ops_of}
@@ -41,11 +41,11 @@ kinds : (o : ℕ) → Kinds o
 kinds o = go (ltb o 8) refl (ltb 10 o) refl (ltb o 14) refl (ltb 16 o) refl
   where
     go : (a : Bool) → ltb o 8 ≡ a → (b : Bool) → ltb 10 o ≡ b → (c : Bool) → ltb o 14 ≡ c → (d : Bool) → ltb 16 o ≡ d → Kinds o
-    go true p b q c r d s = is_low (ltb_true o 8 p)
-    go false p false q c r d s = is_parts (ltb_false o 8 p) (ltb_false 10 o q)
-    go false p true q true r d s = is_tuple (ltb_true 10 o q) (ltb_true o 14 r)
-    go false p true q false r false s = is_sides (ltb_false o 14 r) (ltb_false 16 o s)
-    go false p true q false r true s = is_high (ltb_true 16 o s)
+    go true p b q c r d s = is_low (ltb-true o 8 p)
+    go false p false q c r d s = is_parts (ltb-false o 8 p) (ltb-false 10 o q)
+    go false p true q true r d s = is_tuple (ltb-true 10 o q) (ltb-true o 14 r)
+    go false p true q false r false s = is_sides (ltb-false o 14 r) (ltb-false 16 o s)
+    go false p true q false r true s = is_high (ltb-true 16 o s)
 
 width_some : (o left : ℕ) → 8 ≤ o → o ≤ 16 → 0 < width o left
 width_some o left h l = go (kinds o)
@@ -67,8 +67,8 @@ width_one o h = go (kinds o)
     go (is_tuple k m) = let e = width_tuple o 0 k m in go_tuple (ltb o 12) refl e
       where
         go_tuple : (b : Bool) → ltb o 12 ≡ b → width o 0 ≡ o - 10 → width o 0 ≤ 1
-        go_tuple true p e = let a = ltb_true o 12 p in omega arith
-        go_tuple false p e = let a = h (ltb_false o 12 p) in absurd (omega arith)
+        go_tuple true p e = let a = ltb-true o 12 p in omega arith
+        go_tuple false p e = let a = h (ltb-false o 12 p) in absurd (omega arith)
     go (is_sides k m) = let e = width_sides o 0 k m in omega arith
     go (is_high k) = let e = width_high o 0 k in omega arith
 
@@ -82,8 +82,8 @@ first : (o left : ℕ) → First o left
 first o left = go (ltb 0 (width o left)) refl
   where
     go : (b : Bool) → ltb 0 (width o left) ≡ b → First o left
-    go true p = has (ltb_true 0 (width o left) p)
-    go false p = let a = ltb_false 0 (width o left) p in has_none (omega arith)
+    go true p = has (ltb-true 0 (width o left) p)
+    go false p = let a = ltb-false 0 (width o left) p in has_none (omega arith)
 
 at_end : (next left j : ℕ) → slot_at next left [] j ≡ 0
 unfolding slot_at
@@ -338,7 +338,7 @@ slotted_at pc next left (o ∷ os) arg n h (suc j) =
 -- Where the lines' own numbers are variables, below 16.
 module _ (os arg : List ℕ) (a : ℕ → ℕ) (is : (j : ℕ) → get_or arg j 0 ≡ over (slot_at 16 0 os j) (a j)) (low : (j : ℕ) → a j < 16) (few : slots_in 0 os ≤ 255) where
   pub number_few : (pc : ℕ) → get_or arg pc 0 < 272
-  number_few pc = go (ltb 0 (slot_at 16 0 os pc)) (ltb_true 0 _) (ltb_false 0 _)
+  number_few pc = go (ltb 0 (slot_at 16 0 os pc)) (ltb-true 0 _) (ltb-false 0 _)
     where
       go : (b : Bool) → (b ≡ true → 0 < slot_at 16 0 os pc) → (b ≡ false → slot_at 16 0 os pc ≤ 0) → get_or arg pc 0 < 272
       go true f g =
@@ -351,7 +351,7 @@ module _ (os arg : List ℕ) (a : ℕ → ℕ) (is : (j : ℕ) → get_or arg j 
       let e = over_some (slot_at 16 0 os pc) (a pc) h in
       let l = slot_low 16 0 os pc h in
       let i = is pc in
-      record { low = omega arith; few = number_few pc; only = λ j q. go j q (ltb 0 (slot_at 16 0 os j)) (ltb_true 0 _) (ltb_false 0 _) (omega arith) l }
+      record { low = omega arith; few = number_few pc; only = λ j q. go j q (ltb 0 (slot_at 16 0 os j)) (ltb-true 0 _) (ltb-false 0 _) (omega arith) l }
     where
       go : (j : ℕ) → get_or arg j 0 ≡ get_or arg pc 0 → (b : Bool) → (b ≡ true → 0 < slot_at 16 0 os j) → (b ≡ false → slot_at 16 0 os j ≤ 0)
           → get_or arg pc 0 ≡ slot_at 16 0 os pc → 16 ≤ slot_at 16 0 os pc → j ≡ pc

@@ -1,6 +1,6 @@
 -- The choices at a cons or a join: those that section 5 names by their number are the states that follow in section 4, numbered from 0.
 use Rattle.std.specs.Prelude.{ℕ, zero, suc, ◌+◌, ◌≡◌, refl, Bool, true, false, List, [], ◌∷◌, ◌++◌, map, T, leb}
-use Rattle.std.proofs.Common.{suc-ne-zero, zero_add, arith, sym, ap, ap₂, ◌∙◌, subst, ⊎_elim, leb→le, le→leb}
+use Rattle.std.proofs.Common.{suc-ne-zero, zero-add, arith, sym, ap, ap₂, ◌∙◌, subst, ⊎_elim, leb→le, le→leb}
 use Rattle.std.proofs.Math.Option.{Option, none, some}
 use mathlib.Core.List.Memᴰ
 use Rattle.std.proofs.Math.ListN.{get_elem?}
@@ -262,7 +262,7 @@ sound_two (multiset m) (collectionᵒ o vs) c i =
       c.no,
       f.0,
       refl,
-      sym (ap (λ l. get_elem? (places_from (equal m) [] 0 l) c.no) (firsts_taken o vs)) ∙ f.1 ∙ ap some (zero_add f.0),
+      sym (ap (λ l. get_elem? (places_from (equal m) [] 0 l) c.no) (firsts_taken o vs)) ∙ f.1 ∙ ap some (zero-add f.0),
       r.0,
       r.1,
     )
@@ -286,7 +286,7 @@ complete_two (multiset m) (intᵒ o x) here a b h = absurd h
 complete_two (multiset m) (collectionᵒ o vs) here a b h =
     let f = place_nth (equal m) [] 0 (map (pick_halves o) (takings vs)) h.0 h.1
     (ap (λ l. get_elem? (places_from (equal m) [] 0 l) h.0) (firsts_taken o vs) ∙ h.3) in
-    let z : f.0 ≡ h.1 = sym (f.1 ∙ zero_add f.0) in
+    let z : f.0 ≡ h.1 = sym (f.1 ∙ zero-add f.0) in
     let e : get_elem? (map (pick_halves o) (takings vs)) h.1 ≡ some (halves a (collectionᵒ o (without vs h.1))) =
     pick_nth o vs h.1 ∙ ap (λ x. opt_map (pick_halves o) (picked x (without vs h.1))) h.4 in
     record {

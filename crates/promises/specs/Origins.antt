@@ -2,7 +2,7 @@
 -- that its marks name.
 use Rattle.std.specs.Prelude.{ℕ, zero, suc, ◌+◌, ◌*◌, ◌/◌, ◌%◌, ◌^◌, ◌<◌, ◌≡◌, ◌⊎◌, length, drop, ℤ}
 use native.Mathlib.Omega.{arith}
-use Rattle.std.proofs.Common.{pow_suc, sym, ap₂, ◌∙◌, length-append, drop-drop}
+use Rattle.std.proofs.Common.{pow-suc, sym, ap₂, ◌∙◌, length-append, drop-drop}
 use Rattle.std.proofs.Math.Path.{refl, ap, subst}
 use Rattle.std.proofs.Math.Logic.{inl, inr}
 use mathlib.Core.List.{List, [], ◌∷◌, ◌++◌, append_assoc, append-nil}
@@ -69,7 +69,7 @@ unfolding remaining
 odd_marks v vs m = let p : (1 + 2 * m) % 2 ≡ 1 = omega arith in let q : (1 + 2 * m) / 2 ≡ m = omega arith in rw (p, q)
 
 twice : (k m : ℕ) → 2 ^ suc k * m ≡ 2 ^ k * (2 * m)
-twice k m = rw (pow_suc 2 k) (omega arith)
+twice k m = rw (pow-suc 2 k) (omega arith)
 
 one_more : (k m : ℕ) → 2 ^ k + 2 ^ k * (2 * m) ≡ 2 ^ k * (1 + 2 * m)
 one_more k m = omega arith

@@ -1,6 +1,6 @@
 -- The words of a row: a good way binds as many values as the pattern has variables, each a part of the target and so with no more words than the target.
 use Rattle.std.specs.Prelude.{ℕ, ◌+◌, ◌*◌, ◌≤◌, ◌≡◌, refl, Bool, true, false, ◌&&◌, List, [], ◌∷◌, ◌++◌, map, length, eqb, ℤ}
-use Rattle.std.proofs.Common.{arith, le_refl, le_trans, mul-le-mul_right, zero_add, sym, ap, ◌∙◌, subst, inl, inr, append_assoc, append-nil, length-append, eqb→eq}
+use Rattle.std.proofs.Common.{arith, le_refl, le_trans, mul-le-mul_right, zero-add, sym, ap, ◌∙◌, subst, inl, inr, append_assoc, append-nil, length-append, eqb→eq}
 use mathlib.Core.List.Memᴰ
 use Rattle.std.proofs.lemmas.List.{length-map}
 use Rattle.rules.specs.Dialects.{Dialect}
@@ -192,7 +192,7 @@ unfolding row
 row_words dialect form m p v e i =
     let r = Memᴰ.of_map (λ (t : Solution). t.bound) (solve dialect p m v []) i in
     subst (λ (d : Bindings). length (row form d) ≤ variable_tags p * widest form (size (plain v))) r.2
-    (rw zero_add at (follows_row dialect form p m v [] r.0.way r.0.bound (size (plain v)) (sound dialect p m v [] r.0 r.1) (le_refl (size (plain v)))))
+    (rw zero-add at (follows_row dialect form p m v [] r.0.way r.0.bound (size (plain v)) (sound dialect p m v [] r.0 r.1) (le_refl (size (plain v)))))
 
 -- All rows of the search.
 pub rows_words : (dialect : Dialect) (form : Form) (cap : ℕ) (m : Matcher) (p : Pattern) (v : Value) → Fine cap 0 m v

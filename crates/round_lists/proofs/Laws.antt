@@ -2,7 +2,7 @@
 use Prim.Native.Nat.{ℕ, zero, suc, ◌+◌, ◌-◌, ◌*◌, ◌^◌, ◌≤◌, ◌<◌}
 use native.Mathlib.Omega.{arith}
 use borrow.Author.Rules.{rules}
-use borrow.Author.Tests.{eqb_true, eqb-false}
+use borrow.Author.Tests.{eqb-true, eqb-false}
 use mathlib.Core.Path.{◌≡◌, refl, sym, ap, ap₂, ◌∙◌}
 use mathlib.Core.Bool.{Bool, true, false}
 use mathlib.Core.List.{List}
@@ -20,7 +20,7 @@ use Rattle.round_table.specs.Waiting.{waiting_in}
 use Rattle.round_lists.specs.Lists.{entry, waits_as, binds_as, Headed, Topped, Framed, Stored}
 
 pub by_place : (P : Type 0) (i j : ℕ) → (j ≡ i → P) → ((j ≡ i → ⊥) → P) → P
-by_place P i j f g = go (eqb j i) (eqb_true j i) (eqb-false j i)
+by_place P i j f g = go (eqb j i) (eqb-true j i) (eqb-false j i)
   where
     go : (b : Bool) → (b ≡ true → j ≡ i) → (b ≡ false → j ≡ i → ⊥) → P
     go true a b = f (a refl)
@@ -194,4 +194,4 @@ base_long r n h = omega arith
 pub same_long : (old new : List ℤ) (r n used : ℕ) (x : State) (t : Tables) (slots : List ℕ) (b : List Binding) → Stored old new r n used x t slots b → length new ≡ length old
 same_long old new r n used x t slots b s = s.long
 
-pub ruleset rules = (rules, save_none, save_there, save_done, waits_next, binds_next, few_272, head_is, long_put, head_1, head_2, head_3, top_none, top_some, stored, top_slotted, long_topped, long_saved, base_long, arith)
+pub ruleset own_rules = (rules, save_none, save_there, save_done, waits_next, binds_next, few_272, head_is, long_put, head_1, head_2, head_3, top_none, top_some, stored, top_slotted, long_topped, long_saved, base_long, arith)

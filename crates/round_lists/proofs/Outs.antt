@@ -145,4 +145,4 @@ entry_1 r n h = omega arith
 pub entry_2 : (r n : ℕ) → 825 * r + 825 ≤ n → 3 * (r * 275 + 2) + 2 < n
 entry_2 r n h = omega arith
 
-pub ruleset rules = (rules, wait_none, wait_there, wait_done, wait_next, shut_none, shut_done, shut_next, bind_none, bind_done, bind_there, bind_next, long_shut, taken_out, frame_again, entry_1, entry_2, few_272, base_long, arith)
+pub ruleset own_rules = (rules, wait_none, wait_there, wait_done, wait_next, shut_none, shut_done, shut_next, bind_none, bind_done, bind_there, bind_next, long_shut, taken_out, frame_again, entry_1, entry_2, few_272, base_long, arith)

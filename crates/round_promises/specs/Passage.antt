@@ -2,7 +2,7 @@
 -- on with what is left.
 use Prim.Native.Nat.{ℕ, zero, suc, ◌+◌, ◌-◌, ◌≤◌, ◌<◌, zero-le, suc-le-suc}
 use Rattle.std.proofs.Math.Nat.{sub-zero}
-use Rattle.std.proofs.Common.{zero_add, suc-add, add_assoc, arith, ◌∙◌, subst, inl, inr, leb→le, le→leb}
+use Rattle.std.proofs.Common.{zero-add, suc-add, add_assoc, arith, ◌∙◌, subst, inl, inr, leb→le, le→leb}
 use Rattle.std.specs.Prelude.{◌≡◌, ◌⊎◌, Bool, T, leb, ℤ}
 use Rattle.std.proofs.Math.Path.{refl, sym, ap, ap₂}
 use Rattle.std.proofs.Math.Bool.{true, false}
@@ -33,7 +33,7 @@ module _ (form : Form) where
 
   behind_none : (r : Run) → behind [] r ≡ r
   unfolding behind rows_of founds
-  behind_none r = ap₂ {C = Run} (λ a b. record { answer = r.answer; rows = a; steps = b; written = r.written }) (zero_add r.rows) (zero_add r.steps)
+  behind_none r = ap₂ {C = Run} (λ a b. record { answer = r.answer; rows = a; steps = b; written = r.written }) (zero-add r.rows) (zero-add r.steps)
 
   behind_passed : (ts : List Taken) (r : Run) → step (behind ts r) ≡ behind (passed ∷ ts) r
   unfolding behind rows_of founds step

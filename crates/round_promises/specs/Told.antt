@@ -1,6 +1,6 @@
 -- The lists of a round are the definitions': a not that is taken up whole by the budget takes up the states of the search inside it, and so does a round.
 use Prim.Native.Nat.{ℕ, zero, suc, ◌+◌, ◌-◌, ◌≤◌, ◌<◌, zero-le, suc-le-suc}
-use Rattle.std.proofs.Common.{zero_add, suc-add, not-suc-le-zero, le_of_suc-le-suc, arith, ap₂, ◌∙◌, subst, inl, inr, leb→le, le→leb}
+use Rattle.std.proofs.Common.{zero-add, suc-add, not-suc-le-zero, le_of_suc-le-suc, arith, ap₂, ◌∙◌, subst, inl, inr, leb→le, le→leb}
 use Rattle.std.proofs.Math.Nat.{sub-zero}
 use Rattle.std.specs.Prelude.{◌≡◌, ◌⊎◌, Bool, ◌||◌, T, leb}
 use Rattle.std.proofs.Math.Path.{refl, sym, ap, fun_ext}
@@ -213,7 +213,7 @@ module _ (dialect : Dialect) (form : Form) where
 
   steps_zero : (r : Run) → r ≡ steps 0 r
   unfolding steps
-  steps_zero r = ap {B = Run} (λ i. record { answer = r.answer; rows = r.rows; steps = i; written = r.written }) (sym (zero_add r.steps))
+  steps_zero r = ap {B = Run} (λ i. record { answer = r.answer; rows = r.rows; steps = i; written = r.written }) (sym (zero-add r.steps))
 
   steps_suc : (k : ℕ) (r : Run) → step (steps k r) ≡ steps (suc k) r
   unfolding steps step

@@ -3,7 +3,7 @@ use Prim.Native.Nat.{ℕ, ◌+◌, ◌-◌, ◌/◌, ◌≤◌, ◌<◌}
 use native.Mathlib.Omega.{arith}
 use native.Mathlib.Nat.{min-eq_left, min-eq_right}
 use borrow.Author.Rules.{rules}
-use borrow.Author.Tests.{ltb_true, ltb_false}
+use borrow.Author.Tests.{ltb-true, ltb-false}
 use mathlib.Core.Path.{◌≡◌, refl, sym, ap, ◌∙◌}
 use mathlib.Core.Bool.{Bool, true, false}
 use mathlib.Core.List.{List}
@@ -25,7 +25,7 @@ scan_none arg = record { lines = λ i h. absurd (omega arith); variables = omega
 
 pub scan_next : (arg : List ℕ) (pc u a v : ℕ) → Numbered arg pc u → a ≡ get_or arg pc 0 → u ≤ v → a < v → v ≤ 272 → Numbered arg (pc + 1) v
 scan_next arg pc u a v n q l m k = record {
-  lines = λ i h. go i h (ltb i pc) (ltb_true i pc) (ltb_false i pc);
+  lines = λ i h. go i h (ltb i pc) (ltb-true i pc) (ltb-false i pc);
   variables = let z = n.variables in omega arith;
   most = k;
 }

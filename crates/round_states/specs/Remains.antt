@@ -3,7 +3,7 @@ use Prim.Native.Nat.{ℕ, zero, suc, ◌+◌, ◌-◌, ◌*◌, ◌≤◌, ◌<�
 use native.Mathlib.Omega.{arith}
 use Rattle.std.specs.Prelude.{◌≡◌, ◌⊎◌, Bool, true, false, List, [], ◌∷◌, length, set, eqb, ltb, ℤ}
 use Rattle.std.proofs.Math.Path.{refl, sym, ap, ap₂, subst}
-use Rattle.std.proofs.Common.{◌∙◌, inl, inr, get_or-set_same, get_or-set_other, ltb_true, ltb_false}
+use Rattle.std.proofs.Common.{◌∙◌, inl, inr, get_or-set_same, get_or-set_other, ltb-true, ltb-false}
 use Rattle.std.proofs.Math.Logic.{⊎_elim}
 use Rattle.std.proofs.Math.Option.{Option, none, some}
 use Rattle.std.proofs.Math.ListN.{get_or, length-set}
@@ -162,7 +162,7 @@ module _ (e : Env) (R : Ruled e) (used : ℕ) (U : Used e R used) (T : ℕ → k
         )
 
     divided : Divided e R.target_is (code e R)
-    divided i h = go (ltb (instrs R.rule.pattern R.rule.matcher) i) (ltb_true _ _) (ltb_false _ _)
+    divided i h = go (ltb (instrs R.rule.pattern R.rule.matcher) i) (ltb-true _ _) (ltb-false _ _)
       where
         go : (q : Bool) → (q ≡ true → instrs R.rule.pattern R.rule.matcher < i) → (q ≡ false → i ≤ instrs R.rule.pattern R.rule.matcher)
             → Means e.matcher e.vars (line_at e i) (get_or e.to i 0) (code e R i)

@@ -1,6 +1,6 @@
 -- A rule and a target that were accepted, as the search has them: the program's lines mean the rule, and its slots are its own.
 use Rattle.std.specs.Prelude.{ℕ, suc, ◌+◌, ◌-◌, ◌≤◌, ◌<◌, refl, Bool, true, false, List, [], length, get_or, ltb, ℤ}
-use Rattle.std.proofs.Common.{arith, sym, ◌∙◌, subst, ltb_true, ltb_false}
+use Rattle.std.proofs.Common.{arith, sym, ◌∙◌, subst, ltb-true, ltb-false}
 use Rattle.std.proofs.Math.Path.{◌≡◌, ap}
 use Rattle.rules.specs.Forms.{Matcher, Value}
 use Rattle.rules.specs.Origins.{target}
@@ -62,7 +62,7 @@ module _ (e : Env) (R : Ruled e) where
   -- The instruction at a place that is no end has its line.
   pub by_line_lem : (P : Type 0) (pc : ℕ) (i : Instr) → program R.rule.matcher R.rule.pattern pc ≡ i → ((n : ℕ) → i ≡ end n → ⊥)
       → (Means e.matcher e.vars (line_at e pc) (get_or e.to pc 0) i → P) → P
-  by_line_lem P pc i h un f = go (ltb (instrs R.rule.pattern R.rule.matcher) pc) (ltb_true _ _) (ltb_false _ _)
+  by_line_lem P pc i h un f = go (ltb (instrs R.rule.pattern R.rule.matcher) pc) (ltb-true _ _) (ltb-false _ _)
     where
       go : (b : Bool) → (b ≡ true → instrs R.rule.pattern R.rule.matcher < pc) → (b ≡ false → pc ≤ instrs R.rule.pattern R.rule.matcher) → P
       go true a b = absurd (un 0 (sym h ∙ nothing_after R.rule.matcher R.rule.pattern pc (a refl)))

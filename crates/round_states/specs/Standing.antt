@@ -2,7 +2,7 @@
 use Rattle.std.specs.Prelude.{ℕ, zero, suc, ◌+◌, ◌-◌, ◌*◌, ◌≤◌, ◌<◌, ◌≡◌, ◌⊎◌, Bool, true, false, List, [], ◌∷◌, length, ltb, ℤ}
 use native.Mathlib.Omega.{arith}
 use Rattle.std.proofs.Math.Path.{refl, sym, ap, ap₂}
-use Rattle.std.proofs.Common.{◌∙◌, subst, inl, inr, ⊎_elim, ltb_true, ltb_false}
+use Rattle.std.proofs.Common.{◌∙◌, subst, inl, inr, ⊎_elim, ltb-true, ltb-false}
 use Rattle.std.proofs.Math.Option.{Option, none, some}
 use Rattle.std.proofs.Math.ListN.{get_or}
 use Rattle.rules.specs.Search as paper
@@ -157,11 +157,11 @@ module _ (e : Env) (R : Ruled e) where
     pub loaded_clean : Clean slots b
     loaded_clean = record {
       long = long₁;
-      waits = λ i l. go i l (ltb (arg i) 16) (ltb_true _ _) (ltb_false _ _);
+      waits = λ i l. go i l (ltb (arg i) 16) (ltb-true _ _) (ltb-false _ _);
       binds = record {
         most = C.binds.most;
         long = L.many;
-        are = λ v h. bind v h (ltb v e.vars) (ltb_true _ _) (ltb_false _ _);
+        are = λ v h. bind v h (ltb v e.vars) (ltb-true _ _) (ltb-false _ _);
       };
     }
       where

@@ -1,6 +1,6 @@
 -- One state taken up on numbers and lists, as the definitions of No. 10 take it up.
 use Rattle.std.specs.Prelude.{ℕ, zero, suc, ◌+◌, ◌-◌, ◌≤◌, ◌<◌, ◌≡◌, refl, ◌⊎◌, Bool, true, false, List, [], ◌∷◌, ◌++◌, map, length, get_or, take, drop, leb, eqb, ℤ}
-use Rattle.std.proofs.Common.{add-zero, sym, ap₂, ◌∙◌, inl, inr, ⊎_elim, append-nil, append_assoc, eqb_true}
+use Rattle.std.proofs.Common.{add-zero, sym, ap₂, ◌∙◌, inl, inr, ⊎_elim, append-nil, append_assoc, eqb-true}
 use native.Mathlib.Omega.{arith}
 use Rattle.std.proofs.Math.Path.{ap, subst}
 use Rattle.std.proofs.Math.Option.{Option, none, some}
@@ -193,7 +193,7 @@ module _ (e : Env) (R : Ruled e) where
       pub full : r₁.state.live ≡ 3
 
     is_three : (n : ℕ) → eqb n 3 ≡ true → n ≡ 3
-    is_three n h = eqb_true n 3 h
+    is_three n h = eqb-true n 3 h
 
     pub fill : (L : List paper.State) → k₁ ≡ filling k₀ L → Filled
     unfolding filling engine_of

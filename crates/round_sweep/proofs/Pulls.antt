@@ -2,7 +2,7 @@
 use Prim.Native.Nat.{ℕ, suc, ◌+◌, ◌-◌, ◌*◌, ◌≤◌, ◌<◌}
 use native.Mathlib.Omega.{arith}
 use borrow.Author.Rules.{rules}
-use borrow.Author.Tests.{eqb_true, eqb-false}
+use borrow.Author.Tests.{eqb-true, eqb-false}
 use mathlib.Core.Path.{◌≡◌, refl, sym, ap, ◌∙◌}
 use mathlib.Core.Bool.{Bool, true, false}
 use mathlib.Core.List.{List}
@@ -43,7 +43,7 @@ module _ {old new : List ℤ} {many fresh left used k : ℕ} (P : Pulling old ne
     is = record {
       long = c.long ∙ P.is.long;
       low = λ j h. c.low j (omega arith) ∙ P.is.low j h;
-      moved = λ q j h m. go q j h m (eqb q k) (eqb_true q k) (eqb-false q k);
+      moved = λ q j h m. go q j h m (eqb q k) (eqb-true q k) (eqb-false q k);
     };
     high = λ j h. c.high j (omega arith) ∙ P.high j (omega arith);
   }
@@ -59,4 +59,4 @@ module _ {old new : List ℤ} {many fresh left used k : ℕ} (P : Pulling old ne
           lower : (q ≡ k → ⊥) → q < k
           lower n = omega arith
 
-pub ruleset rules = (rules, pull_same, pull_none, pull_apart, pull_there, pull_out, pull_long, pull_next, arith)
+pub ruleset own_rules = (rules, pull_same, pull_none, pull_apart, pull_there, pull_out, pull_long, pull_next, arith)

@@ -7,7 +7,7 @@ use mathlib.Core.List.{List}
 use lib.ListN.{length, get_or, set, length-set}
 use lib.Seq.{get_or-set_same}
 use lib.Dec.{eqb}
-use borrow.Author.Tests.{eqb_true, eqb-false}
+use borrow.Author.Tests.{eqb-true, eqb-false}
 use mathlib.Core.Bool.{Bool, true, false}
 use lib.IntN.{ℤ, pos}
 use mir.Syntax.{w32}
@@ -17,7 +17,7 @@ use Rattle.tables.specs.declared.slot.Held.{Held}
 use Rattle.round_table.specs.Entries.{halves, word_at, entry_at, put_entry, Small, put_long, put_same, put_other, Copied}
 
 by_place : (P : Type 0) (i j : ℕ) → (j ≡ i → P) → ((j ≡ i → ⊥) → P) → P
-by_place P i j f g = go (eqb j i) (eqb_true j i) (eqb-false j i)
+by_place P i j f g = go (eqb j i) (eqb-true j i) (eqb-false j i)
   where
     go : (b : Bool) → (b ≡ true → j ≡ i) → (b ≡ false → j ≡ i → ⊥) → P
     go true a b = f (a refl)
@@ -86,4 +86,4 @@ copy_next old new next from to n k h c l a b q s p = record {
         (λ z. rw (z, put_same new (to + k) h there s) (q ∙ c.is.high (from + k) (omega arith)))
         (λ z. put_other new (to + k) (to + i) h there (λ y. z (omega arith)) ∙ c.is.same i (omega arith))
 
-pub ruleset rules = (rules, entry_read, entry_small, entry_put, long_put, long_set, copy_from, copy_to, copy_out, copy_none, copy_next, arith)
+pub ruleset own_rules = (rules, entry_read, entry_small, entry_put, long_put, long_set, copy_from, copy_to, copy_out, copy_none, copy_next, arith)

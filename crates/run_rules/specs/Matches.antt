@@ -1,6 +1,6 @@
 -- A run that was opened and called: what it tells and writes is what one match does.
 use Rattle.std.specs.Prelude.{ℕ, zero, suc, ◌+◌, ◌-◌, ◌≤◌, ◌≡◌, ◌≢◌, Bool, true, false, leb, ℤ}
-use Rattle.std.proofs.Common.{zero_add, add-zero, add_assoc, ◌∙◌, take-append-drop, drop-drop}
+use Rattle.std.proofs.Common.{zero-add, add-zero, add_assoc, ◌∙◌, take-append-drop, drop-drop}
 use Rattle.std.proofs.Math.Nat.{sub-zero}
 use native.Mathlib.Omega.{arith}
 use Rattle.std.proofs.Math.Path.{refl, sym, ap, ap₂, subst}
@@ -119,7 +119,7 @@ module _ (terms : Terms) (size : ℕ) (s : State) where
     is = both_words_lem a b ∙ ap (λ (x : Run). x.written) r;
     leaves = λ room. ap (λ h. room_after b size h room) (further_held terms a b size s [] 0 0 0 t ts e)
         ∙ ap₂ (λ x y. written_at (0 + length (words_by a)) (run terms x (t ∷ ts) y).written room) (second_steps terms a b size s [] 0 0 0 i) (second_free terms a b size s [] 0 0 0)
-        ∙ ap (λ x. written_at x (run terms (allowed b (0 + allowed a 0)) (t ∷ ts) (size - 0 - length (words_by a))).written room) (zero_add (length (words_by a)));
+        ∙ ap (λ x. written_at x (run terms (allowed b (0 + allowed a 0)) (t ∷ ts) (size - 0 - length (words_by a))).written room) (zero-add (length (words_by a)));
   }
 
   adds : (a b : ℕ) → Adds a b
@@ -192,7 +192,7 @@ fresh_told : (terms : Terms) (n size : ℕ) (s : State) (room : List ℤ) → le
     → told n size (going terms s [] 0 0 0) ≡ numbers_of (carried_out (run terms (cut n) (s ∷ []) (length room)) room)
 unfolding told since numbers_of carried_out
 fresh_told terms n size s room e = ap (since 0 0 0) (fresh_run terms n size s room e)
-    ∙ same_numbers (run terms (cut n) (s ∷ []) (length room)).answer (zero_add _) (zero_add _) (zero_add _)
+    ∙ same_numbers (run terms (cut n) (s ∷ []) (length room)).answer (zero-add _) (zero-add _) (zero-add _)
 
 fresh_room : (terms : Terms) (n size : ℕ) (s : State) (room : List ℤ) → length room ≡ size
     → room_by terms size s n room ≡ (carried_out (run terms (cut n) (s ∷ []) (length room)) room).room
@@ -256,7 +256,7 @@ module _ (form dialect : ℕ) (ms ps ts : List ℤ) (size : ℕ) where
           ap (λ (o : Opened). matched_by (portioned n ns room o.run)) e
           ∙ ap (λ h. matched_by (portioned n ns room (record { size = size; held = h }))) (sym (held_zero size (going g s [] 0 0 0)))
           ∙ portioned_fresh g size s 0 n ns room z
-          ∙ ap (λ i. matched (told i size (going g s [] 0 0 0)) (room_by g size s i room)) (zero_add (n + sum ns))
+          ∙ ap (λ i. matched (told i size (going g s [] 0 0 0)) (room_by g size s i room)) (zero-add (n + sum ns))
           ∙ ap₂ matched (fresh_told g (n + sum ns) size s room z) (fresh_room g (n + sum ns) size s room z)
           ∙ sym (f (cut (n + sum ns)) room)
 

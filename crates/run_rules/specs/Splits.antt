@@ -1,6 +1,6 @@
 -- A run by p + q steps is a run by p steps and then, if states remain, one by q steps over these.
 use Prim.Native.Nat.{ℕ, zero, suc, ◌+◌, ◌-◌, ◌≤◌, zero-le}
-use Rattle.std.proofs.Common.{zero_add, suc-add, ◌∙◌, leb→le}
+use Rattle.std.proofs.Common.{zero-add, suc-add, ◌∙◌, leb→le}
 use Rattle.std.proofs.Math.Nat.{sub-zero}
 use native.Mathlib.Omega.{arith}
 use Rattle.std.proofs.Math.Path.{◌≡◌, refl, sym, ap}
@@ -99,9 +99,9 @@ module _ (terms : Terms) where
   first_split : (q : ℕ) (s : State) (ss : List State) (free : ℕ) → Split 0 q (s ∷ ss) free
   unfolding run_in remaining stopped behind
   first_split q s ss free = further s ss refl refl refl
-      (ap (λ i. remaining terms i (s ∷ ss) free) (zero_add q) ∙ ap (λ i. remaining terms q (s ∷ ss) i) (sym (sub-zero free)))
-      (ap (λ i. run terms i (s ∷ ss) free) (zero_add q) ∙ ap (λ i. run terms q (s ∷ ss) i) (sym (sub-zero free))
-      ∙ same_run (run terms q (s ∷ ss) (free - 0)).answer (sym (zero_add _)) (sym (zero_add _)) refl)
+      (ap (λ i. remaining terms i (s ∷ ss) free) (zero-add q) ∙ ap (λ i. remaining terms q (s ∷ ss) i) (sym (sub-zero free)))
+      (ap (λ i. run terms i (s ∷ ss) free) (zero-add q) ∙ ap (λ i. run terms q (s ∷ ss) i) (sym (sub-zero free))
+      ∙ same_run (run terms q (s ∷ ss) (free - 0)).answer (sym (zero-add _)) (sym (zero-add _)) refl)
 
   -- ---- Every run is so divided.
 

@@ -8,7 +8,7 @@ use lib.ListN.{length, get_or}
 use lib.Dec.{eqb, ltb}
 use lib.IntN.{ℤ}
 use borrow.Author.Rules.{rules}
-use borrow.Author.Tests.{eq-eqb, eqb_true, eqb-false, ltb_true, ltb_false}
+use borrow.Author.Tests.{eq-eqb, eqb-true, eqb-false, ltb-true, ltb-false}
 use Rattle.words.specs.Words.{entries}
 use Rattle.tables.specs.declared.slot.Held as held-slot
 use Rattle.tables.specs.declared.slot.Frame as frame-slot
@@ -81,11 +81,11 @@ pub lines_next : (op arg : List ℕ) (s : List ℤ) (t : Tables) (j : ℕ) (y r 
 lines_next op arg s t j y r c e z d n l = record { inside = go (eqb j (entries - 1)) refl; each = λ i h. by i h (eqb i j) refl }
   where
     go : (q : Bool) → eqb j (entries - 1) ≡ q → j + 1 < entries
-    go true u = absurd (refuted y z (e.whole (ap (λ k. get_or op k 0) (eqb_true j (entries - 1) u) ∙ c.last)))
+    go true u = absurd (refuted y z (e.whole (ap (λ k. get_or op k 0) (eqb-true j (entries - 1) u) ∙ c.last)))
     go false u = let a = eqb-false j (entries - 1) u in let b = l.inside in omega arith
 
     by : (i : ℕ) → i < j + 1 → (q : Bool) → eqb i j ≡ q → Line op s t i
-    by i h true y = rw (eqb_true i j y) (d.sound (upheld r n))
+    by i h true y = rw (eqb-true i j y) (d.sound (upheld r n))
     by i h false y = l.each i (let a = eqb-false i j y in omega arith)
 
 -- Lines with one slot between them.
@@ -108,14 +108,14 @@ lines_all op arg slots s j u r q n c e z l d k f = alike f
     (λ p. p.each (entries - 1) (omega arith))
   where
     by : (i : ℕ) → i < entries → Line op s (view_of arg slots) (entries - 1) → (y : Bool) → eqb i j ≡ y → (w : Bool) → ltb i j ≡ w → Line op s (view_of arg slots) i
-    by i h p true y w v = rw (eqb_true i j y) (d.sound (upheld r k))
-    by i h p false y true v = l.each i (ltb_true i j v)
+    by i h p true y w v = rw (eqb-true i j y) (d.sound (upheld r k))
+    by i h p false y true v = l.each i (ltb-true i j v)
     by i h p false y false v = line_alike arg slots n i (entries - 1) h (omega arith)
-        (c.after j i (e.sound (upheld u z)) (let a = eqb-false i j y in let b = ltb_false i j v in omega arith)
-        ∙ sym (c.after j (entries - 1) (e.sound (upheld u z)) (let a = eqb-false i j y in let b = ltb_false i j v in omega arith))) op s p
+        (c.after j i (e.sound (upheld u z)) (let a = eqb-false i j y in let b = ltb-false i j v in omega arith)
+        ∙ sym (c.after j (entries - 1) (e.sound (upheld u z)) (let a = eqb-false i j y in let b = ltb-false i j v in omega arith))) op s p
 
 pub end_is : (o n : ℕ) → o ≡ n → Decides (eqb o 0) (n ≡ 0)
-end_is o n i = record { sound = λ e. sym i ∙ eqb_true o 0 e; whole = λ e. eq-eqb o 0 (i ∙ e) }
+end_is o n i = record { sound = λ e. sym i ∙ eqb-true o 0 e; whole = λ e. eq-eqb o 0 (i ∙ e) }
 
 pub ruleset lines_rules = (end_is, lines_first, lines_inside, lines_not, lines_next, lines_all, rules)
 

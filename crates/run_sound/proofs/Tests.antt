@@ -9,7 +9,7 @@ use lib.ListN.{length, get_or}
 use lib.Dec.{eqb, leb, ltb}
 use lib.IntN.{ℤ}
 use borrow.Author.Rules.{rules}
-use borrow.Author.Tests.{ltb_true, lt-ltb, leb_true, le-leb, eqb_true, eqb-false}
+use borrow.Author.Tests.{ltb-true, lt-ltb, leb-true, le-leb, eqb-true, eqb-false}
 use Rattle.words.specs.Words.{tag_at, entries}
 use Rattle.value_places.specs.Places.{Tag, marks_by, marks_at}
 use Rattle.value_places.specs.Held.{Held}
@@ -42,10 +42,10 @@ pub alike : {P Q : Type 0} {r : Bool} → Decides r P → (P → Q) → (Q → P
 alike d f g = record { sound = λ e. f (d.sound e); whole = λ q. d.whole (g q) }
 
 less : (a b : ℕ) → Decides (ltb a b) (a < b)
-less a b = record { sound = λ e. ltb_true a b e; whole = λ h. lt-ltb a b h }
+less a b = record { sound = λ e. ltb-true a b e; whole = λ h. lt-ltb a b h }
 
 most : (a b : ℕ) → Decides (leb a b) (a ≤ b)
-most a b = record { sound = λ e. leb_true a b e; whole = λ h. le-leb a b h }
+most a b = record { sound = λ e. leb-true a b e; whole = λ h. le-leb a b h }
 
 -- ---- Marks.
 
@@ -104,7 +104,7 @@ bound_next s b v x r h e d n t = record { are = λ i l. go i l (eqb i v) refl }
     here = rw (← e) (d.sound (upheld r n))
 
     go : (i : ℕ) → i < v + 1 → (q : Bool) → eqb i v ≡ q → Held s (get_or b i nothing).at (get_or b i nothing).marks
-    go i l true z = rw (eqb_true i v z) here
+    go i l true z = rw (eqb-true i v z) here
     go i l false z = t.are i (let y = eqb-false i v z in omega arith)
 
 pub bound_all : (s : List ℤ) (b : List Binding) (v : ℕ) → 16 ≤ v → length b ≡ 16 → BoundTo s b v → Decides true (Bound s b 16)

@@ -4,7 +4,7 @@ use native.Mathlib.Omega.{arith}
 use mathlib.Core.Path.{◌≡◌, refl, sym, ap, ◌∙◌}
 use mathlib.Core.Bool.{Bool, true, false}
 use mathlib.Core.List.{List}
-use borrow.Author.Tests.{ltb_true, ltb_false}
+use borrow.Author.Tests.{ltb-true, ltb-false}
 use lib.Dec.{ltb}
 use lib.ListN.{length, get_or}
 use lib.IntN.{ℤ}
@@ -40,7 +40,7 @@ module _ (ms ts : List ℤ) (r : Rule) (n : ℕ) (t : Columns) (form : Form) (ho
   -- A line that is no end is one of the program's.
   among : (i : ℕ) → (get_or op i 0 ≡ 0 → ⊥) → i ≤ 639
   unfolding line_in
-  among i h = go (ltb (instrs r.pattern r.matcher) i) (ltb_true _ _) (ltb_false _ _)
+  among i h = go (ltb (instrs r.pattern r.matcher) i) (ltb-true _ _) (ltb-false _ _)
     where
       go : (b : Bool) → (b ≡ true → instrs r.pattern r.matcher < i) → (b ≡ false → i ≤ instrs r.pattern r.matcher) → i ≤ 639
       go true f k = absurd (h (ap (λ (l : Line). l.op) (holds.after i (f refl))))

@@ -9,7 +9,7 @@ use lib.ListN.{length, get_or, drop}
 use lib.Dec.{eqb, ltb}
 use lib.Count.{count_trailing_zeros}
 use lib.IntN.{ℤ, pos}
-use borrow.Author.Tests.{eqb-false, ltb_false, eq-eqb, ne_eqb}
+use borrow.Author.Tests.{eqb-false, ltb-false, eq-eqb, ne_eqb}
 use Rattle.rules.specs.Rows.{row}
 use Rattle.words.specs.Marks.{clear}
 use Rattle.value_places.specs.Places.{element_at}
@@ -202,7 +202,7 @@ unfolding end_by after_end filled wrote
 end_takes r ws h = when_if (λ (u : Ended). Takes r (run u.state r.tables r.binds u.room)) (ltb (length r.room - r.state.words) (length ws))
     (ended (filled r.state) r.room) (ended (wrote r.state (length ws)) (put r.room r.state.words ws))
     (λ z. record { steps = refl; rows = omega arith; live = inr (inr refl); more = omega arith; long = refl; after = refl })
-    (λ z. let k = ltb_false (length r.room - r.state.words) (length ws) z in record {
+    (λ z. let k = ltb-false (length r.room - r.state.words) (length ws) z in record {
       steps = refl;
       rows = omega arith;
       live = inr (inl refl);

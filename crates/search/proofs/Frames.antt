@@ -10,7 +10,7 @@ use lib.Seq.{get_or-set_same, get_or-set_other}
 use lib.Dec.{eqb}
 use lib.Count.{count_trailing_zeros}
 use lib.IntN.{ℤ}
-use borrow.Author.Tests.{eqb_true, eqb-false}
+use borrow.Author.Tests.{eqb-true, eqb-false}
 use Rattle.words.proofs.marks.Places.{low_digit, digit_le}
 use Rattle.words.specs.Words.{entries}
 use Rattle.value_places.specs.Places.{Tag, marks_at}
@@ -28,7 +28,7 @@ when_if P true x y p q = p refl
 when_if P false x y p q = q refl
 
 pub by_place : (P : Type 0) (i j : ℕ) → (j ≡ i → P) → ((j ≡ i → ⊥) → P) → P
-by_place P i j f g = go (eqb j i) (eqb_true j i) (eqb-false j i)
+by_place P i j f g = go (eqb j i) (eqb-true j i) (eqb-false j i)
   where
     go : (b : Bool) → (b ≡ true → j ≡ i) → (b ≡ false → j ≡ i → ⊥) → P
     go true t u = f (t refl)

@@ -7,7 +7,7 @@ use mathlib.Core.List.{List}
 use lib.Dec.{eqb}
 use lib.IntN.{ℤ}
 use borrow.Author.Rules.{rules}
-use borrow.Author.Tests.{eq-eqb, ne_eqb, eqb_true, eqb-false}
+use borrow.Author.Tests.{eq-eqb, ne_eqb, eqb-true, eqb-false}
 use Rattle.search_atom.specs.Leaves.{when}
 use Rattle.value_firsts.specs.Firsts.{Fresh}
 use Rattle.value_firsts.proofs.Freshly.{fresh_none}
@@ -32,6 +32,6 @@ unfolding fresh_at when
 fresh_known mt s i at f k h e = go (eqb i 0) refl (eqb at 0) refl e
   where
     go : (a : Bool) → eqb i 0 ≡ a → (b : Bool) → eqb at 0 ≡ b → k ≡ when a (when b f 0) 0 → Fresh mt (i + 1) s at k
-    go true p true q z = rw (z, eqb_true i 0 p, eqb_true at 0 q) h
+    go true p true q z = rw (z, eqb-true i 0 p, eqb-true at 0 q) h
     go true p false q z = fresh_none mt (i + 1) s at k z
     go false p b q z = fresh_none mt (i + 1) s at k z

@@ -10,7 +10,7 @@ use lib.Dec.{eqb}
 use lib.Count.{count_trailing_zeros}
 use lib.IntN.{ℤ}
 use lib.Pow.{pow_pos, pow-lt}
-use borrow.Author.Tests.{eq-eqb, ne_eqb, eqb_true, eqb-false}
+use borrow.Author.Tests.{eq-eqb, ne_eqb, eqb-true, eqb-false}
 use Rattle.words.specs.Words.{entries}
 use Rattle.words.specs.Marks.{clear, positions}
 use Rattle.words.proofs.marks.Places.{low_lt, low_digit, clear_add, positions_one, positions_low}

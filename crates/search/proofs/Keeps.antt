@@ -10,7 +10,7 @@ use lib.Seq.{get_or-set_same, get_or-set_other}
 use lib.Dec.{eqb, ltb}
 use lib.Count.{count_trailing_zeros}
 use lib.IntN.{ℤ, pos}
-use borrow.Author.Tests.{eqb_true, eqb-false, ltb_true, ltb_false, ne_eqb}
+use borrow.Author.Tests.{eqb-true, eqb-false, ltb-true, ltb-false, ne_eqb}
 use Rattle.rules.specs.Equality.{equal}
 use Rattle.rules.specs.Dialects.{Dialect, every_place, first_places}
 use Rattle.rules.specs.Rows.{row}
@@ -144,7 +144,7 @@ module _ (e : Env) (fine : Fine e) (g : Target e.words) where
         → Frame (get_or e.op x.pc 0) e.words x.pc x.at x.marks (opens_with (get_or e.op x.pc 0) x.marks c)
     unfolding none_of opens_with when
     opened c i o u f = when_if (λ (c : ℕ). Frame (get_or e.op x.pc 0) e.words x.pc x.at x.marks c) (eqb (get_or e.op x.pc 0) 10) 0 _
-        (λ z. let y = eqb_true (get_or e.op x.pc 0) 10 z in record {
+        (λ z. let y = eqb-true (get_or e.op x.pc 0) 10 z in record {
           place = v.place;
           splits = o;
           chooses = omega arith;
@@ -243,7 +243,7 @@ module _ (e : Env) (fine : Fine e) (g : Target e.words) where
 
     apart_keeps : (n : ℕ) → get_or e.op x.pc 0 ≡ 10 + n → 0 < n → n < 4 → Valid e (after_turn (apart_of e.words n (counted x) t) b room)
     unfolding apart_of apart_at apart_ats apart_backs is_wide after_turn counted
-    apart_keeps n o z f = go (eqb (count_at e.words x.at) (n + 1)) (eqb_true _ _)
+    apart_keeps n o z f = go (eqb (count_at e.words x.at) (n + 1)) (eqb-true _ _)
       where
         go : (q : Bool) → (q ≡ true → count_at e.words x.at ≡ n + 1)
             → Valid e (run (when q (moved (counted x) (x.pc + n) (element_at e.words x.at 0) (part_marks e.words x.at 0)) (lived (counted x) 2))
@@ -324,7 +324,7 @@ module _ (e : Env) (fine : Fine e) (g : Target e.words) where
     unfolding sides_of after_turn
     sides_keep k = when_if at_turn (eqb (get_or e.op x.pc 0) 14) _ _ (λ z. both_keeps k)
         (λ z. let d = eqb-false (get_or e.op x.pc 0) 14 z in
-        when_if at_turn (ltb (get_or e.op x.pc 0) 17) _ _ (λ y. frame_keeps k (omega arith) (ltb_true _ 17 y))
+        when_if at_turn (ltb (get_or e.op x.pc 0) 17) _ _ (λ y. frame_keeps k (omega arith) (ltb-true _ 17 y))
         (λ y. when_if at_turn (eqb (get_or e.op x.pc 0) 17) _ _ (λ w. cut_keeps) (λ w. back_keeps)))
       where
         at_turn : Turned → Type 0
@@ -333,17 +333,17 @@ module _ (e : Env) (fine : Fine e) (g : Target e.words) where
     divide_keeps : (c : ℕ) → Chosen x.marks c → 7 < get_or e.op x.pc 0 → Valid e (after_turn (divide_of e.words (get_or e.op x.pc 0) c e.from (counted x) t) b room)
     unfolding divide_of after_turn
     divide_keeps c i o = when_if (λ (u : Turned). Valid e (run u.state u.tables b room)) (ltb 10 (get_or e.op x.pc 0)) _ _
-        (λ z. let h : 10 < get_or e.op x.pc 0 = ltb_true 10 _ z in
+        (λ z. let h : 10 < get_or e.op x.pc 0 = ltb-true 10 _ z in
         when_if (λ (u : Turned). Valid e (run u.state u.tables b room)) (ltb (get_or e.op x.pc 0) 14) _ _
-        (λ y. let k : get_or e.op x.pc 0 < 14 = ltb_true _ 14 y in apart_keeps (get_or e.op x.pc 0 - 10) (omega arith) (omega arith) (omega arith))
-        (λ y. let k : 14 ≤ get_or e.op x.pc 0 = ltb_false _ 14 y in sides_keep (omega arith)))
-        (λ z. let h : get_or e.op x.pc 0 ≤ 10 = ltb_false 10 _ z in split_keeps c i o (omega arith))
+        (λ y. let k : get_or e.op x.pc 0 < 14 = ltb-true _ 14 y in apart_keeps (get_or e.op x.pc 0 - 10) (omega arith) (omega arith) (omega arith))
+        (λ y. let k : 14 ≤ get_or e.op x.pc 0 = ltb-false _ 14 y in sides_keep (omega arith)))
+        (λ z. let h : get_or e.op x.pc 0 ≤ 10 = ltb-false 10 _ z in split_keeps c i o (omega arith))
 
     step_keeps : (q : Bool) (c : ℕ) → Chosen x.marks c → (get_or e.op x.pc 0 ≡ 0 → ⊥) → Valid e (after_turn (step_of e.op e.from e.to e.con e.words q c x t) b room)
     unfolding step_of step_by after_turn counted
     step_keeps q c i n =
         when_if at_turn (eqb (get_or e.op x.pc 0) 1) _ _ (λ z. strip_keeps n)
-        (λ z. when_if at_turn (ltb 7 (get_or e.op x.pc 0)) _ _ (λ k. divide_keeps c i (ltb_true 7 _ k))
+        (λ z. when_if at_turn (ltb 7 (get_or e.op x.pc 0)) _ _ (λ k. divide_keeps c i (ltb-true 7 _ k))
         (λ k. when_if at_turn (passes_of (get_or e.op x.pc 0) q e.words x.at x.marks (get_or e.con x.pc (pos 0))) _ _
         (λ y. drop_keeps b v.binds) (λ y. back_keeps)))
       where
@@ -379,7 +379,7 @@ module _ (e : Env) (fine : Fine e) (g : Target e.words) where
           counts = (let q = v.counts in omega arith);
           long = v.long;
         })
-        (λ z. let f = ltb_false (length room - x.words) (length ws) z in let k = v.room in record {
+        (λ z. let f = ltb-false (length room - x.words) (length ws) z in let k = v.room in record {
           place = v.place;
           held = v.held;
           frames = v.frames;
@@ -394,5 +394,5 @@ module _ (e : Env) (fine : Fine e) (g : Target e.words) where
   unfolding take_of take_end take_step end_of
   take_keeps r v l =
       when_if (Valid e) (eqb (get_or e.op r.state.pc 0) 0) _ _ (λ z. end_keeps r.state r.tables r.binds r.room v l (row e.form (bound e.words r.binds e.vars)))
-      (λ z. when_if (Valid e) (eqb (get_or e.op r.state.pc 0) 3) _ _ (λ k. bind_keeps r.state r.tables r.binds r.room v l (eqb_true _ _ k))
+      (λ z. when_if (Valid e) (eqb (get_or e.op r.state.pc 0) 3) _ _ (λ k. bind_keeps r.state r.tables r.binds r.room v l (eqb-true _ _ k))
       (λ k. step_keeps r.state r.tables r.binds r.room v l (asked e r) (choices_of e r) (chosen_are e g r v.held) (eqb-false _ _ z)))

@@ -4,7 +4,7 @@ use mathlib.Core.Bool.{Bool, true, false}
 use mathlib.Core.List.{List}
 use Prim.Native.Nat.{ℕ, ◌+◌, ◌-◌, ◌*◌, ◌^◌, ◌<◌, ◌≤◌}
 use native.Mathlib.Omega.{arith}
-use borrow.Author.Tests.{eq-eqb, ne_eqb, lt-ltb, le-ltb, eqb_true, eqb-false, ltb_true, ltb_false}
+use borrow.Author.Tests.{eq-eqb, ne_eqb, lt-ltb, le-ltb, eqb-true, eqb-false, ltb-true, ltb-false}
 use lib.ListN.{length, get_or, set}
 use lib.Dec.{eqb, ltb}
 use lib.IntN.{ℤ, pos}
@@ -45,7 +45,7 @@ module _ (x : State) (n : ℕ) (r : Bool) (e : r ≡ goes_on x n) where
   goes t = go (eqb x.live 1) refl (ltb x.steps n) refl (sym e ∙ t)
     where
       go : (d : Bool) → eqb x.live 1 ≡ d → (c : Bool) → ltb x.steps n ≡ c → when d c false ≡ true → (x.live ≡ 1) × (x.steps < n)
-      go true j true k y = (eqb_true _ _ j, ltb_true _ _ k)
+      go true j true k y = (eqb-true _ _ j, ltb-true _ _ k)
       go true j false k y = let w : ◌≡◌ {A = ℕ} 0 1 = cc in absurd (omega arith)
       go false j c k y = let w : ◌≡◌ {A = ℕ} 0 1 = cc in absurd (omega arith)
 
@@ -63,7 +63,7 @@ module _ (form : Form) (s : List ℤ) (b : List Binding) (n free : ℕ) (g : Tar
   short_ample l = let m = row_within s b n q g form w in sym (le-ltb free (length (row form (bound s b n))) (omega arith))
 
 pub fits_short : (words long size : ℕ) → words ≤ long → (r : Bool) → r ≡ ltb (long - words) size → r ≡ false → words + size ≤ long
-fits_short words long size w r p f = let l = ltb_false (long - words) size (sym p ∙ f) in omega (arith, l, w)
+fits_short words long size w r p f = let l = ltb-false (long - words) size (sym p ∙ f) in omega (arith, l, w)
 
 pub turned_path : {x y : State} {t u : Tables} → x ≡ y → t ≡ u → turned x t ≡ turned y u
 turned_path p q i = turned (p i) (q i)
@@ -107,7 +107,7 @@ module _ (e : Env) (w : Run) (budget : ℕ) (room : List ℤ) (r : Run) (h : Her
     where
       go : (d : Bool) → eqb r.state.live 1 ≡ d → (k : Bool) → ltb r.state.steps budget ≡ k → when d k false ≡ false → r ≡ w
       go true j true k y = let z : ◌≡◌ {A = ℕ} 0 1 = cc in absurd (omega arith)
-      go true j false k y = here_spent (ltb_false _ _ k)
+      go true j false k y = here_spent (ltb-false _ _ k)
       go false j d k y = here_over (eqb-false _ _ j)
 
 -- ---- What tag 3 asks, by the numbers of its line.
@@ -242,7 +242,7 @@ module _ (e : Env) (x : State) (t : Tables) (b : List Binding) (room : List ℤ)
   took_plain n = go (eqb (get_or e.op x.pc 0) 3) refl
     where
       go : (d : Bool) → eqb (get_or e.op x.pc 0) 3 ≡ d → run stepped.state stepped.tables b' room ≡ take_of e (run x t b room)
-      go true j = took_3 (eqb_true _ _ j)
+      go true j = took_3 (eqb-true _ _ j)
       go false j = took_n n (eqb-false _ _ j)
 
   -- What a row and a step ask.
@@ -305,7 +305,7 @@ module _ (e : Env) (x : State) (t : Tables) (b : List Binding) (room : List ℤ)
     taken_step o y u room' n m p k = go (eqb (get_or e.op x.pc 0) 8) refl
       where
         go : (d : Bool) → eqb (get_or e.op x.pc 0) 8 ≡ d → Taken e (run x t b room) y u b' room'
-        go true j = rw k (taken_head y u (eqb_true _ _ j) p)
+        go true j = rw k (taken_head y u (eqb-true _ _ j) p)
         go false j = taken_chosen o y u room' n (p ∙ other_code e.op e.from e.to e.con e.words q (choices_of e (run x t b room)) x t (eqb-false _ _ j) (not_chosen e (run x t b room) m)) k
 
 settle_by : (e : Env) (r : Run) (c : Bool)

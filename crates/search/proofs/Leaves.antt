@@ -10,7 +10,7 @@ use lib.Seq.{get_or-set_same, get_or-set_other, set-get_or, set-set}
 use lib.Dec.{eqb, ltb}
 use lib.Count.{count_trailing_zeros}
 use lib.IntN.{ℤ, pos}
-use borrow.Author.Tests.{eq-eqb, le-ltb, eqb_true, eqb-false}
+use borrow.Author.Tests.{eq-eqb, le-ltb, eqb-true, eqb-false}
 use Rattle.rules.specs.Rows.{row}
 use Rattle.words.specs.Marks.{clear}
 use Rattle.value_places.specs.Held.{Held, whole_at, put}
@@ -222,7 +222,7 @@ module _ (e : Env) (g : Target e.words) (o : Bool) (form : e.form ≡ form_by o)
         held = leaf_value e.words o e.vars part (first_of x t) told₀ room₀ g h.part u l y room (h.bound.are v h.part.var) c
 
         by_var : (k : ℕ) → k < e.vars → (d : Bool) → eqb k v ≡ d → Held e.words (get_or (set b v y) k nothing).at (get_or (set b v y) k nothing).marks
-        by_var k m true q = let z = eqb_true k v q in rw (z, changed y) held
+        by_var k m true q = let z = eqb-true k v q in rw (z, changed y) held
         by_var k m false q = rw (get_or-set_other b v k y nothing (eqb-false k v q)) (h.bound.are k (omega (arith, h.few)))
 
     -- The row that is written.

@@ -10,7 +10,7 @@ use lib.Seq.{get_or-set_same, set-set}
 use lib.Dec.{eqb, ltb}
 use lib.IntN.{ℤ}
 use borrow.Author.Rules.{rules}
-use borrow.Author.Tests.{eq-eqb, ne_eqb, lt-ltb, le-ltb, eqb_true, eqb-false, ltb_true, ltb_false, not_true, not_false}
+use borrow.Author.Tests.{eq-eqb, ne_eqb, lt-ltb, le-ltb, eqb-true, eqb-false, ltb-true, ltb-false, not-true, not-false}
 use mir.Syntax.{w64}
 use mir.Val.{Fits}
 use Rattle.rules.specs.Dialects.{Dialect, every_place, first_places}
@@ -178,7 +178,7 @@ module _ (mt : List ℤ) (mat arg : List ℕ) (s : List ℤ) (g : Target s) (slo
         where
           go : (b : Bool) → ltb (get_or mat (x.top - 1) 0) (length mt) ≡ b → t ≡ narrowed first_places mt (get_or mat (x.top - 1) 0) s x (view_of arg slots)
           go true j =
-              let k = ltb_true _ _ j in
+              let k = ltb-true _ _ j in
               let a : view_of arg slots' ≡ put_left (x.top - 1) r.left (view_of arg slots) = r.is ∙ rw j in
               let c : t ≡ put_left (x.top - 1) q.left (view_of arg slots') = q.is ∙ rw j in
               c ∙ rw (a, set-set (view_of arg slots).lefts (x.top - 1) r.left q.left, both_left k, ne_eqb x.marks 0 (λ z. omega arith), j)
@@ -195,18 +195,18 @@ some_marks m n = omega (arith, n)
 module _ (firsts : Bool) (mt : List ℤ) (i : ℕ) (s : List ℤ) (x : State) (t : Tables) where
   pub narrow_every : not firsts ≡ true → t ≡ narrowed (dialect_by firsts) mt i s x t
   unfolding narrowed dialect_by
-  narrow_every h = rw (not_true firsts h)
+  narrow_every h = rw (not-true firsts h)
 
   pub narrow_empty : not firsts ≡ false → x.marks ≡ 0 → t ≡ narrowed (dialect_by firsts) mt i s x t
   unfolding narrowed dialect_by when
-  narrow_empty h z = rw (not_false firsts h, eq-eqb x.marks 0 z)
+  narrow_empty h z = rw (not-false firsts h, eq-eqb x.marks 0 z)
 
 module _ (firsts : Bool) (f : not firsts ≡ false) (mt : List ℤ) (mat arg : List ℕ) (s : List ℤ) (g : Target s) (slots : List ℕ) (x : State) (p : 0 < x.marks) (o : Opened arg s slots x)
     (slots' : List ℕ) (r : Replaced mt (get_or mat (x.top - 1) 0) s (x.top - 1) (x.marks % 4294967296) 0 (view_of arg slots) (view_of arg slots'))
     (t : Tables) (q : Replaced mt (get_or mat (x.top - 1) 0) s (x.top - 1) x.marks (x.marks % 4294967296) (view_of arg slots') t) where
   pub narrow_both : t ≡ narrowed (dialect_by firsts) mt (get_or mat (x.top - 1) 0) s x (view_of arg slots)
   unfolding dialect_by
-  narrow_both = rw (not_false firsts f) (both_narrowed mt mat arg s g slots x p o slots' r t q)
+  narrow_both = rw (not-false firsts f) (both_narrowed mt mat arg s g slots x p o slots' r t q)
 
 -- ---- The step.
 
@@ -254,7 +254,7 @@ module _ (op from to mat arg : List ℕ) (con mt s : List ℤ) (b : Bool) (x : S
   narrow_code d u' e = rw (z, e) (go (eqb x.marks 0) refl ∙ sym (split_plain (choices_in d 9 mt (get_or mat x.pc 0) s x.at x.marks)))
     where
       go : (f : Bool) → eqb x.marks 0 ≡ f → turned y (narrowed d mt (get_or mat (y.top - 1) 0) s y u) ≡ split_of 9 (choices_in d 9 mt (get_or mat x.pc 0) s x.at x.marks) (counted x) t
-      go true j = let q : turned y u ≡ turned (lived (counted x) 2) t = split_code ∙ rw j in rw (unopened q (eqb_true _ _ j) d, j) q
+      go true j = let q : turned y u ≡ turned (lived (counted x) 2) t = split_code ∙ rw j in rw (unopened q (eqb-true _ _ j) d, j) q
       go false j =
           let q : turned y u ≡ turned (pushed (counted x)) (pushed_in x.marks (counted x) t) = split_code ∙ rw j in
           rw (narrow_open q (eqb-false _ _ j) d, j) (ap (λ (w : Turned). turned w.state (pushed_in (choices_in d 9 mt (get_or mat x.pc 0) s x.at x.marks) (counted x) t)) q)
@@ -268,7 +268,7 @@ module _ (op from to mat arg : List ℕ) (con mt s : List ℤ) (b : Bool) (x : S
       go true j =
           let q : turned y u ≡ turned (lived (counted x) 2) t = split_code ∙ rw j in
           let m : y.marks ≡ x.marks = unfold lived in ap (λ (w : Turned). w.state.marks) q in
-          absurd (omega (arith, m, eqb_true x.marks 0 j, p))
+          absurd (omega (arith, m, eqb-true x.marks 0 j, p))
       go false j =
           let q : turned y u ≡ turned (pushed (counted x)) (pushed_in x.marks (counted x) t) = split_code ∙ rw j in
           let m : y.marks ≡ x.marks = ap (λ (w : Turned). w.state.marks) q in

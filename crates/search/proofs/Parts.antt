@@ -7,12 +7,12 @@ use mathlib.Core.List.{List}
 use lib.ListN.{length, get_or, set, length-set}
 use lib.Seq.{get_or-set_same, get_or-set_other}
 use lib.Dec.{ltb}
-use borrow.Author.Tests.{ltb_true, ltb_false}
+use borrow.Author.Tests.{ltb-true, ltb-false}
 use Rattle.search_atom.specs.Leaves.{stored}
 
 -- A place before, among or after those from a up to b.
 pub by_range : (P : Type 0) (a b j : ℕ) → (j < a → P) → (a ≤ j → j < b → P) → (b ≤ j → P) → P
-by_range P a b j f g h = go (ltb j a) (ltb j b) (ltb_true j a) (ltb_false j a) (ltb_true j b) (ltb_false j b)
+by_range P a b j f g h = go (ltb j a) (ltb j b) (ltb-true j a) (ltb-false j a) (ltb-true j b) (ltb-false j b)
   where
     go : (x y : Bool) → (x ≡ true → j < a) → (x ≡ false → a ≤ j) → (y ≡ true → j < b) → (y ≡ false → b ≤ j) → P
     go true y t u v w = f (t refl)

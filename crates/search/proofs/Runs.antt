@@ -11,7 +11,7 @@ use lib.ListN.{length, get_or, take, drop}
 use lib.Seq.{drop-cons}
 use lib.Dec.{eqb, leb, ltb}
 use lib.IntN.{ℤ}
-use borrow.Author.Tests.{eqb_true, eqb-false, ltb_true, ltb_false, le-leb, lt-leb}
+use borrow.Author.Tests.{eqb-true, eqb-false, ltb-true, ltb-false, le-leb, lt-leb}
 use Rattle.rules.specs.Forms.{words}
 use Rattle.rules.specs.Dialects.{Dialect}
 use Rattle.rules.specs.Rows.{Form, told, row}
@@ -139,7 +139,7 @@ module _ (e : Env) (g : Target e.words) where
       → row_done (places e.dialect e.form e.words g) (standing_engine x t b room) ws (settle (places e.dialect e.form e.words g) code (back (conf_of e.dialect e.form e.words g x t b)))
       ≡ engine_of e.dialect e.form e.words g (settled e (after_end (end_by ws x room) t b))
   unfolding end_by after_end when standing_engine
-  ends code x t b room ws h v m = by (ltb (length room - x.words) (length ws)) (ltb_true _ _) (ltb_false _ _) v
+  ends code x t b room ws h v m = by (ltb (length room - x.words) (length ws)) (ltb-true _ _) (ltb-false _ _) v
     where
       outcome : Bool → Run
       outcome q = after_end (when q (ended (numbers.filled x) room) (ended (numbers.wrote x (length ws)) (put room x.words ws))) t b
@@ -254,11 +254,11 @@ module _ (e : Env) (g : Target e.words) where
     turn_is =
         ap (turn (places e.dialect e.form e.words g) code) (stands x t b room l) ∙ turn_stands code x t b room
         ∙ when_if same_turn (eqb (get_or e.op x.pc 0) 0) (take_end e r) (when (eqb (get_or e.op x.pc 0) 3) (take_bind e r) (take_step e r))
-        (λ z. end_turn (eqb_true _ _ z))
+        (λ z. end_turn (eqb-true _ _ z))
         (λ z. when_if same_turn (eqb (get_or e.op x.pc 0) 3) (take_bind e r) (take_step e r)
         (λ k. goes (take_bind e r) (bind_took e r) refl (eqb-false _ _ z)
-        (ap (λ i. exec (places e.dialect e.form e.words g) i (conf_of e.dialect e.form e.words g x t b)) (bind_code here (eqb_true _ _ k))
-        ∙ bind_turn e g x t b room v.binds.long (let three : get_or e.op x.pc 0 ≡ 3 = eqb_true _ _ k in fine.numbers x.pc v.place (omega arith) (omega arith))))
+        (ap (λ i. exec (places e.dialect e.form e.words g) i (conf_of e.dialect e.form e.words g x t b)) (bind_code here (eqb-true _ _ k))
+        ∙ bind_turn e g x t b room v.binds.long (let three : get_or e.op x.pc 0 ≡ 3 = eqb-true _ _ k in fine.numbers x.pc v.place (omega arith) (omega arith))))
         (λ k. goes (take_step e r) (step_took e.op e.from e.to e.con e.words (asked e r) (choices_of e r) x t) refl (eqb-false _ _ z)
         (step_turn e g x t b room (code x.pc) here (eqb-false _ _ z) (eqb-false _ _ k) v.long v.place (fine.parts x.pc v.place))))
         (take_keeps e fine g r v l)

@@ -8,7 +8,7 @@ use lib.Seq.{get_or-set_same, get_or-set_other}
 use lib.Dec.{eqb, ltb}
 use lib.Count.{count_trailing_zeros}
 use lib.IntN.{ℤ}
-use borrow.Author.Tests.{eqb_true, eqb-false, ltb_true, ltb_false}
+use borrow.Author.Tests.{eqb-true, eqb-false, ltb-true, ltb-false}
 use Rattle.words.specs.Words.{entries}
 use Rattle.words.specs.Marks.{clear}
 use Rattle.words.proofs.marks.Places.{clear_le, clear_lt}
@@ -168,16 +168,16 @@ module _ (e : Env) (fine : Fine e) (g : Target e.words) where
       any_keeps : Valid e (after_turn (choice_of (get_or e.op j 0) j e.from e.to e.words x t) b room)
       unfolding choice_of after_turn
       any_keeps = when_if at_turn (ltb 9 (get_or e.op j 0)) _ _
-          (λ z. let h : 9 < get_or e.op j 0 = ltb_true 9 _ z in when_if at_turn (eqb (get_or e.op j 0) 10) _ _ (λ k. join_keeps (eqb_true _ _ k))
+          (λ z. let h : 9 < get_or e.op j 0 = ltb-true 9 _ z in when_if at_turn (eqb (get_or e.op j 0) 10) _ _ (λ k. join_keeps (eqb-true _ _ k))
           (λ k. let d = eqb-false (get_or e.op j 0) 10 k in resume_keeps (omega arith)))
-          (λ z. cons_keeps (ltb_false 9 _ z))
+          (λ z. cons_keeps (ltb-false 9 _ z))
         where
           at_turn : Turned → Type 0
           at_turn u = Valid e (run u.state u.tables b room)
 
     pick_keeps : Valid e (after_turn (pick_of e.op e.from e.to e.words x t) b room)
     unfolding pick_of after_turn
-    pick_keeps = when_if at_turn (eqb x.top 0) _ _ (λ z. none_keeps (eqb_true _ _ z))
+    pick_keeps = when_if at_turn (eqb x.top 0) _ _ (λ z. none_keeps (eqb-true _ _ z))
         (λ z. let n = eqb-false x.top 0 z in let u : x.top ≡ suc (x.top - 1) = omega arith in any_keeps (x.top - 1) u (v.frames.last.frame n))
       where
         at_turn : Turned → Type 0
@@ -185,4 +185,4 @@ module _ (e : Env) (fine : Fine e) (g : Target e.words) where
 
   pub settle_keeps : (r : Run) → Valid e r → Valid e (settled e r)
   unfolding settled
-  settle_keeps r v = when_if (Valid e) (eqb r.state.live 2) _ _ (λ z. pick_keeps r.state r.tables r.binds r.room v (eqb_true _ _ z)) (λ z. v)
+  settle_keeps r v = when_if (Valid e) (eqb r.state.live 2) _ _ (λ z. pick_keeps r.state r.tables r.binds r.room v (eqb-true _ _ z)) (λ z. v)

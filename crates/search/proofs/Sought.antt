@@ -9,7 +9,7 @@ use lib.ListN.{length, get_or, length-set}
 use lib.Seq.{get_or-set_same, get_or-set_other}
 use lib.Dec.{eqb}
 use lib.IntN.{ℤ}
-use borrow.Author.Tests.{eq-eqb, ne_eqb, eqb_true, eqb-false}
+use borrow.Author.Tests.{eq-eqb, ne_eqb, eqb-true, eqb-false}
 use Rattle.words.specs.Words.{entries}
 use Rattle.value_places.specs.Places.{Target}
 use Rattle.value_places.proofs.Elements.{second}
@@ -245,5 +245,5 @@ module _ (e : Env) (w : Run) (budget : ℕ) (room₀ : List ℤ) (r : Run) (h : 
       swept_pass o₁ o₂ = go (eqb a.first a.part) refl
         where
           go : (d : Bool) → eqb a.first a.part ≡ d → Swept e r budget (timed y n) u' b room
-          go true d = let q = eqb_true _ _ d in over_integers q (o₁ q)
+          go true d = let q = eqb-true _ _ d in over_integers q (o₁ q)
           go false d = let q = eqb-false _ _ d in over_pairs q (o₂ q)

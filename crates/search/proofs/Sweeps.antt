@@ -9,7 +9,7 @@ use lib.Seq.{get_or-set_same, set-get_or, set-set}
 use lib.Dec.{eqb}
 use lib.Count.{count_trailing_zeros}
 use lib.IntN.{ℤ, pos}
-use borrow.Author.Tests.{eqb_true, eqb-false, eq-eqb, ne_eqb}
+use borrow.Author.Tests.{eqb-true, eqb-false, eq-eqb, ne_eqb}
 use Rattle.words.specs.Marks.{clear}
 use Rattle.value_places.specs.Places.{element_at}
 use Rattle.value_places.specs.Held.{whole_at}
@@ -35,7 +35,7 @@ run_add e (suc a) b r = go (eqb r.state.live 1) refl (run_add e a b (settled e (
   where
     go : (d : Bool) → eqb r.state.live 1 ≡ d → run_of e (a + b) (settled e (take_of e r)) ≡ run_of e b (run_of e a (settled e (take_of e r)))
         → run_of e (suc a + b) r ≡ run_of e b (run_of e (suc a) r)
-    go true j h = let l = eqb_true _ _ j in let z : suc a + b ≡ suc (a + b) = omega arith in ap (λ (n : ℕ). run_of e n r) z ∙ run_more e (a + b) r l ∙ h ∙ ap (run_of e b) (sym (run_more e a r l))
+    go true j h = let l = eqb-true _ _ j in let z : suc a + b ≡ suc (a + b) = omega arith in ap (λ (n : ℕ). run_of e n r) z ∙ run_more e (a + b) r l ∙ h ∙ ap (run_of e b) (sym (run_more e a r l))
     go false j h = let l = eqb-false _ _ j in run_over e (suc a + b) r l ∙ sym (run_over e b r l) ∙ ap (run_of e b) (sym (run_over e (suc a) r l))
 
 -- Where no state stands: the next choices have been taken up, in so many turns.

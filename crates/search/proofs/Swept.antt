@@ -7,7 +7,7 @@ use mathlib.Core.List.{List}
 use lib.ListN.{length}
 use lib.Dec.{eqb}
 use lib.IntN.{ℤ}
-use borrow.Author.Tests.{eqb_true, eqb-false}
+use borrow.Author.Tests.{eqb-true, eqb-false}
 use Rattle.words.specs.Words.{entries}
 use Rattle.value_places.specs.Places.{Target}
 use Rattle.value_rows.specs.declared.Binding.{Binding}
@@ -41,7 +41,7 @@ module _ (e : Env) (fine : Fine e) (g : Target e.words) (room : List ℤ) where
   run_kept (suc n) r k = go (eqb r.state.live 1) refl (λ l. run_kept n (settled e (take_of e r)) (turn_kept r k l))
     where
       go : (d : Bool) → eqb r.state.live 1 ≡ d → (r.state.live ≡ 1 → Kept e room (run_of e n (settled e (take_of e r)))) → Kept e room (run_of e (suc n) r)
-      go true j f = let l = eqb_true _ _ j in subst (Kept e room) (sym (run_more e n r l)) (f l)
+      go true j f = let l = eqb-true _ _ j in subst (Kept e room) (sym (run_more e n r l)) (f l)
       go false j f = subst (Kept e room) (sym (run_over e (suc n) r (eqb-false _ _ j))) k
 
 -- ---- A state taken up, and so many more.

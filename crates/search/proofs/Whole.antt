@@ -11,7 +11,7 @@ use lib.ListN.{length, get_or, take, drop, take-append-drop}
 use lib.Seq.{drop-drop, length-take-le}
 use lib.Dec.{ltb}
 use lib.IntN.{ℤ}
-use borrow.Author.Tests.{ltb_true, ltb_false}
+use borrow.Author.Tests.{ltb-true, ltb-false}
 use Rattle.rules.specs.Forms.{Matcher, Pattern, Value}
 use Rattle.rules.specs.Origins.{target}
 use Rattle.rules.specs.Reading.{ok}
@@ -104,7 +104,7 @@ module _ (e : Env) (g : Target e.words) (fine : Fine e) (m : Matcher) (p : Patte
     (after : (pc : ℕ) → instrs p m < pc → get_or e.op pc 0 ≡ 0) where
   -- A line that divides is one of the program's.
   divides : Divided e g (program m p)
-  divides j h = go (ltb (instrs p m) j) (ltb_true _ _) (ltb_false _ _)
+  divides j h = go (ltb (instrs p m) j) (ltb-true _ _) (ltb-false _ _)
     where
       go : (b : Bool) → (b ≡ true → instrs p m < j) → (b ≡ false → j ≤ instrs p m) → Means e.matcher e.vars (line_at e j) (get_or e.to j 0) (program m p j)
       go true f k = let z = after j (f refl) in absurd (omega arith)

@@ -8,7 +8,7 @@ use mathlib.Core.List.{List}
 use lib.ListN.{get_or}
 use lib.Dec.{eqb}
 use borrow.Author.Rules.{rules}
-use borrow.Author.Tests.{eqb_true}
+use borrow.Author.Tests.{eqb-true}
 use mir.Syntax.{w64}
 use mir.Val.{Fits}
 use Rattle.words.specs.Words.{entries}
@@ -64,7 +64,7 @@ pub last_is : (op to : List ℕ) (i a o p z q : ℕ) → a ≡ get_or to i 0 →
 last_is op to i a o p z q d e x f y k l t = record {
   same = rw (← d) (sym e ∙ x);
   drop = rw (← d) (sym f ∙ y);
-  end = rw (← d, ← k) (sym l ∙ eqb_true q 0 t);
+  end = rw (← d, ← k) (sym l ∙ eqb-true q 0 t);
 }
 
 pub ruleset last_rules = (after_same, after_same_fits, named_line, last_is, no_answer, rules)

@@ -11,7 +11,7 @@ use lib.Seq.{drop-cons, get_or-take, get_or-set_same, get_or-set_other, set-get_
 use lib.Dec.{eqb}
 use lib.Count.{count_trailing_zeros}
 use lib.IntN.{ℤ, pos}
-use borrow.Author.Tests.{eq-eqb, ne_eqb, eqb_true, eqb-false}
+use borrow.Author.Tests.{eq-eqb, ne_eqb, eqb-true, eqb-false}
 use Rattle.rules.specs.Forms.{words}
 use Rattle.rules.specs.Rows.{as_words, as_origins, bits, told, row}
 use Rattle.words.specs.Words.{tag_at}
@@ -159,5 +159,5 @@ module _ (s : List ℤ) (o : Bool) (n : ℕ) (p : Part) (first : Tally) (told₀
         by_var {X} v f k = go (eqb v p.var) refl
           where
             go : (c : Bool) → eqb v p.var ≡ c → X
-            go true e = f (eqb_true v p.var e)
+            go true e = f (eqb-true v p.var e)
             go false e = k (eqb-false v p.var e)

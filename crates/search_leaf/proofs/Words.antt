@@ -10,7 +10,7 @@ use lib.Seq.{drop-cons, get_or-take, get_or-set_same, get_or-set_other}
 use lib.Dec.{eqb}
 use lib.IntN.{ℤ, pos}
 use borrow.Author.Rules.{rules}
-use borrow.Author.Tests.{eq-eqb, ne_eqb, eqb_true, eqb-false}
+use borrow.Author.Tests.{eq-eqb, ne_eqb, eqb-true, eqb-false}
 use mir.Syntax.{w32, w64}
 use mir.Val.{Fits, SFits, to_z, of_z}
 use mir.Facts.{to_z-of_z}
@@ -193,7 +193,7 @@ module _ (o : Bool) (s : List ℤ) (b : List Binding) (but : ℕ) where
           by_last {X} i h f k = go (eqb i v) refl
             where
               go : (c : Bool) → eqb i v ≡ c → X
-              go true e = f (eqb_true i v e)
+              go true e = f (eqb-true i v e)
               go false e = k (let n = eqb-false i v e in omega (arith, n))
 
 -- ---- Words of which one is changed are as many.

@@ -3,7 +3,7 @@ use Prim.Native.Nat.{ℕ, ◌+◌}
 use mathlib.Core.Path.{◌≡◌, refl}
 use mathlib.Core.Bool.{Bool, true, false}
 use mathlib.Core.List.{List, [], ◌∷◌, ◌++◌, map}
-use borrow.Author.Tests.{eqb_true}
+use borrow.Author.Tests.{eqb-true}
 use lib.Dec.{eqb}
 use native.Mathlib.Omega.{arith}
 use Rattle.rules.specs.Forms.{Matcher, something, integer, list, multiset, tuple_of, Matchers, no_matchers, ◌▸ᵐ◌, countᵐ, Value, int, collection, tupled, Values, empty, ◌▸◌, count, size}
@@ -49,7 +49,7 @@ mutual
   fits_value_lem (tuple_of ms) (collection vs) at e = clash cc
   fits_value_lem (tuple_of ms) (tupled vs) at e =
       let r = then_ok (demand {A = Unit {0}} (eqb (countᵐ ms) (count vs)) at tt) (λ _. fits_each ms vs (at + 2)) tt e in
-      fits_each_lem ms vs (at + 2) (eqb_true (countᵐ ms) (count vs) (demanded (eqb (countᵐ ms) (count vs)) at r.1)) r.2
+      fits_each_lem ms vs (at + 2) (eqb-true (countᵐ ms) (count vs) (demanded (eqb (countᵐ ms) (count vs)) at r.1)) r.2
 
   fits_each_lem : (ms : Matchers) (vs : Values) (at : ℕ) → countᵐ ms ≡ count vs → fits_each ms vs at ≡ ok tt → FittingEach ms vs
   fits_each_lem no_matchers empty at n e = tt

@@ -1,7 +1,7 @@
 -- The run as a machine that is stepped: what a program holds between two steps, one step, and that n steps give what `run n` gives. Since steps
 -- compose, a run that is advanced in portions gives what one run with their sum gives.
 use Rattle.std.specs.Prelude.{ℕ, zero, suc, ◌+◌, ◌-◌, ◌≡◌, refl, Bool, true, false, List, [], ◌∷◌, ◌++◌, length, leb, ℤ}
-use Rattle.std.proofs.Common.{zero_add, suc-add, add-zero, arith, sym, ap, ◌∙◌, append-nil, append_assoc}
+use Rattle.std.proofs.Common.{zero-add, suc-add, add-zero, arith, sym, ap, ◌∙◌, append-nil, append_assoc}
 use Rattle.rules.specs.Rows.{Form, row}
 use Rattle.rules.specs.Search.{atom, end_of_not, State, state, leave_not, Run, stopped, step, row_step, after_in, cons_halves_in, run_in}
 use Rattle.rules.specs.Dialects.{Dialect}
@@ -58,7 +58,7 @@ opened s room = record { waiting = s ∷ []; left = room; rows = 0; steps = 0; w
 -- Portions add up.
 pub times_add : (dialect : Dialect) (form : Form) (a b : ℕ) (k : Machine) → times dialect form (a + b) k ≡ times dialect form b (times dialect form a k)
 unfolding times
-times_add dialect form zero b k = rw (zero_add b)
+times_add dialect form zero b k = rw (zero-add b)
 times_add dialect form (suc a) b k = rw (suc-add a b) (times_add dialect form a b (once dialect form k))
 
 -- A machine that has ended stays as it is.
@@ -113,7 +113,7 @@ goes_on_lem dialect form (suc n) (state g (atom p m v ∷ older) e ∷ ss) left 
 -- The whole run, by steps; and in portions.
 pub run_steps : (dialect : Dialect) (form : Form) (n : ℕ) (s : State) (room : ℕ) → told (times dialect form n (opened s room)) ≡ run_in dialect form n (s ∷ []) room
 unfolding machine on opened
-run_steps dialect form n s room = goes_on_lem dialect form n (s ∷ []) room 0 0 [] ∙ same_run (run_in dialect form n (s ∷ []) room).answer (zero_add _) (zero_add _) refl
+run_steps dialect form n s room = goes_on_lem dialect form n (s ∷ []) room 0 0 [] ∙ same_run (run_in dialect form n (s ∷ []) room).answer (zero-add _) (zero-add _) refl
 
 pub portions : (dialect : Dialect) (form : Form) (a b : ℕ) (s : State) (room : ℕ) → told (times dialect form b (times dialect form a (opened s room))) ≡ run_in dialect form (a + b) (s ∷ []) room
 portions dialect form a b s room = ap told (sym (times_add dialect form a b (opened s room))) ∙ run_steps dialect form (a + b) s room

@@ -1,6 +1,6 @@
 -- One step of the machine is one step of the search: what a configuration stands for afterwards.
 use Prim.Native.Nat.{ℕ, zero, suc, ◌+◌, ◌≤◌, ◌<◌}
-use Rattle.std.proofs.Common.{add-zero, zero_add, suc-add, add-suc, ap, ◌∙◌}
+use Rattle.std.proofs.Common.{add-zero, zero-add, suc-add, add-suc, ap, ◌∙◌}
 use native.Mathlib.Omega.{arith}
 use Rattle.std.proofs.Math.Path.{◌≡◌, refl, sym}
 use Rattle.std.specs.Prelude.{Bool, ℤ, pos}
@@ -50,7 +50,7 @@ module _ (D : Data) where
   check_ok (as_constant c) {h = h} {v = v} s i b = D.is_number_ok c h v i
   check_ok (as_value m x c) {b = f} {h = h} {v = v} {e = e} s i b =
       let r = bound_at b x s.1 in
-      D.is_same_ok m s.0 c (f x) h r.0 v s.3 s.2 (rw (zero_add x) at r.2) i ∙ sym (is_value_at m e x c (plain v) r.0 r.1)
+      D.is_same_ok m s.0 c (f x) h r.0 v s.3 s.2 (rw (zero-add x) at r.2) i ∙ sym (is_value_at m e x c (plain v) r.0 r.1)
   check_ok (as_nil m) {h = h} {v = v} s i b = D.is_empty_held_ok m h v s i
 
   -- ---- The parts of a tuple.
@@ -233,7 +233,7 @@ module _ (D : Data) where
     step_rep c i ss cd (binds {ms = ms} {m = m} r pt) l (at x ws bs) ch =
         let same : (i : ℕ) → i < length ms → c.binds i ≡ put c.binds (length ms) c.cur i = λ i h. sym (put_below c.binds (length ms) c.cur i h) in
         entered _ false c.pc (ms ++ (m ∷ [])) pt (omega arith) (omega arith) ws
-        (bound_snoc (bound_agree D (omega arith) same bs) (rw (zero_add (length ms), put_same) x))
+        (bound_snoc (bound_agree D (omega arith) same bs) (rw (zero-add (length ms), put_same) x))
         (chain_agree D code points (omega (arith, length-append ms (m ∷ []))) (λ i h. refl) same ch) refl
     step_rep c i ss cd (tests {ms = ms} {to = to} t sound r pt) l (at {v = v} {older = older} {e = e} x ws bs) ch =
         rw (after_test D.dialect t v older e, ← check_ok t sound x bs) (tested_rep c (check D t c.binds c.cur) to ms r pt l ws bs ch)

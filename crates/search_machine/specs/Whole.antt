@@ -1,6 +1,6 @@
 -- The machine on a pattern that fits gives what the definitions' run gives, at every budget and room; and in portions.
 use Rattle.std.specs.Prelude.{ℕ, zero, suc, ◌+◌, ◌≤◌, ◌<◌, ◌≡◌, refl, Bool, true, false, List, [], ◌∷◌, length, get_or, set, eqb, T, ℤ}
-use Rattle.std.proofs.Common.{zero_add, suc-add, arith, sym, ap, ◌∙◌, get_or-set_same, get_or-set_other, eqb→eq}
+use Rattle.std.proofs.Common.{zero-add, suc-add, arith, sym, ap, ◌∙◌, get_or-set_same, get_or-set_other, eqb→eq}
 use Rattle.std.proofs.Math.Path.{fun_ext}
 use Rattle.std.proofs.Math.Option.{Option, none, some}
 use Rattle.std.proofs.Math.Dec.{eqb_refl}
@@ -42,7 +42,7 @@ module _ (D : Data) (m : Matcher) (p : Pattern) (v : Value) (h : D.Held) (is : D
 -- Portions add up.
 pub turns_add : (D : Data) (code : ℕ → Instr) (a b : ℕ) (k : Engine D) → turns D code (a + b) k ≡ turns D code b (turns D code a k)
 unfolding turns
-turns_add D code zero b k = rw (zero_add b)
+turns_add D code zero b k = rw (zero-add b)
 turns_add D code (suc a) b k = rw (suc-add a b) (turns_add D code a b (turn D code k))
 
 module _ (D : Data) (m : Matcher) (p : Pattern) (v : Value) (h : D.Held) (is : D.Is m h (target v)) (at₀ : ℕ) (ks : List Matcher) (fit : fits p m at₀ [] ≡ ok ks) (wide : Widthsᵖ p) (closed : Closed p) where

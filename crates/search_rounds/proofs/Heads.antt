@@ -182,4 +182,4 @@ module _ {e : Env} {used : ℕ} {ws : List ℤ} {r budget : ℕ} {x : State} {sl
         alone_outcome e R used U ws r x br K slots₀ slots₁ b₀ b C T budget room₀ P.words P.counts P.steps F next base k far x' slots' b' room' at_alone
         (λ z. n (ap (λ (v : State). get_or e.op v.pc 0) q ∙ z))
 
-pub ruleset rules = (rules, alone_is, entry_0, entry_2, gone_none, arith)
+pub ruleset own_rules = (rules, alone_is, entry_0, entry_2, gone_none, arith)

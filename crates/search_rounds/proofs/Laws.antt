@@ -176,4 +176,4 @@ module _ {e : Env} {used : ℕ} {ws : List ℤ} {r to : ℕ} {x : State} {slots�
           rest = λ R U br K C. rest_kept e R used U ws r x br K L.opened slots₀ slots₁ b₀ b C T slots₂ again_is z slots₃ settled_is L.counts new to S;
         }
 
-pub ruleset rules = (rules, head_is, entry_0, entry_1, entry_2, arith)
+pub ruleset own_rules = (rules, head_is, entry_0, entry_1, entry_2, arith)

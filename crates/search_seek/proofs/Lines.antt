@@ -6,7 +6,7 @@ use mathlib.Core.List.{List}
 use Prim.Native.Nat.{ℕ, ◌+◌, ◌-◌, ◌<◌, ◌≤◌}
 use native.Mathlib.Omega.{arith}
 use borrow.Author.Rules.{rules}
-use borrow.Author.Tests.{eq-eqb, ne_eqb, eqb_true, eqb-false, lt-ltb, le-ltb}
+use borrow.Author.Tests.{eq-eqb, ne_eqb, eqb-true, eqb-false, lt-ltb, le-ltb}
 use lib.ListN.{get_or}
 use lib.Dec.{eqb, ltb}
 use lib.IntN.{ℤ, pos}
@@ -96,9 +96,9 @@ first_asks op x i a s =
         → (p : Bool) → eqb (get_or op x.top 0) 11 ≡ p → (q : Bool) → eqb (get_or op (x.top + 1) 0) 5 ≡ q
         → i ≡ when l (when t 0 (when c (when f x.top (when p (when q (x.top + 1) 0) 0)) 0)) 0 → Asks op x i
     go true l false t true c true f p i₁ q i₂ h =
-        record { live = eqb_true _ _ l; top = eqb-false _ _ t; cons = eqb_true _ _ c; line = rw h (eqb_true _ _ f); kind = inl h }
+        record { live = eqb-true _ _ l; top = eqb-false _ _ t; cons = eqb-true _ _ c; line = rw h (eqb-true _ _ f); kind = inl h }
     go true l false t true c false f true p true q h =
-        record { live = eqb_true _ _ l; top = eqb-false _ _ t; cons = eqb_true _ _ c; line = rw h (eqb_true _ _ q); kind = inr (h, eqb_true _ _ p) }
+        record { live = eqb-true _ _ l; top = eqb-false _ _ t; cons = eqb-true _ _ c; line = rw h (eqb-true _ _ q); kind = inr (h, eqb-true _ _ p) }
     go true l false t true c false f true p false q h = absurd (omega (arith, h, s))
     go true l false t true c false f false p q i₂ h = absurd (omega (arith, h, s))
     go true l false t false c f i₀ p i₁ q i₂ h = absurd (omega (arith, h, s))
@@ -143,7 +143,7 @@ second_asks op from to top i k a = go (ltb top i) (eqb (get_or from i 0) top) re
   where
     go : (h : Bool) → (f : Bool) → eqb (get_or from i 0) top ≡ f → (o : Bool) → eqb (get_or op (get_or to i 0) 0) 5 ≡ o
         → k ≡ when h (when f (when o (get_or to i 0) i) i) i → (k ≡ i) ⊎ Also op from to top i k
-    go true true f true o e = inr (record { waits = eqb_true _ _ f; next = e; line = rw e (eqb_true _ _ o) })
+    go true true f true o e = inr (record { waits = eqb-true _ _ f; next = e; line = rw e (eqb-true _ _ o) })
     go true true f false o e = inl e
     go true false f o i₀ e = inl e
     go false f i₁ o i₀ e = inl e

@@ -5,7 +5,7 @@ use mathlib.Core.List.{List}
 use Prim.Native.Nat.{ℕ, ◌+◌, ◌-◌, ◌^◌, ◌<◌, ◌≤◌}
 use native.Mathlib.Omega.{arith}
 use borrow.Author.Rules.{rules}
-use borrow.Author.Tests.{ne_eqb, eqb_true}
+use borrow.Author.Tests.{ne_eqb, eqb-true}
 use lib.ListN.{length, get_or, length-set}
 use lib.Seq.{set-get_or}
 use lib.Count.{count_trailing_zeros}
@@ -40,7 +40,7 @@ not_false false h = sym h
 module _ (s : List ℤ) (e : ℕ) where
   pub wide_part : (b : Bool) (k : ℕ) → b ≡ is_wide s e 1 → b ≡ true → k < 2 → k < count_at s e
   unfolding is_wide
-  wide_part b k i t h = let n : count_at s e ≡ 2 = eqb_true _ _ (sym i ∙ t) in omega (arith, n, h)
+  wide_part b k i t h = let n : count_at s e ≡ 2 = eqb-true _ _ (sym i ∙ t) in omega (arith, n, h)
 
   pub part_word : (k a : ℕ) → Target s → Tag s e → k < count_at s e → a ≡ element_at s e k → a + 1 < length s
   part_word k a g t h i = second s a g (rw i (element_tag s e k g t h))

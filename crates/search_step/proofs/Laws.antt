@@ -5,7 +5,7 @@ use mathlib.Core.List.{List}
 use Prim.Native.Nat.{ℕ, ◌+◌, ◌-◌, ◌^◌, ◌<◌, ◌≤◌}
 use native.Mathlib.Omega.{arith}
 use borrow.Author.Rules.{rules}
-use borrow.Author.Tests.{eqb_true}
+use borrow.Author.Tests.{eqb-true}
 use lib.ListN.{length, get_or, set}
 use lib.IntN.{ℤ, pos}
 use lib.Count.{count_trailing_zeros}
@@ -117,7 +117,7 @@ three_wait n o e h = omega arith
 module _ (s : List ℤ) (at n : ℕ) (b : Bool) (h : b ≡ is_wide s at n) (t : b ≡ true) where
   wide_count : count_at s at ≡ n + 1
   unfolding is_wide
-  wide_count = eqb_true (count_at s at) (n + 1) (sym h ∙ t)
+  wide_count = eqb-true (count_at s at) (n + 1) (sym h ∙ t)
 
   pub wide_some : 0 < count_at s at
   wide_some = let e = wide_count in omega arith

@@ -151,4 +151,4 @@ in_no_form ms ps cap (suc zero) t a b = absurd (a refl)
 in_no_form ms ps cap (suc (suc zero)) t a b = absurd (b refl)
 in_no_form ms ps cap (suc (suc (suc n))) t a b = refl
 
-pub ruleset rules = (variables_are, no_variables, rows_fit, words_fit, rows_of_review, variables_of_lem, least_of, room_told_lem, in_words, in_origins, in_no_form, rules)
+pub ruleset own_rules = (variables_are, no_variables, rows_fit, words_fit, rows_of_review, variables_of_lem, least_of, room_told_lem, in_words, in_origins, in_no_form, rules)

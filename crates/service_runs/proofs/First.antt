@@ -11,7 +11,7 @@ use lib.Seq.{take-append_seam, take-length}
 use lib.Dec.{eqb}
 use lib.IntN.{ℤ, pos}
 use borrow.Author.Rules.{rules}
-use borrow.Author.Tests.{ne_eqb, eq-eqb, eqb_true}
+use borrow.Author.Tests.{ne_eqb, eq-eqb, eqb-true}
 use Rattle.rules.specs.Forms.{Value}
 use Rattle.rules.specs.Rows.{form_of}
 use Rattle.rules.specs.Search.{start}
@@ -155,7 +155,7 @@ pub known_1 : (n : ℕ) → n ≡ 1 → Decides true (Known n)
 known_1 n e = always (inl e)
 
 pub known_2 : (n : ℕ) → (n ≡ 1 → ⊥) → Decides (eqb n 2) (Known n)
-known_2 n f = record { sound = λ e. inr (eqb_true n 2 e); whole = go }
+known_2 n f = record { sound = λ e. inr (eqb-true n 2 e); whole = go }
   where
     go : Known n → eqb n 2 ≡ true
     go (inl e) = absurd (f e)

@@ -9,7 +9,7 @@ use lib.Seq.{length-take-le}
 use lib.Dec.{eqb, leb}
 use lib.IntN.{ℤ}
 use borrow.Author.Rules.{rules}
-use borrow.Author.Tests.{eq-eqb, ne_eqb, leb_true, le-leb}
+use borrow.Author.Tests.{eq-eqb, ne_eqb, leb-true, le-leb}
 use Rattle.rules.specs.Forms.{Value}
 use Rattle.rules.specs.Dialects.{Dialect}
 use Rattle.rules.specs.Services.{Judged, accepted, test, Rule, rule_in, target_of}
@@ -95,7 +95,7 @@ module _ (m p t : ℕ) where
   length_pattern h = never (λ k. let i = k.pattern in omega arith)
 
   pub length_target : m ≤ 64 → p ≤ 256 → Decides (leb t 1024) (Lengths m p t)
-  length_target h k = record { sound = λ e. record { matcher = h; pattern = k; target = leb_true t 1024 e }; whole = λ i. le-leb t 1024 i.target }
+  length_target h k = record { sound = λ e. record { matcher = h; pattern = k; target = leb-true t 1024 e }; whole = λ i. le-leb t 1024 i.target }
 
   module _ (y : Bool) (d : Decides y (Lengths m p t)) (u : not y ≡ false) where
     pub matcher_kept : (ms : List ℤ) → length ms ≡ 64 → m ≤ length ms
@@ -143,7 +143,7 @@ module _ (a : ℕ) where
   refusal_none h = never (λ r. refusal_zero a r h)
 
   pub refusal_tested : (a ≡ 20 → ⊥) → (a ≡ 22 → ⊥) → (a ≡ 0 → ⊥) → Decides (leb a 6) (Refusal a)
-  refusal_tested f k g = record { sound = λ e. let h = leb_true a 6 e in tested (omega arith) h; whole = go }
+  refusal_tested f k g = record { sound = λ e. let h = leb-true a 6 e in tested (omega arith) h; whole = go }
     where
       go : Refusal a → leb a 6 ≡ true
       go (unknown h) = absurd (f h)

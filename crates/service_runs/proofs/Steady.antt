@@ -8,7 +8,7 @@ use lib.ListN.{length, get_or}
 use lib.Dec.{ltb}
 use lib.IntN.{ℤ}
 use borrow.Author.Rules.{rules}
-use borrow.Author.Tests.{ltb_true, ltb_false}
+use borrow.Author.Tests.{ltb-true, ltb-false}
 use Rattle.words.specs.Words.{entries}
 use Rattle.tables.specs.Section.{section}
 use Rattle.tables.specs.Slot.{slot_count, Tables, by_line, view_of}
@@ -200,11 +200,11 @@ module _ (ms ps ts : List ℤ) (n : ℕ) (none lines : List ℕ) (g : Ready ms p
 
       go : (b : Bool) → ltb i (instrs g.rule.pattern g.rule.matcher) ≡ b → instrs g.rule.pattern g.rule.matcher ≤ i
       go true h =
-          let l = ltb_true i _ h in
+          let l = ltb-true i _ h in
           let a = at_end follow n (ended_line (holds.means i (omega arith)) z) in
           let r = in_range_lem g.rule.matcher g.rule.pattern i in
           absurd (omega arith)
-      go false h = ltb_false i _ h
+      go false h = ltb-false i _ h
 
   fine_is : Fine (env_with every_place (columns_of lines) ms ts n as_words)
   fine_is = ready_fine every_place ms ps ts n none lines as_words g zeros vars is

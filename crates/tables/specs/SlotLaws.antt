@@ -4,7 +4,7 @@ use Prim.Native.Nat.{ℕ, zero, suc, ◌+◌, ◌-◌, ◌*◌, ◌<◌, ◌≤�
 use native.Mathlib.Omega.{arith}
 use Rattle.std.specs.Prelude.{◌≡◌, refl, Bool, true, false, length, take, drop, replicate, eqb}
 use Rattle.std.proofs.Math.Path.{sym, ap}
-use Rattle.std.proofs.Common.{ap₂, ◌∙◌, length-drop, get_or-take, get_or-drop, drop-set-lt, get_or-set_same, length-take-le, eqb_true}
+use Rattle.std.proofs.Common.{ap₂, ◌∙◌, length-drop, get_or-take, get_or-drop, drop-set-lt, get_or-set_same, length-take-le, eqb-true}
 use mathlib.Core.List.{List, [], ◌∷◌}
 use Rattle.std.proofs.Math.ListN.{get_or, set, length-set}
 use Rattle.std.proofs.lemmas.List.{length-replicate, drop-set-add, take-set-le}

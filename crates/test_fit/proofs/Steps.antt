@@ -7,7 +7,7 @@ use Prim.Native.Nat.{ℕ, zero, suc, ◌+◌, ◌*◌, ◌-◌, ◌<◌, ◌≤�
 use native.Mathlib.Numerals.{add-one}
 use native.Mathlib.Omega.{arith}
 use borrow.Author.Rules.{rules}
-use borrow.Author.Tests.{le-leb, lt-leb, eqb_true}
+use borrow.Author.Tests.{le-leb, lt-leb, eqb-true}
 use denote.Enum.Declared.{tag_of}
 use types.Run.{OneOf}
 use lib.Dec.{eqb}
@@ -123,7 +123,7 @@ asks m i p at under = go (tag_at p at) (row_of (tag_at m i) (tag_at p at)) refl
     by_width k n true q = wider (within 2 k 4) refl
       where
         wider : (c : Bool) → within 2 k 4 ≡ c → Asks (cond c (Wide (i + 2) n) Misfit)
-        wider true e = let l = (width_most k e).1 in let h = eqb_true k n q in omega arith
+        wider true e = let l = (width_most k e).1 in let h = eqb-true k n q in omega arith
         wider false e = tt
     by_width k n false q = tt
 
@@ -131,7 +131,7 @@ asks m i p at under = go (tag_at p at) (row_of (tag_at m i) (tag_at p at)) refl
     go t row.Unknown e = tt
     go t (row.Known o b f) e =
         by_stands t o b (f && cond (eqb t 3) (value_fits m i under (get_or p (at + 1) (negsuc 0)) (get_or p (at + 2) (negsuc 0))) true)
-        (λ h. one_operand (tag_at m i) t o b f (eqb_true t 1 h) e)
+        (λ h. one_operand (tag_at m i) t o b f (eqb-true t 1 h) e)
         (few_operands (tag_at m i) t (row.Known o b f) e o b f refl)
     go t (row.Wide false) e = tt
     go t (row.Wide true) e = by_width (tag_at m (i + 1)) (tag_z (get_or p (at + 1) (negsuc 0))) (eqb (tag_at m (i + 1)) (tag_z (get_or p (at + 1) (negsuc 0)))) refl
@@ -284,7 +284,7 @@ module _ (firsts : Bool) (m p : List ℤ) (a u : List ℕ) (w : Waiting) (at : �
           → (b c : List ℕ) → b ≡ stack_after m r (get_or a (w.matchers - 1) 0) (w.matchers - 1) a → c ≡ under_after r (get_or a (w.matchers - 1) 0) w.bound u → Going firsts m p b c v (at + 1)
       going_follow r e k v d b c i j = rw (d, i, j) (follows r e (not_misfit r k))
 
-pub ruleset rules = (ret_long, starts, ret_end, going_skip, ret_spare, ret_misfit, follow_room, going_follow, rules)
+pub ruleset own_rules = (ret_long, starts, ret_end, going_skip, ret_spare, ret_misfit, follow_room, going_follow, rules)
 
 -- ---- Storing the members.
 

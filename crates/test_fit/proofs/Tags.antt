@@ -6,7 +6,7 @@ use mathlib.Core.List.{List, [], ◌∷◌}
 use Prim.Native.Nat.{ℕ, zero, suc, ◌+◌, ◌^◌, ◌<◌, ◌≤◌}
 use native.Mathlib.Omega.{arith}
 use borrow.Author.Rules.{rules}
-use borrow.Author.Tests.{le-leb, lt-leb, leb_true, leb_false, ne_eqb, not_true, not_false}
+use borrow.Author.Tests.{le-leb, lt-leb, leb-true, leb-false, ne_eqb, not-true, not-false}
 use mir.Syntax.{w64}
 use mir.Val.{Fits}
 use lib.Dec.{leb, eqb}
@@ -39,8 +39,8 @@ module _ (m : List ℤ) (i : ℕ) where
     where
       go : (b : Bool) → leb (length under) v ≡ b
           → cond b false (shapes m i (get_or under v 0)) ≡ cond (leb (suc (length under)) (suc v)) false (shapes m i (get_or under v 0))
-      go true e = let l = leb_true (length under) v e in rw (le-leb (suc (length under)) (suc v) (omega arith))
-      go false e = let l = leb_false (length under) v e in rw (lt-leb (suc (length under)) (suc v) (omega arith))
+      go true e = let l = leb-true (length under) v e in rw (le-leb (suc (length under)) (suc v) (omega arith))
+      go false e = let l = leb-false (length under) v e in rw (lt-leb (suc (length under)) (suc v) (omega arith))
 
 zero_tag : (c : ℤ) → same c (pos 0) ≡ eqb (tag_z c) 0
 unfolding same
@@ -75,16 +75,16 @@ module _ (m : List ℤ) (i : ℕ) (l : List ℕ) (next v c : ℕ) (few : next �
 
     pub not_same : not b ≡ true → false ≡ value_fits_tag m i (take next l) v c
     unfolding value_fits_tag
-    not_same n = rw (long, lt-leb next v h, left, ← e, not_true b n)
+    not_same n = rw (long, lt-leb next v h, left, ← e, not-true b n)
 
     module _ (n : not b ≡ false) (k : ℕ) (q : k ≡ tag_at m i) where
       pub any_sum : k ≡ 1 → true ≡ value_fits_tag m i (take next l) v c
       unfolding value_fits_tag
-      any_sum r = rw (long, lt-leb next v h, left, ← e, not_false b n, ← q, r)
+      any_sum r = rw (long, lt-leb next v h, left, ← e, not-false b n, ← q, r)
 
       pub no_sum : (k ≡ 1 → ⊥) → eqb c 0 ≡ value_fits_tag m i (take next l) v c
       unfolding value_fits_tag
-      no_sum r = rw (long, lt-leb next v h, left, ← e, not_false b n, ← q, ne_eqb k 1 r)
+      no_sum r = rw (long, lt-leb next v h, left, ← e, not-false b n, ← q, ne_eqb k 1 r)
 
 pub ruleset value_rules = (not_left, not_same, any_sum, no_sum, rules)
 
@@ -117,9 +117,9 @@ unfolding taken_of taken_in
 low_taken k t e = go (leb 5 k) refl
   where
     go : (b : Bool) → leb 5 k ≡ b → k < 2147483648
-    go false l = let h = leb_false 5 k l in omega arith
+    go false l = let h = leb-false 5 k l in omega arith
     go true l =
-        let f : false ≡ taken_of k t = rw (past (matcher_tags 4) k (leb_true 5 k l)) in
+        let f : false ≡ taken_of k t = rw (past (matcher_tags 4) k (leb-true 5 k l)) in
         let z : ◌≡◌ {A = ℕ} 0 1 = cc in
         absurd (omega arith)
 
@@ -175,14 +175,14 @@ module _ (m p : List ℤ) (i at k t : ℕ) (under : List ℕ) (x : k ≡ tag_at 
   module _ (o b : ℕ) (f : Bool) (q : r ≡ row.Known o b f) where
     pub ret_untaken : not f ≡ true → Misfit ≡ here_at m i p at under
     unfolding asked
-    ret_untaken g = sym (by_row_lem ∙ rw (q, not_true f g))
+    ret_untaken g = sym (by_row_lem ∙ rw (q, not-true f g))
 
     module _ (g : not f ≡ false) where
       -- What the tag asks where it stands rightly, and where not.
       taken : here_at m i p at under
           ≡ cond (cond (eqb t 3) (value_fits m i under (get_or p (at + 1) (negsuc 0)) (get_or p (at + 2) (negsuc 0))) true) (cond (eqb t 1) (Bind o) (by_parts b o (first_of t i))) Misfit
       unfolding asked
-      taken = by_row_lem ∙ rw (q, not_false f g)
+      taken = by_row_lem ∙ rw (q, not-false f g)
 
       pub ret_bind : t ≡ 1 → Bind o ≡ here_at m i p at under
       ret_bind h = sym (taken ∙ rw h)
@@ -209,7 +209,7 @@ module _ (m p : List ℤ) (i at k t : ℕ) (under : List ℕ) (x : k ≡ tag_at 
 
       pub first_fits : length m < 2 ^ 64 → i + 1 < 18446744073709551616
       unfolding Says
-      first_fits l = let s = says k t in first f (rw (sym e ∙ q) at s) (not_false f g) l
+      first_fits l = let s = says k t in first f (rw (sym e ∙ q) at s) (not-false f g) l
 
       module _ (h : t ≡ 3) (few : length under ≤ 2147483648) (v c : ℕ) (ev : v ≡ tag_at p (at + 1)) (ec : c ≡ tag_at p (at + 2)) (s : Bool)
           (w : s ≡ value_fits_tag m i under v c) where
@@ -227,7 +227,7 @@ module _ (m p : List ℤ) (i at k t : ℕ) (under : List ℕ) (x : k ≡ tag_at 
 pub few_under : (next : ℕ) (l : List ℕ) → next ≤ 128 → length (take next l) ≤ 2147483648
 few_under next l h = rw (length-take next l) (omega arith)
 
-pub ruleset rules = (ret_none, ret_untaken_tuple, ret_wide, tuple_fits, ret_untaken, ret_bind, ret_leaf, ret_one, ret_parts, first_fits, ret_misfit, ret_value, few_under, rules)
+pub ruleset own_rules = (ret_none, ret_untaken_tuple, ret_wide, tuple_fits, ret_untaken, ret_bind, ret_leaf, ret_one, ret_parts, first_fits, ret_misfit, ret_value, few_under, rules)
 
 -- ---- The same in a dialect.
 
@@ -252,11 +252,11 @@ module _ (m : List ℤ) (i t : ℕ) where
 
   pub like_every : (firsts : Bool) → not firsts ≡ true → t ≡ 5 → false ≡ unlike firsts m i t
   unfolding unlike
-  like_every firsts f h = rw (h, not_true firsts f)
+  like_every firsts f h = rw (h, not-true firsts f)
 
   pub like_firsts : (firsts b : Bool) → not firsts ≡ false → t ≡ 5 → b ≡ apart_at m i → not b ≡ unlike firsts m i t
   unfolding unlike
-  like_firsts firsts b f h q = rw (h, not_false firsts f, q)
+  like_firsts firsts b f h q = rw (h, not-false firsts f, q)
 
 pub ruleset like_rules = (like_other, like_every, like_firsts, rules)
 

@@ -6,7 +6,7 @@ use mathlib.Core.List.{List, [], ◌∷◌, ◌++◌, append_assoc, append-nil}
 use Prim.Native.Nat.{ℕ, zero, suc, ◌+◌}
 use native.Mathlib.Numerals.{add-one, add-two}
 use native.Mathlib.Omega.{arith}
-use borrow.Author.Tests.{le-leb, eq-eqb, ne_eqb, eqb_true, eqb-false}
+use borrow.Author.Tests.{le-leb, eq-eqb, ne_eqb, eqb-true, eqb-false}
 use lib.Dec.{eqb, leb}
 use lib.ListN.{length, get_elem?}
 use lib.IntN.{ℤ, pos, negsuc}
@@ -82,7 +82,7 @@ eqb_turn : (a b : ℕ) → eqb a b ≡ eqb b a
 eqb_turn a b = go (eqb a b) refl
   where
     go : (c : Bool) → eqb a b ≡ c → c ≡ eqb b a
-    go true e = sym (eq-eqb b a (sym (eqb_true a b e)))
+    go true e = sym (eq-eqb b a (sym (eqb-true a b e)))
     go false e = sym (ne_eqb b a (λ h. eqb-false a b e (sym h)))
 
 module _ (firsts : Bool) (m : List ℤ) where
@@ -278,7 +278,7 @@ module _ (firsts : Bool) (m : List ℤ) where
   tupled ps y i k a js ks s st p ws b =
       let e : p + 2 + span_all ps ≡ p + (2 + span_all ps) = omega arith in
       let c = and_parts (takes k 7) (eqb (countᵖ ps) (countᵐ (members k))) b in
-      let n = eqb_true (countᵖ ps) (countᵐ (members k)) c.1 in
+      let n = eqb-true (countᵖ ps) (countᵐ (members k)) c.1 in
       rw (← e, ← add-two p, n) (y (i + 2) (members k) (at_members m i k a c.0) n js ks s st (p + 2) ws)
 
   mutual

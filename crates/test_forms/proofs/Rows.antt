@@ -4,7 +4,7 @@ use mathlib.Core.Bool.{Bool, true, false, cond, ◌&&◌}
 use mathlib.Core.Option.{Option, none, some}
 use mathlib.Core.List.{List, [], ◌∷◌}
 use Prim.Native.Nat.{ℕ, zero, suc, ◌+◌, ◌-◌}
-use borrow.Author.Tests.{le-leb, lt-leb, ltb_true, ltb_false}
+use borrow.Author.Tests.{le-leb, lt-leb, ltb-true, ltb-false}
 use lib.Dec.{leb, ltb}
 use lib.ListN.{length, drop}
 use lib.Seq.{drop-nil, drop-drop, drop-append_seam}
@@ -66,8 +66,8 @@ unfolding within
 width_within n = go (ltb n 2) refl
   where
     go : (b : Bool) → ltb n 2 ≡ b → (leb 2 n && leb n 4) ≡ cond b false (leb n 4)
-    go true e = let h = ltb_true n 2 e in rw (lt-leb 2 n h)
-    go false e = let h = ltb_false n 2 e in rw (le-leb 2 n h)
+    go true e = let h = ltb-true n 2 e in rw (lt-leb 2 n h)
+    go false e = let h = ltb-false n 2 e in rw (le-leb 2 n h)
 
 pub width_takes : Takes width (λ n. within 2 n 4)
 unfolding width within

@@ -55,4 +55,4 @@ module _ (s : List ℤ) (e : Ended) where
   unfolding whole_at
   ret_bad i q = rw q
 
-pub ruleset rules = (ret_left_over, ret_all, ret_bad, rules)
+pub ruleset own_rules = (ret_left_over, ret_all, ret_bad, rules)

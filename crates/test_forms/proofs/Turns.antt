@@ -4,7 +4,7 @@ use mathlib.Core.Bool.{Bool, true, false, cond}
 use mathlib.Core.List.{List}
 use Prim.Native.Nat.{ℕ, zero, suc, ◌+◌, ◌-◌, ◌^◌, ◌<◌, ◌≤◌}
 use native.Mathlib.Omega.{arith}
-use borrow.Author.Tests.{leb_true, ltb_false, le-leb, le-ltb}
+use borrow.Author.Tests.{leb-true, ltb-false, le-leb, le-ltb}
 use mir.Syntax.{w64}
 use mir.Val.{Fits}
 use lib.Dec.{ltb, leb}
@@ -51,7 +51,7 @@ width_most n = go (ltb n 2) refl
   where
     go : (b : Bool) → ltb n 2 ≡ b → cond b false (leb n 4) ≡ true → (2 ≤ n) × (n ≤ 4)
     go true e h = let z : ◌≡◌ {A = ℕ} 0 1 = cc in absurd (omega arith)
-    go false e h = (ltb_false n 2 e, leb_true n 4 h)
+    go false e h = (ltb-false n 2 e, leb-true n 4 h)
 
 pub is_width : (k : ℕ) → IsWidth k → within 2 k 4 ≡ true
 unfolding IsWidth within

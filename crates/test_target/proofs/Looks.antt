@@ -7,7 +7,7 @@ use mathlib.Core.List.{List, [], ◌∷◌}
 use Prim.Native.Nat.{ℕ, zero, suc, ◌+◌, ◌-◌, ◌<◌, ◌≤◌}
 use native.Mathlib.Numerals.{add-one}
 use native.Mathlib.Omega.{arith}
-use borrow.Author.Tests.{ltb_true, ltb_false}
+use borrow.Author.Tests.{ltb-true, ltb-false}
 use lib.Dec.{ltb, leb}
 use lib.ListN.{length, get_elem?, get_or, drop, drop_of_length-le}
 use lib.Seq.{drop-cons}
@@ -73,8 +73,8 @@ module _ (s : List ℤ) (at t : ℕ) (e : t ≡ tag_at s at) (d : ℕ) where
   other_cause h = go (ltb at (length s)) refl
     where
       go : (b : Bool) → ltb at (length s) ≡ b → told (value d (drop at s)) ≡ cond b 2 (cause_number cut_short)
-      go true q = ap told (by_kind (ltb_true at (length s) q) ∙ ap (seen unknown_tag (after d) (drop (suc at) s)) (past kinds t h))
-      go false q = ap told (value_is d (drop at s) ∙ see_past unknown_tag (entry kinds) (after d) s at (ltb_false at (length s) q))
+      go true q = ap told (by_kind (ltb-true at (length s) q) ∙ ap (seen unknown_tag (after d) (drop (suc at) s)) (past kinds t h))
+      go false q = ap told (value_is d (drop at s) ∙ see_past unknown_tag (entry kinds) (after d) s at (ltb-false at (length s) q))
 
   pub integer_cut : t ≡ 0 → length s ≤ at + 1 → value d (drop at s) ≡ wrong cut_short
   unfolding seen kinds after any_word innermost opened
@@ -109,17 +109,17 @@ module _ (c : Cause) (number : ℤ → Option ℕ) (fits : ℕ → Bool) (takes 
   number_cause f = go (ltb at (length s)) refl
     where
       go : (b : Bool) → ltb at (length s) ≡ b → told (see c number k (drop at s)) ≡ cond b (cause_number c) (cause_number cut_short)
-      go true q = ap told (by_number (ltb_true at (length s) q) ∙ ap (λ x. seen c k (drop (suc at) s) (cond x (some n) none)) f)
-      go false q = ap told (see_past c number k s at (ltb_false at (length s) q))
+      go true q = ap told (by_number (ltb-true at (length s) q) ∙ ap (λ x. seen c k (drop (suc at) s) (cond x (some n) none)) f)
+      go false q = ap told (see_past c number k s at (ltb-false at (length s) q))
 
   number_on : fits n ≡ true → see c number k (drop at s) ≡ k n (drop (suc at) s)
   unfolding seen
   number_on f = go (ltb at (length s)) refl
     where
       go : (b : Bool) → ltb at (length s) ≡ b → see c number k (drop at s) ≡ k n (drop (suc at) s)
-      go true q = by_number (ltb_true at (length s) q) ∙ ap (λ x. seen c k (drop (suc at) s) (cond x (some n) none)) f
+      go true q = by_number (ltb-true at (length s) q) ∙ ap (λ x. seen c k (drop (suc at) s) (cond x (some n) none)) f
       go false q =
-          let p : fits n ≡ false = ap fits (e ∙ past_tag s at (ltb_false at (length s) q)) ∙ takes.not_past in
+          let p : fits n ≡ false = ap fits (e ∙ past_tag s at (ltb-false at (length s) q)) ∙ takes.not_past in
           let z : ◌≡◌ {A = ℕ} 0 1 = cc (p, f) in absurd (omega arith)
 
 module _ (s : List ℤ) (at t : ℕ) (e : t ≡ tag_at s at) (n : ℕ) (q : n ≡ tag_at s (at + 1)) where

@@ -5,7 +5,7 @@ use mathlib.Core.List.{List, [], ◌∷◌}
 use Prim.Native.Nat.{ℕ, zero, suc, ◌+◌, ◌-◌, ◌^◌, ◌<◌, ◌≤◌}
 use native.Mathlib.Omega.{arith}
 use borrow.Author.Rules.{rules}
-use borrow.Author.Tests.{lt-leb, le-leb, lt-ltb, le-ltb, ne_eqb, eqb_true, ltb_true, leb_true, not_true, not_false}
+use borrow.Author.Tests.{lt-leb, le-leb, lt-ltb, le-ltb, ne_eqb, eqb-true, ltb-true, leb-true, not-true, not-false}
 use mir.Syntax.{w64}
 use mir.Val.{Fits}
 use lib.Dec.{eqb, leb, ltb}
@@ -44,7 +44,7 @@ module _ (t n : ℕ) where
   count_most = go (eqb t 1)
     where
       go : (b : Bool) → cond b (leb n 64) (within 2 n 4) ≡ true → n ≤ 64
-      go true h = leb_true n 64 h
+      go true h = leb-true n 64 h
       go false h = let l = (width_most n h).1 in omega arith
 
 pub ruleset count_rules = (ret_elements, ret_parts, rules)
@@ -90,7 +90,7 @@ unfolding plain_at
 plain_words_lem s at = go (eqb (tag_at s at) 0) refl (ltb (at + 1) (length s)) refl
   where
     go : (b : Bool) → eqb (tag_at s at) 0 ≡ b → (c : Bool) → ltb (at + 1) (length s) ≡ c → cond b c false ≡ true → (tag_at s at ≡ 0) × (at + 1 < length s)
-    go true p true q h = (eqb_true (tag_at s at) 0 p, ltb_true (at + 1) (length s) q)
+    go true p true q h = (eqb-true (tag_at s at) 0 p, ltb-true (at + 1) (length s) q)
     go true p false q h = let z : ◌≡◌ {A = ℕ} 0 1 = cc in absurd (omega arith)
     go false p c q h = let z : ◌≡◌ {A = ℕ} 0 1 = cc in absurd (omega arith)
 
@@ -118,11 +118,11 @@ module _ (s : List ℤ) (at t d : ℕ) (e : t ≡ tag_at s at) where
     module _ (z : d ≡ 0 → ⊥) (n : ℕ) (q : n ≡ tag_at s (at + 1)) (c : Bool) (w : c ≡ count_fits t n) where
       pub ret_many : not c ≡ true → (u : ℕ) → u ≡ count_cause t → (k : ℕ) → k ≡ cause_at s (at + 1) u → Bad (at + 1) k ≡ valued_from s d at
       ret_many h u x k y =
-          let f = sym w ∙ not_true c h in
+          let f = sym w ∙ not-true c h in
           sym (valued_bad s d at (at + 1) k (wrong s at t e n q (omega arith) a d z f) (count_cause_lem s at t e n q d z (omega arith) a f ∙ sym (y ∙ ap (cause_at s (at + 1)) x)))
 
       pub loop_in : not c ≡ false → valued_from s d at ≡ in_line (valued_from s (d - 1)) n (at + 2)
-      loop_in h = valued_row s at t e n q (omega arith) a d z (sym w ∙ not_false c h)
+      loop_in h = valued_row s at t e n q (omega arith) a d z (sym w ∙ not-false c h)
 
 -- ---- The elements: v is what those that are left are to give.
 
@@ -156,9 +156,9 @@ pub next_1 : (s : List ℤ) (at t : ℕ) → t ≡ tag_at s at → t ≤ 2 → l
 next_1 s at t e h l = let x = signed.within s at t e (omega arith) in record { fits = omega arith }
 
 pub next_2 : (s : List ℤ) (at n t : ℕ) → n ≡ tag_at s (at + 1) → (c : Bool) → c ≡ count_fits t n → not c ≡ false → length s < 2 ^ 64 → Fits w64 (at + 2)
-next_2 s at n t e c w h l = let k = count_most t n (sym w ∙ not_false c h) in next_two s at n e (omega arith) l
+next_2 s at n t e c w h l = let k = count_most t n (sym w ∙ not-false c h) in next_two s at n e (omega arith) l
 
-pub ruleset rules = (ret_other, ret_integer, ret_cut, ret_deep, ret_many, loop_in, loop_out, loop_turn, loop_plain, loop_bad, next_1, next_2, plain_next_2, depth_pos, depth_less, rules)
+pub ruleset own_rules = (ret_other, ret_integer, ret_cut, ret_deep, ret_many, loop_in, loop_out, loop_turn, loop_plain, loop_bad, next_1, next_2, plain_next_2, depth_pos, depth_less, rules)
 
 -- ---- The end of a value.
 

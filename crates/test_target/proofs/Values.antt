@@ -6,7 +6,7 @@ use mathlib.Core.List.{List}
 use Prim.Native.Nat.{ℕ, zero, suc, ◌+◌, ◌-◌, ◌<◌, ◌≤◌}
 use native.Mathlib.Numerals.{add-one, add-two}
 use native.Mathlib.Omega.{arith}
-use borrow.Author.Tests.{ltb_true, ltb_false}
+use borrow.Author.Tests.{ltb-true, ltb-false}
 use lib.Dec.{leb, ltb}
 use lib.ListN.{length, get_elem?, drop, drop_of_length-le}
 use lib.Seq.{drop-cons}
@@ -53,8 +53,8 @@ module _ (part : Reader Value) (s : List ℤ) (at : ℕ) where
   opened_one f = go (ltb (at + 1) (length s)) refl
     where
       go : (b : Bool) → ltb (at + 1) (length s) ≡ b → opened (some (one f)) ≡ cond b (End (at + 2)) (Bad (at + 1))
-      go true e = let h : suc at < length s = omega (arith, ltb_true (at + 1) (length s) e) in rw (drop-cons s (suc at) (negsuc 0) h, add-two at)
-      go false e = let h : length s ≤ suc at = omega (arith, ltb_false (at + 1) (length s) e) in rw (drop_of_length-le s h, add-one at)
+      go true e = let h : suc at < length s = omega (arith, ltb-true (at + 1) (length s) e) in rw (drop-cons s (suc at) (negsuc 0) h, add-two at)
+      go false e = let h : length s ≤ suc at = omega (arith, ltb-false (at + 1) (length s) e) in rw (drop_of_length-le s h, add-one at)
 
   module _ (number : ℤ → Option ℕ) (fits : ℕ → Bool) (takes : Takes number fits) (f : Values → Value) (n : ℕ) (e : n ≡ tag_at s (at + 1)) where
     opened_wrong : fits n ≡ false → opened (some (many number f)) ≡ Bad (at + 1)

@@ -4,7 +4,7 @@ use mathlib.Core.Bool.{Bool, true, false, cond}
 use mathlib.Core.List.{List, [], ◌∷◌, ◌++◌, append_assoc, append-nil}
 use Prim.Native.Nat.{ℕ, zero, suc, ◌+◌, ◌≤◌}
 use native.Mathlib.Omega.{arith}
-use borrow.Author.Tests.{le-ltb, eqb_true}
+use borrow.Author.Tests.{le-ltb, eqb-true}
 use lib.Dec.{eqb}
 use lib.ListN.{length, drop}
 use lib.IntN.{ℤ, pos}
@@ -88,7 +88,7 @@ module _ (s m : List ℤ) where
 
       go : (b : Bool) → eqb (countᵐ ks) (count vs) ≡ b → inside s m (suc d) i at
           ≡ after Bad (demand {A = Unit {0}} b at tt then λ _. fits_each ks vs (at + 2)) (λ _. End (at + 2 + size_all vs))
-      go true e = open_parts d i at (count vs) n (countᵐ ks) p r (width true e) ∙ g (eqb_true (countᵐ ks) (count vs) e)
+      go true e = open_parts d i at (count vs) n (countᵐ ks) p r (width true e) ∙ g (eqb-true (countᵐ ks) (count vs) e)
       go false e = no_parts d i at (count vs) n (countᵐ ks) p r (width false e)
 
   -- The elements of a collection under a list or a multiset of k.

@@ -5,7 +5,7 @@ use mathlib.Core.List.{List}
 use Prim.Native.Nat.{ℕ, zero, suc, min, ◌+◌, ◌-◌, ◌*◌, ◌/◌, ◌^◌, ◌<◌, ◌≤◌}
 use native.Mathlib.Omega.{arith}
 use borrow.Author.Rules.{rules}
-use borrow.Author.Tests.{lt-ltb, le-ltb, ltb_true, eq-eqb, ne_eqb, eqb_true}
+use borrow.Author.Tests.{lt-ltb, le-ltb, ltb-true, eq-eqb, ne_eqb, eqb-true}
 use mir.Syntax.{w64}
 use mir.Val.{Fits}
 use lib.Dec.{eqb, ltb}
@@ -141,7 +141,7 @@ by_run s m at n k j d P z f g = go (eqb k 4) refl (eqb (tag_at m j) 1) refl (ask
     go : (a : Bool) → eqb k 4 ≡ a → (b : Bool) → eqb (tag_at m j) 1 ≡ b → (c : Bool) → asks_pairs m j d ≡ c
         → P (cond a (passed at 0 0) (cond b (passed at 2 (plain_run s n at)) (cond c (passed at 6 (pair_run s n at)) (passed at 0 0))))
     go true p b q c w = z
-    go false p true q c w = f (other p) (eqb_true (tag_at m j) 1 q)
+    go false p true q c w = f (other p) (eqb-true (tag_at m j) 1 q)
     go false p false q true w = g (other p) w
     go false p false q false w = z
 
@@ -183,7 +183,7 @@ integers_end s m depth j h e p =
     let b = holds (eqb (tag_at m (j + 2)) 1) _ a.1 in
     let u = holds (is_pair s e 2) _ p in
     let v = holds (plain_at s (e + 2)) _ u.1 in
-    let z : depth - 1 ≡ suc (depth - 2) = omega (arith, ltb_true 1 depth l.0) in
+    let z : depth - 1 ≡ suc (depth - 2) = omega (arith, ltb-true 1 depth l.0) in
     rw z (pair_end s m e j (depth - 2) (rw (a.0, u.0, b.0, v.0, b.1) v.1))
 
 module _ (s m : List ℤ) (k j n e depth : ℕ) (r : Run) (q : r ≡ fit_run s e n m k j depth) where

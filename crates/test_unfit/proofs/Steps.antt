@@ -5,7 +5,7 @@ use mathlib.Core.List.{List}
 use Prim.Native.Nat.{ℕ, zero, suc, ◌+◌, ◌-◌, ◌*◌, ◌^◌, ◌<◌, ◌≤◌}
 use native.Mathlib.Omega.{arith}
 use borrow.Author.Rules.{rules}
-use borrow.Author.Tests.{lt-ltb, le-ltb, ltb_true, ltb_false, eq-eqb, ne_eqb, eqb_true, not_true, not_false}
+use borrow.Author.Tests.{lt-ltb, le-ltb, ltb-true, ltb-false, eq-eqb, ne_eqb, eqb-true, not-true, not-false}
 use mir.Syntax.{w64}
 use mir.Val.{Fits}
 use lib.Dec.{eqb, ltb}
@@ -49,7 +49,7 @@ module _ (k t : ℕ) where
   opened_low = go (eqb k 4) refl
     where
       two : (j : ℕ) (c : Bool) → eqb t j ≡ c → c ≡ true → t ≡ j
-      two j true e h = eqb_true t j e
+      two j true e h = eqb-true t j e
       two j false e h = let z : ◌≡◌ {A = ℕ} 0 1 = cc in absurd (omega arith)
 
       in_two : (c : Bool) → within 2 k 3 ≡ c → cond c (eqb t 1) false ≡ true → (k ≤ 4) × (t ≤ 2)
@@ -57,7 +57,7 @@ module _ (k t : ℕ) where
       in_two false e h = let z : ◌≡◌ {A = ℕ} 0 1 = cc in absurd (omega arith)
 
       go : (b : Bool) → eqb k 4 ≡ b → cond b (eqb t 2) (cond (within 2 k 3) (eqb t 1) false) ≡ true → (k ≤ 4) × (t ≤ 2)
-      go true e h = let l = eqb_true k 4 e in let q = two 2 (eqb t 2) refl h in (omega arith, omega arith)
+      go true e h = let l = eqb-true k 4 e in let q = two 2 (eqb t 2) refl h in (omega arith, omega arith)
       go false e h = in_two (within 2 k 3) refl h
 
 module _ (m : List ℤ) (i k n : ℕ) where
@@ -87,7 +87,7 @@ module _ (m : List ℤ) (i k n : ℕ) where
 
       many : (b : Bool) → ltb 64 n ≡ b → cond b Unfit (From (i + 1)) ≡ From j → n ≤ 64
       many true e h = let z : ◌≡◌ {A = ℕ} 0 1 = cc in absurd (omega arith)
-      many false e h = ltb_false 64 n e
+      many false e h = ltb-false 64 n e
 
       go : (b : Bool) → cond b (cond (cond (eqb (tag_at m (i + 1)) n) (within 2 (tag_at m (i + 1)) 4) false) (From (i + 2)) Unfit) (cond (ltb 64 n) Unfit (From (i + 1))) ≡ From j → n ≤ 64
       go true h = wide (cond (eqb (tag_at m (i + 1)) n) (within 2 (tag_at m (i + 1)) 4) false) refl h
@@ -156,7 +156,7 @@ unfolding number_fits
 number_words s m at j = go (eqb (tag_at m j) 1) refl
   where
     go : (b : Bool) → eqb (tag_at m j) 1 ≡ b → cond b (plain_at s at) false ≡ true → (tag_at m j ≡ 1) × (plain_at s at ≡ true)
-    go true p h = (eqb_true (tag_at m j) 1 p, h)
+    go true p h = (eqb-true (tag_at m j) 1 p, h)
     go false p h = let z : ◌≡◌ {A = ℕ} 0 1 = cc in absurd (omega arith)
 
 -- ---- A value under a matcher.
@@ -187,12 +187,12 @@ module _ (s m : List ℤ) (i at k d : ℕ) (e : k ≡ tag_at m i) where
     module _ (f : k ≡ 0 → ⊥) (g : k ≡ 1 → ⊥) (b : Bool) (h : b ≡ opens_at k t) where
       pub ret_closed : not b ≡ true → Bad at ≡ fit_from s m d i at
       unfolding under_tag
-      ret_closed y = sym (by_tags s m d i at ∙ rw (← e, ← q, ne_eqb k 0 f, ne_eqb k 1 g, ← h, not_true b y))
+      ret_closed y = sym (by_tags s m d i at ∙ rw (← e, ← q, ne_eqb k 0 f, ne_eqb k 1 g, ← h, not-true b y))
 
       module _ (y : not b ≡ false) where
         opened : fit_from s m d i at ≡ inside s m d i at
         unfolding under_tag
-        opened = by_tags s m d i at ∙ rw (← e, ← q, ne_eqb k 0 f, ne_eqb k 1 g, ← h, not_false b y)
+        opened = by_tags s m d i at ∙ rw (← e, ← q, ne_eqb k 0 f, ne_eqb k 1 g, ← h, not-false b y)
 
         pub ret_deep : d ≡ 0 → Bad at ≡ fit_from s m d i at
         unfolding inside
@@ -243,7 +243,7 @@ holds false c h = let z : ◌≡◌ {A = ℕ} 0 1 = cc in absurd (omega arith)
 
 pair_words : (ws : List ℤ) (at tag : ℕ) → is_pair ws at tag ≡ true → (tag_at ws at ≡ tag) × (tag_at ws (at + 1) ≡ 2)
 unfolding is_pair
-pair_words ws at tag h = let a = holds (eqb (tag_at ws at) tag) _ h in (eqb_true (tag_at ws at) tag a.0, eqb_true (tag_at ws (at + 1)) 2 a.1)
+pair_words ws at tag h = let a = holds (eqb (tag_at ws at) tag) _ h in (eqb-true (tag_at ws at) tag a.0, eqb-true (tag_at ws (at + 1)) 2 a.1)
 
 pub behind_pair : (ws : List ℤ) (at tag : ℕ) (b : Bool) → b ≡ is_pair ws at tag → b ≡ true → length ws < 2 ^ 64 → Fits w64 (at + 2)
 behind_pair ws at tag b e h l = let w = signed.within ws (at + 1) (tag_at ws (at + 1)) refl (omega (arith, (pair_words ws at tag (sym e ∙ h)).1)) in record { fits = omega arith }
@@ -350,7 +350,7 @@ plain_ends s m at j d = go (number_fits s at m j) refl (ltb 1 d) refl (pair_fits
     go : (a : Bool) → number_fits s at m j ≡ a → (b : Bool) → ltb 1 d ≡ b → (c : Bool) → pair_fits s at m j ≡ c → 0 < cond a 2 (cond b (cond c 6 0) 0) → 0 < d
         → End (at + cond a 2 (cond b (cond c 6 0) 0)) ≡ fit_from s m (d - 1) j at
     go true p b q c u h l = number_end s m at j (d - 1) p
-    go false p true q true u h l = let v = ltb_true 1 d q in let z : d - 1 ≡ suc (d - 2) = omega arith in rw z (pair_end s m at j (d - 2) u)
+    go false p true q true u h l = let v = ltb-true 1 d q in let z : d - 1 ≡ suc (d - 2) = omega arith in rw z (pair_end s m at j (d - 2) u)
     go false p true q false u h l = absurd (omega arith)
     go false p false q c u h l = absurd (omega arith)
 
@@ -391,13 +391,13 @@ module _ (s m : List ℤ) (d k n j e : ℕ) (v : Ended) (x : v ≡ in_each (fit_
 module _ (k t : ℕ) (b : Bool) (h : b ≡ opens_at k t) (y : not b ≡ false) where
   pub next_i : (m : List ℤ) (i : ℕ) → k ≡ tag_at m i → length m < 2 ^ 64 → i + 1 < 18446744073709551616
   next_i m i e l =
-      let o = (opened_low k t (sym h ∙ not_false b y)).0 in
+      let o = (opened_low k t (sym h ∙ not-false b y)).0 in
       let x = signed.within m i k e (omega arith) in
       omega arith
 
   pub next_at : (s : List ℤ) (at : ℕ) → t ≡ tag_at s at → length s < 2 ^ 64 → Fits w64 (at + 1)
   next_at s at e l =
-      let o = (opened_low k t (sym h ∙ not_false b y)).1 in
+      let o = (opened_low k t (sym h ∙ not-false b y)).1 in
       let x = signed.within s at t e (omega arith) in
       record { fits = omega arith }
 
@@ -407,4 +407,4 @@ next_2 s m at i k n j e a w x l = let o = members_most m i k n j (sym w ∙ x) i
 pub plain_next : (s m : List ℤ) (e j d w : ℕ) → w ≡ plain_words s e m j d → 0 < w → length s < 2 ^ 64 → Fits w64 (e + w)
 plain_next s m e j d w q h l = record { fits = rw q (plain_within s m e j d (rw (← q) h) l) }
 
-pub ruleset rules = (ret_something, ret_under, ret_closed, ret_deep, ret_unfit, loop_in, loop_out, loop_turn, loop_plain, loop_bad, next_i, next_at, next_2, plain_next, depth_pos, depth_less, rules)
+pub ruleset own_rules = (ret_something, ret_under, ret_closed, ret_deep, ret_unfit, loop_in, loop_out, loop_turn, loop_plain, loop_bad, next_i, next_at, next_2, plain_next, depth_pos, depth_less, rules)

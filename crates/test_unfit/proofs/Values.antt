@@ -4,7 +4,7 @@ use mathlib.Core.Bool.{Bool, true, false, cond}
 use mathlib.Core.List.{List}
 use Prim.Native.Nat.{ℕ, zero, suc, ◌+◌, ◌-◌, ◌≤◌}
 use native.Mathlib.Omega.{arith}
-use borrow.Author.Tests.{ltb_false, le-leb, eqb_true}
+use borrow.Author.Tests.{ltb-false, le-leb, eqb-true}
 use lib.Dec.{eqb, ltb, leb}
 use lib.IntN.{ℤ}
 use Rattle.words.specs.Words.{tag_at}
@@ -25,7 +25,7 @@ not_end i e q = let z : ◌≡◌ {A = ℕ} 0 1 = cc in absurd (omega arith)
 -- So many elements or parts as a matcher goes into are so many as a value may have.
 module _ (m : List ℤ) (i k t n j : ℕ) where
   wide_counts : (w : ℕ) (b : Bool) → eqb w n ≡ b → cond b (within 2 w 4) false ≡ true → within 2 n 4 ≡ true
-  wide_counts w true e h = rw (← eqb_true w n e) h
+  wide_counts w true e h = rw (← eqb-true w n e) h
   wide_counts w false e h = let z : ◌≡◌ {A = ℕ} 0 1 = cc in absurd (omega arith)
 
   opened_counts : opens_at k t ≡ true → members_of m i k n ≡ From j → (1 ≤ t) × (t ≤ 2) × (count_fits t n ≡ true)
@@ -34,12 +34,12 @@ module _ (m : List ℤ) (i k t n j : ℕ) where
     where
       tuple : (b : Bool) → eqb t 2 ≡ b → b ≡ true → (c : Bool) → cond (eqb (tag_at m (i + 1)) n) (within 2 (tag_at m (i + 1)) 4) false ≡ c → cond c (From (i + 2)) Unfit ≡ From j
           → (1 ≤ t) × (t ≤ 2) × (cond (eqb t 1) (leb n 64) (within 2 n 4) ≡ true)
-      tuple true e h true w q = let x = eqb_true t 2 e in (omega arith, omega arith, rw x (wide_counts (tag_at m (i + 1)) (eqb (tag_at m (i + 1)) n) refl w))
+      tuple true e h true w q = let x = eqb-true t 2 e in (omega arith, omega arith, rw x (wide_counts (tag_at m (i + 1)) (eqb (tag_at m (i + 1)) n) refl w))
       tuple true e h false w q = let z : ◌≡◌ {A = ℕ} 0 1 = cc in absurd (omega arith)
       tuple false e h c w q = let z : ◌≡◌ {A = ℕ} 0 1 = cc in absurd (omega arith)
 
       elements : (b : Bool) → eqb t 1 ≡ b → b ≡ true → (c : Bool) → ltb 64 n ≡ c → cond c Unfit (From (i + 1)) ≡ From j → (1 ≤ t) × (t ≤ 2) × (cond (eqb t 1) (leb n 64) (within 2 n 4) ≡ true)
-      elements true e h false l q = let x = eqb_true t 1 e in (omega arith, omega arith, rw x (le-leb n 64 (ltb_false 64 n l)))
+      elements true e h false l q = let x = eqb-true t 1 e in (omega arith, omega arith, rw x (le-leb n 64 (ltb-false 64 n l)))
       elements true e h true l q = let z : ◌≡◌ {A = ℕ} 0 1 = cc in absurd (omega arith)
       elements false e h c l q = let z : ◌≡◌ {A = ℕ} 0 1 = cc in absurd (omega arith)
 

@@ -6,7 +6,7 @@ use Prim.Native.Nat.{ℕ, zero, suc, ◌+◌, ◌*◌, ◌-◌, ◌<◌, ◌≤�
 use native.Mathlib.Numerals.{add-one}
 use native.Mathlib.Omega.{arith}
 use borrow.Author.Rules.{rules}
-use borrow.Author.Tests.{le-leb, lt-leb, le-ltb, eq-eqb, ne_eqb, eqb_true, ltb_true, not_true, not_false}
+use borrow.Author.Tests.{le-leb, lt-leb, le-ltb, eq-eqb, ne_eqb, eqb-true, ltb-true, not-true, not-false}
 use lib.Dec.{eqb, ltb}
 use lib.ListN.{length, get_or, drop, drop_of_length-le}
 use lib.Seq.{drop-cons, get_or-drop}
@@ -103,11 +103,11 @@ module _ (s : List ℤ) (at o n d : ℕ) where
 
     module _ (t v : ℕ) (e : t ≡ tag_at s at) (g : v ≡ tag_at s (at + 1)) (h : at < length s) (q : o ≤ 0) (l : n ≤ 16) where
       pub ret_refused : (b : Bool) → b ≡ allowed_tag t v d n → not b ≡ true → Fault at ≡ vars_of s
-      ret_refused b x y = in_time s _ m (sym (i ∙ refused s at h t v e g o n d q l (sym x ∙ not_true b y)))
+      ret_refused b x y = in_time s _ m (sym (i ∙ refused s at h t v e g o n d q l (sym x ∙ not-true b y)))
 
       module _ (b : Bool) (x : b ≡ allowed_tag t v d n) (y : not b ≡ false) (row : Row) (j : row ≡ row_of 0 t) where
         told : vars_p 0 0 0 0 s ≡ next s at h t v e g o n d q l row
-        told = i ∙ by_row_lem s at h t v e g o n d q l (sym x ∙ not_false b y) row j
+        told = i ∙ by_row_lem s at h t v e g o n d q l (sym x ∙ not-false b y) row j
 
         pub ret_unknown : row ≡ Unknown → Fault at ≡ vars_of s
         unfolding by_row next
@@ -115,7 +115,7 @@ module _ (s : List ℤ) (at o n d : ℕ) where
 
         pub ret_width : (f : Bool) → row ≡ Wide f → (c : Bool) → c ≡ within 2 v 4 → not c ≡ true → Fault (at + 1) ≡ vars_of s
         unfolding by_row next
-        ret_width f k c u z = in_time s _ m (sym (told ∙ rw (k, ← u, not_true c z)))
+        ret_width f k c u z = in_time s _ m (sym (told ∙ rw (k, ← u, not-true c z)))
 
   module _ (w : Counted) (i : w ≡ vars_p o n d at (drop at s)) where
     pub turn_skip : at < length s → 0 < o → w ≡ vars_p (o - 1) n d (at + 1) (drop (at + 1) s)
@@ -124,12 +124,12 @@ module _ (s : List ℤ) (at o n d : ℕ) where
     module _ (t v : ℕ) (e : t ≡ tag_at s at) (g : v ≡ tag_at s (at + 1)) (h : at < length s) (q : o ≤ 0) (l : n ≤ 16)
         (b : Bool) (x : b ≡ allowed_tag t v d n) (y : not b ≡ false) (row : Row) (j : row ≡ row_of 0 t) where
       known : w ≡ next s at h t v e g o n d q l row
-      known = i ∙ by_row_lem s at h t v e g o n d q l (sym x ∙ not_false b y) row j
+      known = i ∙ by_row_lem s at h t v e g o n d q l (sym x ∙ not-false b y) row j
 
       pub turn_wide : (f : Bool) → row ≡ Wide f → (c : Bool) → c ≡ within 2 v 4 → not c ≡ false → (r : ℕ) → r ≡ inside_after t v d
           → w ≡ vars_p 1 n r (at + 1) (drop (at + 1) s)
       unfolding by_row next
-      turn_wide f k c u z r a = known ∙ rw (k, ← u, not_false c z, a)
+      turn_wide f k c u z r a = known ∙ rw (k, ← u, not-false c z, a)
 
       module _ (a c : ℕ) (f : Bool) (k : row ≡ Known a c f) (r : ℕ) (z : r ≡ inside_after t c d) where
         pub turn_variable : t ≡ 1 → w ≡ vars_p a (n + 1) r (at + 1) (drop (at + 1) s)
@@ -143,10 +143,10 @@ module _ (s : List ℤ) (at o n d : ℕ) where
 -- A variable that may stand here is not the seventeenth.
 pub bound_next : (t v d n : ℕ) (b : Bool) → b ≡ allowed_tag t v d n → not b ≡ false → t ≡ 1 → n + 1 ≤ 16
 unfolding allowed_tag
-bound_next t v d n b x y u = go (eqb d 0) (eqb v n) (ltb n 16) refl (sym (not_false b y) ∙ x ∙ rw u)
+bound_next t v d n b x y u = go (eqb d 0) (eqb v n) (ltb n 16) refl (sym (not-false b y) ∙ x ∙ rw u)
   where
     go : (a p r : Bool) → ltb n 16 ≡ r → true ≡ (a && (p && r)) → n + 1 ≤ 16
-    go a p true z e = let m = ltb_true n 16 z in omega arith
+    go a p true z e = let m = ltb-true n 16 z in omega arith
     go true true false z e = let c : ◌≡◌ {A = ℕ} 0 1 = cc in absurd (omega arith)
     go true false false z e = let c : ◌≡◌ {A = ℕ} 0 1 = cc in absurd (omega arith)
     go false p false z e = let c : ◌≡◌ {A = ℕ} 0 1 = cc in absurd (omega arith)
@@ -165,7 +165,7 @@ few_inside t b (suc d) r at e l h = omega arith
 pub room_inside : (s : List ℤ) (b d at : ℕ) → b ≤ 4 → d ≤ 4 * at → at < length s → length s ≤ 256 → d + b < 4294967296
 room_inside s b d at l h k m = omega arith
 
-pub ruleset rules = (ret_long, ret_end, ret_refused, ret_unknown, ret_width, turn_skip, turn_wide, turn_variable, turn_other, bound_next, few_inside, room_inside, few_operands, few_known, few_wide, rules)
+pub ruleset own_rules = (ret_long, ret_end, ret_refused, ret_unknown, ret_width, turn_skip, turn_wide, turn_variable, turn_other, bound_next, few_inside, room_inside, few_operands, few_known, few_wide, rules)
 
 -- ---- What is to come in an or or a not.
 

@@ -168,4 +168,4 @@ module _ (s : List ℤ) (v : Tested) (e : v ≡ tested (read_pattern s)) where
       go (ok a) h = let z : ◌≡◌ {A = ℕ} 0 1 = cc in absurd (omega arith)
       go (fault j) h = let q : i ≡ j = cc in ap Fault q
 
-pub ruleset rules = (ret_passed, ret_fault, rules)
+pub ruleset own_rules = (ret_passed, ret_fault, rules)

@@ -5,7 +5,7 @@ use mathlib.Core.List.{List, []}
 use Prim.Native.Nat.{ℕ, ◌+◌, ◌<◌, ◌≤◌}
 use native.Mathlib.Omega.{arith}
 use borrow.Author.Rules.{rules}
-use borrow.Author.Tests.{lt-ltb, le-ltb, ltb_false, eqb_true}
+use borrow.Author.Tests.{lt-ltb, le-ltb, ltb-false, eqb-true}
 use lib.Dec.{eqb, ltb}
 use lib.ListN.{length}
 use lib.IntN.{ℤ}
@@ -156,12 +156,12 @@ unfolding fits_all ends_at
 all_fits ms ts = go (ltb 1024 (length ts)) refl
   where
     at_end : (c : Ended) → ends_at (length ts) c ≡ true → c ≡ End (length ts)
-    at_end (End e) q = ap End (eqb_true e (length ts) q)
+    at_end (End e) q = ap End (eqb-true e (length ts) q)
     at_end (Bad i) q = let z : ◌≡◌ {A = ℕ} 0 1 = cc in absurd (omega arith)
 
     go : (x : Bool) → ltb 1024 (length ts) ≡ x → cond x false (ends_at (length ts) (fit_from ts ms 8 0 0)) ≡ true → (length ts ≤ 1024) × (fit_from ts ms 8 0 0 ≡ End (length ts))
     go true p q = let z : ◌≡◌ {A = ℕ} 0 1 = cc in absurd (omega arith)
-    go false p q = (ltb_false 1024 (length ts) p, at_end (fit_from ts ms 8 0 0) q)
+    go false p q = (ltb-false 1024 (length ts) p, at_end (fit_from ts ms 8 0 0) q)
 
 module _ (ms ts : List ℤ) (w : Whole ms) (b : Found) (eb : b ≡ found (read_target ts) (cause_of ts)) where
   pub ret_target : (i c : ℕ) → b ≡ finds.Fault i c → targets.Refused 5 i c ≡ target_judgement ts (target_under ms ts)

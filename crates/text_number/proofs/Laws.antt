@@ -5,7 +5,7 @@ use mathlib.Core.Option.{Option, none, some}
 use mathlib.Core.List.{List, [], ◌∷◌}
 use Prim.Native.Nat.{ℕ, zero, suc, ◌+◌, ◌-◌, ◌*◌, ◌^◌, ◌<◌, ◌≤◌}
 use native.Mathlib.Numerals.{add-one}
-use native.Mathlib.Nat.{pow_suc, pow-le-pow_right, le_trans, le_of_lt}
+use native.Mathlib.Nat.{pow-suc, pow-le-pow_right, le_trans, le_of_lt}
 use native.Mathlib.Omega.{arith}
 use borrow.Author.Rules.{rules}
 use borrow.Author.Tests.{lt-ltb, le-ltb, le-leb, lt-leb, eq-eqb, ne_eqb}
@@ -97,7 +97,7 @@ pub digit_turn : (s : List ℕ) (i n b : ℕ) (x : Option ℕ) → x ≡ digits 
 digit_turn s i n b x e h q lo hi = e ∙ digits_step s i n b h q (a_digit b lo hi)
 
 pub digit_less : (i n b : ℕ) → n < 10 ^ i → b ≤ 57 → n * 10 + (b - 48) < 10 ^ (i + 1)
-digit_less i n b h o = rw (add-one i, pow_suc 10 i) (omega arith)
+digit_less i n b h o = rw (add-one i, pow-suc 10 i) (omega arith)
 
 below_ten : (i n : ℕ) → n < 10 ^ i → i ≤ 10 → n < 10 ^ 10
 below_ten i n h l = let p : 10 ^ i ≤ 10 ^ 10 = pow-le-pow_right (omega arith) l in omega arith

@@ -9,4 +9,4 @@ use lib.Seq.{length-take-le}
 pub count_of : {A : Type 0} (l : List A) (n : ℕ) → n ≤ length l → n ≡ length (take n l)
 count_of l n h = sym (length-take-le n l h)
 
-pub ruleset rules = (count_of, rules)
+pub ruleset own_rules = (count_of, rules)

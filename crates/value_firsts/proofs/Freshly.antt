@@ -5,11 +5,11 @@ use mathlib.Core.Bool.{Bool, true, false}
 use mathlib.Core.List.{List, map}
 use mathlib.Core.Logic.{◌⊎◌, inl, inr, ⊎_elim}
 use native.Mathlib.Omega.{arith}
-use native.Mathlib.Nat.{pow_suc}
+use native.Mathlib.Nat.{pow-suc}
 use lib.Pow.{pow_pos, pow_mono}
 use lib.IntN.{ℤ}
 use lib.Dec.{eqb}
-use borrow.Author.Tests.{eqb_true, eqb-false}
+use borrow.Author.Tests.{eqb-true, eqb-false}
 use borrow.Author.Rules.{rules}
 use mir.Syntax.{w32}
 use mir.Val.{Fits}
@@ -45,9 +45,9 @@ more_digit : (k out : ℕ) → out < 2 ^ k → (j : ℕ) → digit j (out + 2 ^ 
 unfolding digit
 more_digit zero out l zero e = inl refl
 more_digit zero out l (suc j) e = let z : (out + 1) / 2 ≡ 0 = omega arith in absurd (no_digit j (rw z at e))
-more_digit (suc k) out l zero e = let p = pow_suc 2 k in inr (omega arith)
+more_digit (suc k) out l zero e = let p = pow-suc 2 k in inr (omega arith)
 more_digit (suc k) out l (suc j) e =
-    let p = pow_suc 2 k in
+    let p = pow-suc 2 k in
     let z : (out + 2 ^ suc k) / 2 ≡ out / 2 + 2 ^ k = omega arith in
     ⊎_elim (λ q. inl (ap suc q)) (λ q. inr q) (more_digit k (out / 2) (omega arith) j (rw z at e))
 
@@ -83,7 +83,7 @@ module _ (mt : List ℤ) (i : ℕ) (s : List ℤ) (at : ℕ) where
       here = rw (← p, ← q) (sym d ∙ b)
 
       go : (j : ℕ) (c : Bool) → eqb j n ≡ c → j < n + 1 → wholes_equal mt i s (element_at s at j) (element_at s at k) ≡ false
-      go j true y l = rw (eqb_true j n y) here
+      go j true y l = rw (eqb-true j n y) here
       go j false y l = h.none j (omega (arith, eqb-false j n y))
 
   pub fresh_kept : (out k r : ℕ) (b : Bool) → Fresh mt i s at out → out < 2 ^ k → (b ≡ false → New mt i s at k k) → r ≡ kept_with out k b → Fresh mt i s at r
@@ -125,12 +125,12 @@ module _ (s : List ℤ) (at k n : ℕ) (g : Target s) (w : Tag s at) (e : n ≡ 
   kept_in_lem = omega arith
 
   pub kept_fits : (out : ℕ) → out < 2 ^ k → out + 2 ^ k < 2 ^ 64
-  kept_fits out l = let p = pow_suc 2 k in let q = pow_mono {i = suc k} {j = 64} kept_64 in omega arith
+  kept_fits out l = let p = pow-suc 2 k in let q = pow_mono {i = suc k} {j = 64} kept_64 in omega arith
 
 pub kept_less : (out k r : ℕ) (b : Bool) → out < 2 ^ k → r ≡ kept_with out k b → r < 2 ^ (k + 1)
 unfolding kept_with
-kept_less out k r true l e = let p = pow_suc 2 k in let z : k + 1 ≡ suc k = omega arith in rw (z, e) (omega arith)
-kept_less out k r false l e = let p = pow_suc 2 k in let z : k + 1 ≡ suc k = omega arith in rw (z, e) (omega arith)
+kept_less out k r true l e = let p = pow-suc 2 k in let z : k + 1 ≡ suc k = omega arith in rw (z, e) (omega arith)
+kept_less out k r false l e = let p = pow-suc 2 k in let z : k + 1 ≡ suc k = omega arith in rw (z, e) (omega arith)
 
 pub none_less : 0 < 2 ^ 0
 none_less = omega arith

@@ -4,7 +4,7 @@ use mathlib.Core.Path.{◌≡◌, refl, sym, ◌∙◌, ap}
 use mathlib.Core.Bool.{Bool, true, false, cond}
 use mathlib.Core.List.{List, [], ◌∷◌, ◌++◌, map, append-nil, append_assoc}
 use native.Mathlib.Omega.{arith}
-use native.Mathlib.Nat.{pow_suc}
+use native.Mathlib.Nat.{pow-suc}
 use Rattle.rules.specs.Forms.{Value, Values, empty, ◌▸◌, count}
 use Rattle.rules.specs.Search.{any_equal}
 use Rattle.words.specs.Marks.{positions}
@@ -49,7 +49,7 @@ module _ (eq : Value → Value → Bool) where
       rw (z, positions_none n, append-nil before, even before v vs 0 refl, odd before v vs 1 refl, none_kept eq (before ++ (v ∷ [])) vs, none_kept eq before vs) refl
   last_kept before (v ▸ vs) zero (suc k) t l h g = absurd (omega arith)
   last_kept before (v ▸ vs) (suc n) (suc k) t l h g =
-      let p = pow_suc 2 k in
+      let p = pow-suc 2 k in
       let q : (t + 2 ^ suc k) / 2 ≡ t / 2 + 2 ^ k = omega arith in
       let d : (t + 2 ^ suc k) % 2 ≡ t % 2 = omega arith in
       by_digit_lem _ t

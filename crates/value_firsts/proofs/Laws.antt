@@ -5,7 +5,7 @@ use mathlib.Core.Bool.{Bool, true, false, cond, ◌||◌}
 use mathlib.Core.List.{List, [], ◌∷◌, map}
 use native.Mathlib.Omega.{arith}
 use borrow.Author.Rules.{rules}
-use native.Mathlib.Nat.{pow_suc, mod-eq_of_lt, mod-le, add-mul-mod_self_left}
+use native.Mathlib.Nat.{pow-suc, mod-eq_of_lt, mod-le, add-mul-mod_self_left}
 use mir.Syntax.{w64}
 use mir.Val.{Fits}
 use native.Mathlib.Decide.{dec_le}
@@ -143,7 +143,7 @@ module _ (s : List ℤ) (at left stop : ℕ) (g : Target s) (w : Held s at left)
   top_64 = omega (arith, top_in_lem, g.small at w.tag)
 
   pub top_below : (a : ℕ) → a ≡ 2 ^ k → left - a < 2 ^ k
-  top_below a e = let p = pow_suc 2 k in omega (arith, top.1)
+  top_below a e = let p = pow-suc 2 k in omega (arith, top.1)
 
   pub top_le : (a : ℕ) → a ≡ 2 ^ k → a ≤ left
   top_le a e = omega (arith, top.0)
@@ -172,7 +172,7 @@ module _ (s : List ℤ) (at left stop : ℕ) (g : Target s) (w : Held s at left)
         → firsts_at mt i s at m ≡ r + firsts_at mt i s at (left - a)
     unfolding firsts_at before_at kept_with
     top_again q e f u =
-        let p = pow_suc 2 k in
+        let p = pow-suc 2 k in
         let t = left - a in
         let z : t + 2 ^ k ≡ left = omega (arith, top.0) in
         let y = last_is (equal (matcher_at mt i)) (elements (value_at s at)) k t (omega (arith, top.1)) (rw (count_elements s at g w.tag) top_in_lem) (omega (arith, top_64)) in

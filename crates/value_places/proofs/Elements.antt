@@ -6,7 +6,7 @@ use native.Mathlib.Numerals.{add-one, add-two}
 use native.Mathlib.Omega.{arith}
 use lib.ListN.{length, get_or, drop, take}
 use lib.Seq.{drop-cons, slice, take-append_seam, take-nil}
-use native.Mathlib.Nat.{suc-add, zero_add}
+use native.Mathlib.Nat.{suc-add, zero-add}
 use lib.IntN.{ℤ, pos, negsuc}
 use Rattle.rules.specs.Forms.{Value, int, collection, tupled, Values, empty, ◌▸◌, count, words, words_all, size, size_all}
 use Rattle.words.specs.Words.{tag_z, tag_at}
@@ -205,7 +205,7 @@ module _ (s : List ℤ) (at j : ℕ) (g : Target s) (w : Tag s at) (h : j < coun
 -- ---- The words of a value stand from its tag up to its end.
 
 drop_take : (e n : ℕ) (l : List ℤ) → drop e (take (e + n) l) ≡ take n (drop e l)
-drop_take zero n l = rw zero_add
+drop_take zero n l = rw zero-add
 drop_take (suc e) n [] = rw (suc-add e n) (sym (take-nil n))
 drop_take (suc e) n (x ∷ l) = rw (suc-add e n) (drop_take e n l)
 

@@ -2,7 +2,7 @@
 use mathlib.Core.Path.{◌≡◌, refl, sym, ◌∙◌, ap, ap₂}
 use mathlib.Core.List.{List}
 use Prim.Native.Nat.{ℕ, zero, suc, ◌+◌, ◌-◌, ◌*◌, ◌/◌, ◌%◌, ◌^◌, ◌<◌, ◌≤◌}
-use native.Mathlib.Nat.{pow_suc}
+use native.Mathlib.Nat.{pow-suc}
 use native.Mathlib.Omega.{arith}
 use lib.IntN.{ℤ}
 use Rattle.rules.specs.Forms.{Value, int, collection, tupled, Values, empty, ◌▸◌, count, size, size_all}
@@ -63,7 +63,7 @@ marks_marked (v ▸ vs) at k m h =
     rw e (ap₂ (λ i j. 2 ^ i + j) (place_first at k v) (r ∙ two k (m / 2)) ∙ one_more k (m / 2) ∙ ap (λ i. 2 ^ k * i) (sym q)))
   where
     two : (k i : ℕ) → 2 ^ suc k * i ≡ 2 ^ k * (i * 2)
-    two k i = rw (pow_suc 2 k) (omega arith)
+    two k i = rw (pow-suc 2 k) (omega arith)
 
     one_more : (k i : ℕ) → 2 ^ k + 2 ^ k * (i * 2) ≡ 2 ^ k * (1 + i * 2)
     one_more k i = omega arith

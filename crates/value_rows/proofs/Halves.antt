@@ -6,7 +6,7 @@ use Prim.Native.Nat.{ℕ, suc, ◌+◌, ◌-◌, ◌/◌, ◌%◌, ◌^◌, ◌<
 use native.Mathlib.Numerals.{add-one, add-two}
 use native.Mathlib.Omega.{arith}
 use borrow.Author.Rules.{rules}
-use borrow.Author.Tests.{lt-ltb, le-ltb, ltb_true, ltb_false}
+use borrow.Author.Tests.{lt-ltb, le-ltb, ltb-true, ltb-false}
 use lib.Dec.{ltb}
 use lib.ListN.{length, set, length-set}
 use lib.IntN.{ℤ, pos, negsuc}
@@ -20,7 +20,7 @@ use Rattle.value_rows.proofs.Room.{length_put}
 -- The word of 32 bits, as document 02 reads it.
 bits_are : (u : ℕ) → u < 2 ^ 32 → to_z w32 u ≡ bits u
 unfolding bits
-bits_are u h = go (ltb u (2 ^ 31)) (ltb_true u (2 ^ 31)) (ltb_false u (2 ^ 31))
+bits_are u h = go (ltb u (2 ^ 31)) (ltb-true u (2 ^ 31)) (ltb-false u (2 ^ 31))
   where
     go : (t : Bool) → (t ≡ true → u < 2 ^ 31) → (t ≡ false → 2 ^ 31 ≤ u) → to_z w32 u ≡ elim t as (λ _. ℤ) [ true ↦ pos u | false ↦ negsuc (2 ^ 32 - suc u) ]
     go true f g = to_z_pos w32 (f refl)

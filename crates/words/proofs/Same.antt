@@ -3,7 +3,7 @@ use mathlib.Core.Path.{◌≡◌, refl, sym}
 use mathlib.Core.Bool.{Bool, true, false}
 use Prim.Native.Nat.{ℕ, suc, ◌+◌, ◌-◌, ◌^◌, ◌<◌}
 use native.Mathlib.Omega.{arith}
-use borrow.Author.Tests.{eq-eqb, ne_eqb, eqb_true, eqb-false}
+use borrow.Author.Tests.{eq-eqb, ne_eqb, eqb-true, eqb-false}
 use lib.Dec.{eqb}
 use lib.IntN.{ℤ, pos, negsuc}
 use lib.Signed.{mag}
@@ -15,7 +15,7 @@ eqb_alike : (x y a b : ℕ) → (x ≡ y → a ≡ b) → (a ≡ b → x ≡ y) 
 eqb_alike x y a b f g = go (eqb x y) refl
   where
     go : (t : Bool) → eqb x y ≡ t → t ≡ eqb a b
-    go true e = sym (eq-eqb a b (f (eqb_true x y e)))
+    go true e = sym (eq-eqb a b (f (eqb-true x y e)))
     go false e = sym (ne_eqb a b (λ z. eqb-false x y e (g z)))
 
 module _ (w : Width) (k : ℕ) (e : 2 ^ bits w ≡ k + k) where

@@ -6,7 +6,7 @@ use Prim.Native.Nat.{ℕ, zero, suc, ◌<◌}
 use mathlib.Core.List.{List, [], ◌∷◌}
 use lib.ListN.{length, get_or}
 use native.Mathlib.Omega.{arith}
-use borrow.Author.Tests.{ltb_true}
+use borrow.Author.Tests.{ltb-true}
 use lib.Dec.{T}
 use lib.IntN.{ℤ, pos, negsuc, nat_abs}
 use lib.Signed.{lt_z, non_neg}
@@ -15,7 +15,7 @@ use mir.Val.{Fits, SFits}
 use Rattle.words.specs.Words.{tag_z, tag_at}
 
 pub below_zero : (y z : ℤ) → y ≡ z → lt_z y (pos 0) ≡ true → 2147483648 ≡ tag_z z
-below_zero (pos n) z p e = let h = ltb_true n 0 e in absurd (omega arith)
+below_zero (pos n) z p e = let h = ltb-true n 0 e in absurd (omega arith)
 below_zero (negsuc n) z p e = subst (λ (k : ℤ). 2147483648 ≡ tag_z k) p refl
 
 pub from_zero : (y z : ℤ) → y ≡ z → lt_z y (pos 0) ≡ false → SFits w32 z → (T (non_neg y) × Fits w32 (nat_abs y)) × (nat_abs y ≡ tag_z z)

@@ -4,7 +4,7 @@ use mathlib.Core.Bool.{Bool, true, false, cond}
 use Prim.Native.Nat.{ℕ, suc, ◌+◌, ◌-◌, ◌^◌, ◌<◌, ◌≤◌}
 use native.Mathlib.Omega.{arith}
 use borrow.Author.Rules.{rules}
-use borrow.Author.Tests.{ltb_false, ne_eqb}
+use borrow.Author.Tests.{ltb-false, ne_eqb}
 use lib.Dec.{eqb, ltb}
 use lib.IntN.{ℤ, pos, negsuc, ◌+ℤ◌, sub_ℕ}
 use lib.Signed.{mag}
@@ -54,10 +54,10 @@ pub ruleset cast_rules = (wide_cast, wide_is, added_fits, added_is, rules)
 -- No number outside the range is a word.
 outside : (y z : ℤ) → in_range y ≡ false → mag z < 2 ^ 31 → same y z ≡ false
 unfolding in_range same
-outside (pos a) (pos b) e h = let l = ltb_false a (2 ^ 31) e in ne_eqb a b (λ q. omega arith)
+outside (pos a) (pos b) e h = let l = ltb-false a (2 ^ 31) e in ne_eqb a b (λ q. omega arith)
 outside (pos a) (negsuc b) e h = refl
 outside (negsuc a) (pos b) e h = refl
-outside (negsuc a) (negsuc b) e h = let l = ltb_false a (2 ^ 31) e in ne_eqb a b (λ q. omega arith)
+outside (negsuc a) (negsuc b) e h = let l = ltb-false a (2 ^ 31) e in ne_eqb a b (λ q. omega arith)
 
 by_range : (x c z : ℤ) → mag z < 2 ^ 31 → same (x +ℤ c) z ≡ same_to (plus x c) z
 unfolding same_to

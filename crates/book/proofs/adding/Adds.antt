@@ -9,7 +9,7 @@ use lib.ListN.{length, get_or, set, replicate, length-append, length-replicate}
 use lib.Seq.{sets}
 use lib.Dec.{eqb, leb}
 use borrow.Author.Rules.{rules}
-use borrow.Author.Tests.{leb_true}
+use borrow.Author.Tests.{leb-true}
 use Rattle.book_rules.specs.Sums.{word, and_also}
 use Rattle.book_rules.specs.Blocks.{Block, split, Entry, counts, laid, written, unless, or_else, known, taken}
 use Rattle.book_rules.specs.Books.{Book, Told, in_use, fault, unless_refused, changed, dialect_for, proper, is_some, slot, add_fault, add_at, add_in, add}
@@ -167,7 +167,7 @@ module _ (s : List ℕ) (bytes : Bytes s) (used : ℕ) (e : Entry) (a j : ℕ) (
 
         pub add_short : length e.matcher + length e.pattern ≤ 124
         unfolding counts
-        add_short = leb_true (counts e) 124 (last_test (leb (counts e) 124) 18 (omega arith) (or_second (unless (not (taken e.badge (in_use b))) 16) _ (or_second (unless (proper e) 15) _ past_version)))
+        add_short = leb-true (counts e) 124 (last_test (leb (counts e) 124) 18 (omega arith) (or_second (unless (not (taken e.badge (in_use b))) 16) _ (or_second (unless (proper e) 15) _ past_version)))
 
         dialects : Dialect e.version e.dialect → (1 ≤ e.dialect) × (e.dialect ≤ 2)
         dialects (first p) = (omega arith, omega arith)

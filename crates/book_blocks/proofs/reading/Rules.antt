@@ -9,7 +9,7 @@ use lib.Seq.{sets, length-take-le}
 use lib.Dec.{eqb, leb}
 use lib.IntN.{ℤ}
 use borrow.Author.Rules.{rules}
-use borrow.Author.Tests.{leb_true, ne_eqb}
+use borrow.Author.Tests.{leb-true, ne_eqb}
 use Rattle.book_rules.specs.Sums.{word, and_also}
 use Rattle.book_rules.specs.Blocks.{Block, joined, length_in, dialect_in, zeros, is_rule, Entry, entry_of, live_formed}
 use Rattle.book_rules.specs.Bytes.{word_at, words_from, block_at}
@@ -29,7 +29,7 @@ module _ (s : List ℕ) (k : ℕ) (live : live_formed (block_at s k) ≡ true) (
 
   few : n ≤ 124
   unfolding live_formed
-  few = let h : word b 3 ≤ 124 = leb_true (word b 3) 124 (and_also_fst (leb (word b 3) 124) _ live) in omega (arith, third)
+  few = let h : word b 3 ≤ 124 = leb-true (word b 3) 124 (and_also_fst (leb (word b 3) 124) _ live) in omega (arith, third)
 
   pub fits_in_lem : 512 * k + 512 ≤ length s → 512 * k + 10 + 4 * n ≤ length s
   fits_in_lem h = omega (arith, few)
@@ -53,7 +53,7 @@ module _ (s : List ℕ) (k : ℕ) (live : live_formed (block_at s k) ≡ true) (
     unfolding live_formed
     short =
         let t = and_also_snd (leb (word b 3) 124) _ live in
-        let h : length_in (word b 1) (word b 4) ≤ word b 3 = leb_true (length_in (word b 1) (word b 4)) (word b 3) (and_also_fst (leb (length_in (word b 1) (word b 4)) (word b 3)) _ t) in
+        let h : length_in (word b 1) (word b 4) ≤ word b 3 = leb-true (length_in (word b 1) (word b 4)) (word b 3) (and_also_fst (leb (length_in (word b 1) (word b 4)) (word b 3)) _ t) in
         omega (arith, third, matcher_is)
 
     abbrev zs : List ℤ

@@ -1,5 +1,5 @@
 -- `cases::play_named` is safe and ends. Assumes nothing.
-use Rattle.cases.proofs.Laws.{rules}
+use Rattle.cases.proofs.Laws.{own_rules}
 use mathlib.Core.Path.{◌≡◌}
 use Prim.Native.Nat.{◌-◌}
 use lib.ListN.{length}
@@ -18,14 +18,14 @@ play-named-spec =
     (tie.spec
     invariant-loop
     decreases-loop
-    (λ c κs. search rules)
-    (λ c. search rules)
-    (λ c. search rules)
-    (λ c κs. search rules)
-    (λ c. search rules)
-    (λ c. search rules)
-    (λ c κs. search rules)
-    (λ c. search rules)
-    (λ c. search rules)
-    (λ c. search rules)
-    (λ c. search rules))
+    (λ c κs. search own_rules)
+    (λ c. search own_rules)
+    (λ c. search own_rules)
+    (λ c κs. search own_rules)
+    (λ c. search own_rules)
+    (λ c. search own_rules)
+    (λ c κs. search own_rules)
+    (λ c. search own_rules)
+    (λ c. search own_rules)
+    (λ c. search own_rules)
+    (λ c. search own_rules))

@@ -4,7 +4,7 @@ use native.Mathlib.Omega.{arith}
 use mathlib.Core.Path.{◌≡◌}
 use lib.ListN.{length}
 use Rattle.host_numbers.specs.Numbers.{digits, put}
-use Rattle.host_numbers.proofs.Laws.{rules}
+use Rattle.host_numbers.proofs.Laws.{own_rules}
 use Rattle.host_numbers.proofs.put_number.Statement.{statement}
 use Rattle.host_numbers.proofs.put_number.Tie as tie
 
@@ -16,12 +16,12 @@ decreases-loop out₀ at x left₀ k₀ out left k = 8 - k
 
 pub put-number-spec : {M : Type 1} → statement M
 put-number-spec = tie.close (tie.spec invariant-loop decreases-loop
-    (λ c. search rules)
-    (λ c. search rules)
-    (λ c. search rules)
-    (λ c. search rules)
-    (λ c. search rules)
-    (λ c. search rules)
-    (λ c. search rules)
-    (λ c. search rules)
-    (λ c. search rules))
+    (λ c. search own_rules)
+    (λ c. search own_rules)
+    (λ c. search own_rules)
+    (λ c. search own_rules)
+    (λ c. search own_rules)
+    (λ c. search own_rules)
+    (λ c. search own_rules)
+    (λ c. search own_rules)
+    (λ c. search own_rules))

@@ -1,5 +1,5 @@
 -- `host_numbers::put_six` meets its contract: number after number. Assumes nothing.
-use Rattle.host_numbers.proofs.Laws.{rules, six}
+use Rattle.host_numbers.proofs.Laws.{own_rules, six}
 use Rattle.host_numbers.proofs.put_six.Statement.{statement}
 use Rattle.host_numbers.proofs.put_six.Tie as tie
 
@@ -15,11 +15,11 @@ returns c =
 
 pub put-six-spec : {M : Type 1} → statement M
 put-six-spec = tie.close (tie.spec
-    (λ c κs. search rules)
-    (λ c κs. search rules)
-    (λ c κs. search rules)
-    (λ c κs. search rules)
-    (λ c κs. search rules)
-    (λ c κs. search rules)
-    (λ c. search rules)
+    (λ c κs. search own_rules)
+    (λ c κs. search own_rules)
+    (λ c κs. search own_rules)
+    (λ c κs. search own_rules)
+    (λ c κs. search own_rules)
+    (λ c κs. search own_rules)
+    (λ c. search own_rules)
     returns)

@@ -57,4 +57,4 @@ module _ (n : Bool) (pc : ℕ) (op : List ℕ) (i : n ≡ none_from op pc (entri
 
 pub ruleset line_rules = (fails_not, fails_inside, fails_below, fails_above, rules)
 
-pub ruleset rules = (out, at_end, fails, turn, rules)
+pub ruleset own_rules = (out, at_end, fails, turn, rules)

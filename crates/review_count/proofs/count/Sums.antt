@@ -215,4 +215,4 @@ module _ {n f most d t e l g k pc : ℕ} {op kept takens : List ℕ} (i : Here n
           wide = length-set takens d u ∙ i.wide;
         }
 
-pub ruleset rules = (here_start, deep_enough, deep_scaled, deep_more, few_taken, sum_fits, product_fits, skipped, too_big_lem, at_end, turn, out, rules)
+pub ruleset own_rules = (here_start, deep_enough, deep_scaled, deep_more, few_taken, sum_fits, product_fits, skipped, too_big_lem, at_end, turn, out, rules)

@@ -5,7 +5,7 @@ use lib.ListN.{set}
 use mir.Syntax.{w32}
 use mir.Val.{SFits}
 use mir.Facts.{to_z-of_z}
-use Rattle.round_table.proofs.Laws.{rules}
+use Rattle.round_table.proofs.Laws.{own_rules}
 use Rattle.round_table.proofs.put_word.Statement.{statement}
 use Rattle.round_table.proofs.put_word.Tie as tie
 use Rattle.round_table.proofs.put_word.Reads as reads

@@ -7,7 +7,7 @@ use mir.Syntax.{w32}
 use mir.Val.{of_z}
 use mir.Facts.{to_z-of_z}
 use Rattle.round_table.specs.Entries.{word_at}
-use Rattle.round_table.proofs.Laws.{rules}
+use Rattle.round_table.proofs.Laws.{own_rules}
 use Rattle.round_table.proofs.word_at.Statement.{statement}
 use Rattle.round_table.proofs.word_at.Tie as tie
 use Rattle.round_table.proofs.word_at.Reads as reads
@@ -15,13 +15,13 @@ use Rattle.round_table.proofs.word_at.Lts as lts
 use Rattle.words.proofs.bits.Reads as bits-reads
 
 mul-bits : tie.Need-mul-bits
-mul-bits c = search rules
+mul-bits c = search own_rules
 
 shared-slice-copy-out-bits : tie.Need-shared-slice-copy-out-bits
-shared-slice-copy-out-bits c = search rules
+shared-slice-copy-out-bits c = search own_rules
 
 bits-requires : tie.Need-bits-requires
-bits-requires c κs = search rules
+bits-requires c κs = search own_rules
 
 returns : tie.Need-returns
 unfolding word_at

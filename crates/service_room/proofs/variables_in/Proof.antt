@@ -1,5 +1,5 @@
 -- `service_room::variables_in` is safe and ends. Assumes nothing.
-use Rattle.service_room.proofs.Laws.{rules}
+use Rattle.service_room.proofs.Laws.{own_rules}
 use Rattle.service_room.proofs.variables_in.Statement.{statement}
 use Rattle.service_room.proofs.variables_in.Tie as tie
 
@@ -7,8 +7,8 @@ pub variables-in-spec : {M : Type 1} → statement M
 variables-in-spec =
     tie.close
     (tie.spec
-    (λ c κs. search rules)
-    (λ c. search rules)
-    (λ c. search rules)
-    (λ c. search rules)
-    (λ c. search rules))
+    (λ c κs. search own_rules)
+    (λ c. search own_rules)
+    (λ c. search own_rules)
+    (λ c. search own_rules)
+    (λ c. search own_rules))

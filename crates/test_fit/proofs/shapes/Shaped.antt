@@ -5,7 +5,7 @@ use mathlib.Core.List.{List, ◌++◌}
 use Prim.Native.Nat.{ℕ, zero, suc, ◌+◌, ◌-◌, ◌<◌}
 use native.Mathlib.Numerals.{add-one}
 use native.Mathlib.Omega.{arith}
-use borrow.Author.Tests.{eqb_true, eqb-false}
+use borrow.Author.Tests.{eqb-true, eqb-false}
 use lib.Dec.{eqb}
 use lib.ListN.{length, length-append}
 use lib.IntN.{ℤ}
@@ -112,7 +112,7 @@ module _ (s : List ℤ) where
         go true e =
             let x : suc (a + 1) ≡ a + 2 = omega arith in
             let y : suc (b + 1) ≡ b + 2 = omega arith in
-            rw (is_width (countᵐ ks) p.wide.0, x, y) (parts (eqb_true (countᵐ ks) (countᵐ ls) e))
+            rw (is_width (countᵐ ks) p.wide.0, x, y) (parts (eqb-true (countᵐ ks) (countᵐ ls) e))
         go false e = rw (unequal ks ls (eqb-false (countᵐ ks) (countᵐ ls) e), and_false (all_without_something ks))
 
   nothing : (a x : Bool) → false ≡ ((a && false) && x)

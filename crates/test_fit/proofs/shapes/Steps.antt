@@ -6,7 +6,7 @@ use Prim.Native.Nat.{ℕ, suc, ◌+◌, ◌-◌, ◌^◌, ◌<◌, ◌≤◌}
 use native.Mathlib.Numerals.{add-one}
 use native.Mathlib.Omega.{arith}
 use borrow.Author.Rules.{rules}
-use borrow.Author.Tests.{eq-eqb, ne_eqb, eqb_true, leb_true, not_true, not_false}
+use borrow.Author.Tests.{eq-eqb, ne_eqb, eqb-true, leb-true, not-true, not-false}
 use mir.Syntax.{w64}
 use mir.Val.{Fits}
 use lib.Dec.{eqb, leb, ltb}
@@ -79,10 +79,10 @@ module _ (m : List ℤ) (e a b : ℕ) (f v : Bool) (inv : v ≡ shapes_p m (e - 
     by_word = let z : e - a ≡ suc (e - (a + 1)) = omega arith in inv ∙ rw (r, p, q, z, add-one a, add-one b)
 
     pub ret_false : not g ≡ true → false ≡ v
-    ret_false n = sym (by_word ∙ rw (not_true g n))
+    ret_false n = sym (by_word ∙ rw (not-true g n))
 
     pub turn : not g ≡ false → (w : Bool) → w ≡ width_next f x → v ≡ shapes_p m (e - (a + 1)) w (a + 1) (b + 1)
-    turn n w s = by_word ∙ rw (not_false g n, s)
+    turn n w s = by_word ∙ rw (not-false g n, s)
 
 -- A word that fits another is a tag or a width.
 pub most : (low n high : ℕ) → within low n high ≡ true → n ≤ high
@@ -91,13 +91,13 @@ most low n high = go (ltb n low)
   where
     go : (b : Bool) → cond b false (leb n high) ≡ true → n ≤ high
     go true h = let z : ◌≡◌ {A = ℕ} 0 1 = cc in absurd (omega arith)
-    go false h = leb_true n high h
+    go false h = leb-true n high h
 
 pub same_most : (x y low high : ℕ) → cond (eqb x y) (within low x high) false ≡ true → y ≤ high
 same_most x y low high = go (eqb x y) refl
   where
     go : (b : Bool) → eqb x y ≡ b → cond b (within low x high) false ≡ true → y ≤ high
-    go true e h = let k = eqb_true x y e in let l = most low x high h in omega arith
+    go true e h = let k = eqb-true x y e in let l = most low x high h in omega arith
     go false e h = let z : ◌≡◌ {A = ℕ} 0 1 = cc in absurd (omega arith)
 
 fits_most : (f : Bool) (x y : ℕ) → word_fits f x y ≡ true → y ≤ 4
@@ -111,8 +111,8 @@ fits_most false x y h = go (within 2 x 3) h
 
 pub next_b : (m : List ℤ) (b x y : ℕ) (f g : Bool) → y ≡ tag_at m b → g ≡ word_fits f x y → not g ≡ false → length m < 2 ^ 64 → Fits w64 (b + 1)
 next_b m b x y f g q r n l =
-    let k = fits_most f x y (sym r ∙ not_false g n) in
+    let k = fits_most f x y (sym r ∙ not-false g n) in
     let w = signed.within m b y q (omega arith) in
     record { fits = omega arith }
 
-pub ruleset rules = (enter, ret_true, ret_false, turn, next_b, rules)
+pub ruleset own_rules = (enter, ret_true, ret_false, turn, next_b, rules)

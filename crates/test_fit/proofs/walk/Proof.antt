@@ -1,7 +1,7 @@
 -- `test_fit::walk` meets its contract: the loop's invariant is that what is left to read decides. Assumes nothing.
 use Prim.Native.Nat.{◌-◌}
 use lib.ListN.{length}
-use Rattle.test_fit.proofs.Steps.{Going, rules}
+use Rattle.test_fit.proofs.Steps.{Going, own_rules}
 use Rattle.test_fit.proofs.walk.Statement.{statement}
 use Rattle.test_fit.proofs.walk.Tie as tie
 
@@ -13,25 +13,25 @@ decreases-loop firsts m p stack₀ under₀ w₀ at₀ stack under w at = length
 
 pub walk-spec : {M : Type 1} → statement M
 walk-spec = tie.close (tie.spec invariant-loop decreases-loop
-    (λ c. search rules)
-    (λ c κs. search rules)
-    (λ c. search rules)
-    (λ c. search rules)
-    (λ c κs. search rules)
-    (λ c. search rules)
-    (λ c. search rules)
-    (λ c. search rules)
-    (λ c. search rules)
-    (λ c. search rules)
-    (λ c. search rules)
-    (λ c. search rules)
-    (λ c. search rules)
-    (λ c κs. search rules)
-    (λ c. search rules)
-    (λ c. search rules)
-    (λ c. search rules)
-    (λ c κs. search rules)
-    (λ c. search rules)
-    (λ c. search rules)
-    (λ c. search rules)
-    (λ c. search rules))
+    (λ c. search own_rules)
+    (λ c κs. search own_rules)
+    (λ c. search own_rules)
+    (λ c. search own_rules)
+    (λ c κs. search own_rules)
+    (λ c. search own_rules)
+    (λ c. search own_rules)
+    (λ c. search own_rules)
+    (λ c. search own_rules)
+    (λ c. search own_rules)
+    (λ c. search own_rules)
+    (λ c. search own_rules)
+    (λ c. search own_rules)
+    (λ c κs. search own_rules)
+    (λ c. search own_rules)
+    (λ c. search own_rules)
+    (λ c. search own_rules)
+    (λ c κs. search own_rules)
+    (λ c. search own_rules)
+    (λ c. search own_rules)
+    (λ c. search own_rules)
+    (λ c. search own_rules))

@@ -5,7 +5,7 @@ use mathlib.Core.List.{List}
 use Prim.Native.Nat.{ℕ, ◌+◌, ◌-◌, ◌^◌, ◌<◌, ◌≤◌}
 use native.Mathlib.Omega.{arith}
 use borrow.Author.Rules.{rules}
-use borrow.Author.Tests.{not_true, not_false}
+use borrow.Author.Tests.{not-true, not-false}
 use mir.Syntax.{w64}
 use mir.Val.{Fits}
 use lib.ListN.{length}
@@ -44,10 +44,10 @@ module _ (s : List ℤ) (at t k : ℕ) (e : t ≡ tag_at s at) where
 
       module _ (l : 4 ≤ t) (m : t ≤ 4) (n : ℕ) (q : n ≡ tag_at s (at + 1)) (b : Bool) (w : b ≡ ends.within 2 n 4) where
         pub ret_width : not b ≡ true → Bad (at + 1) ≡ matcher_from s k at
-        ret_width y = sym (wrong s at t e n q k z (omega arith) (sym w ∙ not_true b y))
+        ret_width y = sym (wrong s at t e n q k z (omega arith) (sym w ∙ not-true b y))
 
         pub loop_in : not b ≡ false → matcher_from s k at ≡ in_row (matcher_from s (k - 1)) n (at + 2)
-        loop_in y = row s at t e n q k z (omega arith) (sym w ∙ not_false b y)
+        loop_in y = row s at t e n q k z (omega arith) (sym w ∙ not-false b y)
 
 -- ---- The parts.
 
@@ -67,9 +67,9 @@ pub next_1 : (s : List ℤ) (at t : ℕ) → t ≡ tag_at s at → t ≤ 4 → l
 next_1 s at t e h l = let x = within s at t e (omega arith) in record { fits = omega arith }
 
 pub next_2 : (s : List ℤ) (at n : ℕ) → n ≡ tag_at s (at + 1) → (b : Bool) → b ≡ ends.within 2 n 4 → not b ≡ false → length s < 2 ^ 64 → Fits w64 (at + 2)
-next_2 s at n e b w y l = next_two s at n e (width_low n (sym w ∙ not_false b y)) l
+next_2 s at n e b w y l = next_two s at n e (width_low n (sym w ∙ not-false b y)) l
 
-pub ruleset rules = (ret_other, ret_leaf, ret_deep, ret_inside, ret_width, loop_in, loop_out, loop_turn, loop_bad, next_1, next_2, depth_pos, depth_less, rules)
+pub ruleset own_rules = (ret_other, ret_leaf, ret_deep, ret_inside, ret_width, loop_in, loop_out, loop_turn, loop_bad, next_1, next_2, depth_pos, depth_less, rules)
 
 -- ---- The whole test.
 

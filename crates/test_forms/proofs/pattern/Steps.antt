@@ -6,7 +6,7 @@ use Prim.Native.Nat.{ℕ, zero, suc, ◌+◌, ◌*◌, ◌-◌, ◌<◌, ◌≤�
 use native.Mathlib.Numerals.{add-one}
 use native.Mathlib.Omega.{arith}
 use borrow.Author.Rules.{rules}
-use borrow.Author.Tests.{le-leb, lt-leb, eq-eqb, ne_eqb, not_true, not_false}
+use borrow.Author.Tests.{le-leb, lt-leb, eq-eqb, ne_eqb, not-true, not-false}
 use mir.Syntax.{w32}
 use mir.Val.{Fits}
 use lib.ListN.{length, get_or, drop, drop_of_length-le}
@@ -89,7 +89,7 @@ module _ (v : Tested) (s : List ℤ) (at o n : ℕ) (i : v ≡ reads_p o n at (d
     pub ret_width : (f : Bool) → row ≡ Wide f → (k : ℕ) → k ≡ tag_at s (at + 1) → (b : Bool) → b ≡ within 2 k 4 → not b ≡ true
         → Fault (at + 1) ≡ v
     unfolding by_row
-    ret_width f g k w b y z = sym (i ∙ by_row_lem s at h t e row x o n q r ∙ rw (g, ← w, ← y, not_true b z))
+    ret_width f g k w b y z = sym (i ∙ by_row_lem s at h t e row x o n q r ∙ rw (g, ← w, ← y, not-true b z))
 
   pub ret_whole : length s ≤ at → o + n ≡ 0 → Passed ≡ v
   ret_whole h q = sym (i ∙ ends s at h o n q)
@@ -111,7 +111,7 @@ module _ (v : Tested) (s : List ℤ) (at o n : ℕ) (i : v ≡ reads_p o n at (d
     pub turn_wide : (f : Bool) → row ≡ Wide f → (k : ℕ) → k ≡ tag_at s (at + 1) → (b : Bool) → b ≡ within 2 k 4 → not b ≡ false
         → v ≡ reads_p 1 (n - 1 + k) (at + 1) (drop (at + 1) s)
     unfolding by_row
-    turn_wide f g k w b y z = i ∙ by_row_lem s at h t e row x o n q r ∙ rw (g, ← w, ← y, not_false b z)
+    turn_wide f g k w b y z = i ∙ by_row_lem s at h t e row x o n q r ∙ rw (g, ← w, ← y, not-false b z)
 
 -- ---- Bounds: each word adds at most three patterns to come.
 
@@ -125,6 +125,6 @@ pub few_known : (m t : ℕ) (row : Row) → row ≡ row_of m t → (a b : ℕ) (
 few_known m t row x a b f g = let l = few_parts m t row x a b f g in omega arith
 
 pub few_wide : (k : ℕ) (b : Bool) → b ≡ within 2 k 4 → not b ≡ false → k ≤ 4
-few_wide k b y z = (width_most k (sym y ∙ not_false b z)).1
+few_wide k b y z = (width_most k (sym y ∙ not-false b z)).1
 
-pub ruleset rules = (ret_spare, ret_wrong, ret_width, ret_whole, ret_short, turn_skip, turn_known, turn_wide, more_need, fits_need, few_known, few_wide, few_operands, rules)
+pub ruleset own_rules = (ret_spare, ret_wrong, ret_width, ret_whole, ret_short, turn_skip, turn_known, turn_wide, more_need, fits_need, few_known, few_wide, few_operands, rules)

@@ -7,7 +7,7 @@ use Prim.Native.Nat.{ℕ, zero, suc, ◌+◌, ◌≤◌}
 use native.Mathlib.Nat.{add-zero}
 use native.Mathlib.Numerals.{add-one, add-two}
 use native.Mathlib.Omega.{arith}
-use borrow.Author.Tests.{leb_true, ne_eqb}
+use borrow.Author.Tests.{leb-true, ne_eqb}
 use lib.ListN.{length, get_elem?, length-append}
 use lib.Dec.{leb}
 use lib.IntN.{ℤ}
@@ -136,5 +136,5 @@ read_is s = go (leb (length s) 256) refl
   where
     go : (b : Bool) → leb (length s) 256 ≡ b
         → tested {A = Pattern} (elim b as (λ _. Verdict Pattern) [ true ↦ whole (pattern 256) s | false ↦ fault 256 ]) ≡ cond b (reads_p 0 1 0 s) (Fault 256)
-    go true e = sym (walks 256 0 0 s (leb_true (length s) 256 e) ∙ at_end (pattern 256 0 s))
+    go true e = sym (walks 256 0 0 s (leb-true (length s) 256 e) ∙ at_end (pattern 256 0 s))
     go false e = refl

@@ -4,7 +4,7 @@ use mathlib.Core.Path.{◌≡◌}
 use borrow.Fn.Kinds.{In}
 use borrow.Fn.PlainCycle.{Measures, is, falls, and}
 use Rattle.test_unfit.specs.Unfit.{next_member, in_each, fit_from}
-use Rattle.test_unfit.proofs.Steps.{rules, loop_in, loop_turn, loop_bad, loop_out}
+use Rattle.test_unfit.proofs.Steps.{own_rules, loop_in, loop_turn, loop_bad, loop_out}
 use Rattle.test_unfit.proofs.Runs.{run_few, loop_run}
 use Rattle.test_unfit.proofs.fit_end.Reads as fit-end
 use Rattle.test_unfit.proofs.fit_end.Kinds as fit-end-kinds
@@ -56,38 +56,38 @@ pub +fit-end-spec : {M : Type 1} → statement M
   fit-end-below t,
   fit-end.Post,
 ) (fit-end-at t) fit-end.Post invariant-loop decreases-loop
-    (λ c. search rules)  -- tag-at-requires
-    (λ c. search rules)  -- value-end-requires
-    (λ c. search rules)  -- returns
-    (λ c. search rules)  -- tag-at-requires-2
-    (λ c. search rules)  -- under-integer-requires
-    (λ c. search rules)  -- returns-2
-    (λ c. search rules)  -- opens-requires
-    (λ c. search rules)  -- returns-3
-    (λ c. search rules)  -- returns-4
-    (λ c. search rules)  -- add-tag-at
-    (λ c. search rules)  -- tag-at-requires-3
-    (λ c. search rules)  -- members-of-requires
-    (λ c. search rules)  -- enum-told
-    (λ c. search rules)  -- returns-5
-    (λ c. search rules)  -- enum-known-first
-    (λ c. search rules)  -- add-fit-run
-    (λ c. search rules)  -- fit-run-requires
-    (λ c. search (rules, run_few))  -- sub-left
+    (λ c. search own_rules)  -- tag-at-requires
+    (λ c. search own_rules)  -- value-end-requires
+    (λ c. search own_rules)  -- returns
+    (λ c. search own_rules)  -- tag-at-requires-2
+    (λ c. search own_rules)  -- under-integer-requires
+    (λ c. search own_rules)  -- returns-2
+    (λ c. search own_rules)  -- opens-requires
+    (λ c. search own_rules)  -- returns-3
+    (λ c. search own_rules)  -- returns-4
+    (λ c. search own_rules)  -- add-tag-at
+    (λ c. search own_rules)  -- tag-at-requires-3
+    (λ c. search own_rules)  -- members-of-requires
+    (λ c. search own_rules)  -- enum-told
+    (λ c. search own_rules)  -- returns-5
+    (λ c. search own_rules)  -- enum-known-first
+    (λ c. search own_rules)  -- add-fit-run
+    (λ c. search own_rules)  -- fit-run-requires
+    (λ c. search (own_rules, run_few))  -- sub-left
     (λ c. loop_run _ _ _ _ _ _ _ _ c.before.fit-run.ensures _ (loop_in _ _ _ _ _ _ c.before.before.before.before.before.before.before.before.before.before.before.before.before.tag-at.ensures _ c.before.before.before.before.before.before.before.before.before.before.before.tag-at2.ensures c.before.before.before.before.before.before.before.before.before.before.before.before.if1.false c.before.before.before.before.before.before.before.before.before.before.if2.false _ c.before.before.before.before.before.before.before.before.before.opens.ensures c.before.before.before.before.before.before.before.before.if3.false c.before.before.before.before.before.before.before.if4.false _ c.before.before.before.before.before.before.tag-at3.ensures _ c.before.before.before.before.before.members-of.ensures _ c.before.before.before.first.given.1))  -- loop-holds
-    (λ c. search rules)  -- plain-words-requires
-    (λ c. search rules)  -- add-e
-    (λ c. search rules)  -- next-member-requires
-    (λ c. search rules)  -- sub-left-2
-    (λ c. search rules)  -- loop-less
-    (λ c. search rules)  -- loop-again
-    (λ c. search rules)  -- sub-fit-end
-    (λ c. search rules)  -- fit-end-requires
-    (λ c. search rules)  -- enum-known-x
-    (λ c. search rules)  -- next-member-requires-2
-    (λ c. search rules)  -- sub-left-3
-    (λ c. search rules)  -- loop-less-2
+    (λ c. search own_rules)  -- plain-words-requires
+    (λ c. search own_rules)  -- add-e
+    (λ c. search own_rules)  -- next-member-requires
+    (λ c. search own_rules)  -- sub-left-2
+    (λ c. search own_rules)  -- loop-less
+    (λ c. search own_rules)  -- loop-again
+    (λ c. search own_rules)  -- sub-fit-end
+    (λ c. search own_rules)  -- fit-end-requires
+    (λ c. search own_rules)  -- enum-known-x
+    (λ c. search own_rules)  -- next-member-requires-2
+    (λ c. search own_rules)  -- sub-left-3
+    (λ c. search own_rules)  -- loop-less-2
     (λ c. loop_turn _ _ _ _ _ _ _ _ c.before.before.before.before.before.before.before.before.loop.invariant c.before.before.before.before.before.before.before.loop-test.true _ c.before.before.before.before.fit-end.ensures _ c.before.before.x.given.1 _ c.next-member2.ensures)  -- loop-again-2
-    (λ c. search rules)  -- enum-known-p
+    (λ c. search own_rules)  -- enum-known-p
     (λ c. loop_bad _ _ _ _ _ _ _ _ c.before.before.before.before.before.before.before.loop.invariant c.before.before.before.before.before.before.loop-test.true _ c.before.before.before.fit-end.ensures _ c.before.p.given.1)  -- returns-6
     (λ c. loop_out _ _ _ _ _ _ _ _ c.before.loop.invariant c.loop-test.false)  -- returns-7

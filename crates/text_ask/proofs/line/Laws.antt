@@ -7,7 +7,7 @@ use Prim.Native.Nat.{ℕ, zero, suc, ◌+◌, ◌-◌, ◌^◌, ◌<◌, ◌≤�
 use native.Mathlib.Numerals.{add-one}
 use native.Mathlib.Omega.{arith}
 use borrow.Author.Rules.{rules}
-use borrow.Author.Tests.{le-leb, lt-leb, leb_true, ltb_true, ltb_false}
+use borrow.Author.Tests.{le-leb, lt-leb, leb-true, ltb-true, ltb-false}
 use lib.Dec.{leb, ltb}
 use lib.Signed.{mag}
 use lib.IntN.{ℤ, pos, negsuc}
@@ -81,7 +81,7 @@ module _ (t : List ℕ) (e : ℕ) (q : e ≡ 0 + before 32 (drop 0 t)) where
 
 most_by : (n most k : ℕ) (t : Bool) → leb k most ≡ t → given t (some k) ≡ some n → n ≤ most
 unfolding given
-most_by n most k true e p = let q : k ≡ n = cc in let h = leb_true k most e in omega arith
+most_by n most k true e p = let q : k ≡ n = cc in let h = leb-true k most e in omega arith
 most_by n most k false e p = let q : ◌≡◌ {A = ℕ} 0 1 = cc in absurd (omega arith)
 
 most_of : (o : Option ℤ) (n most : ℕ) → (o then at_most most) ≡ some n → n ≤ most
@@ -124,8 +124,8 @@ empty_line (b ∷ bs) out z = absurd (omega arith)
 -- A word is in the signed range.
 word_by : (z x : ℤ) (t : Bool) → in_range z ≡ t → given t (some z) ≡ some x → mag x < 2 ^ 31
 unfolding given in_range
-word_by (pos n) x true e p = let q : x ≡ pos n = cc in let h = ltb_true n (2 ^ 31) e in rw q h
-word_by (negsuc n) x true e p = let q : x ≡ negsuc n = cc in let h = ltb_true n (2 ^ 31) e in rw q h
+word_by (pos n) x true e p = let q : x ≡ pos n = cc in let h = ltb-true n (2 ^ 31) e in rw q h
+word_by (negsuc n) x true e p = let q : x ≡ negsuc n = cc in let h = ltb-true n (2 ^ 31) e in rw q h
 word_by z x false e p = let q : ◌≡◌ {A = ℕ} 0 1 = cc in absurd (omega arith)
 
 word_of : (o : Option ℤ) (x : ℤ) → (o then λ z. given (in_range z) (some z)) ≡ some x → mag x < 2 ^ 31
@@ -144,8 +144,8 @@ record Headed (l : List (List ℕ)) (p : List ℕ) : Type 0 where
 
 headed_by : (t : List ℕ) (at e : ℕ) (b : Bool) → ltb e (length t) ≡ b → at ≤ length t → e ≡ at + before 32 (drop at t)
     → Headed (split 32 (drop at t)) (take (e - at) (drop at t))
-headed_by t at e true b l q = record { rest = split 32 (drop (e + 1) t); is = next_piece t 32 at e l q (ltb_true e (length t) b) }
-headed_by t at e false b l q = record { rest = []; is = last_piece t 32 at e l q (ltb_false e (length t) b) }
+headed_by t at e true b l q = record { rest = split 32 (drop (e + 1) t); is = next_piece t 32 at e l q (ltb-true e (length t) b) }
+headed_by t at e false b l q = record { rest = []; is = last_piece t 32 at e l q (ltb-false e (length t) b) }
 
 headed : (t : List ℕ) (at e : ℕ) → at ≤ length t → e ≡ at + before 32 (drop at t) → Headed (split 32 (drop at t)) (take (e - at) (drop at t))
 headed t at e l q = headed_by t at e (ltb e (length t)) refl l q

@@ -3,11 +3,11 @@ use mathlib.Core.Path.{◌≡◌, refl, sym, ◌∙◌, ap, subst}
 use mathlib.Core.Bool.{Bool, true, false}
 use mathlib.Core.List.{List, [], ◌∷◌, ◌++◌}
 use Prim.Native.Nat.{ℕ, zero, suc, ◌+◌, ◌-◌, ◌*◌, ◌/◌, ◌%◌, ◌^◌, ◌<◌, ◌≤◌}
-use native.Mathlib.Nat.{pow_suc}
+use native.Mathlib.Nat.{pow-suc}
 use native.Mathlib.Numerals.{add-one}
 use native.Mathlib.Omega.{arith}
 use borrow.Author.Rules.{rules, sfits_of}
-use borrow.Author.Tests.{lt-ltb, le-ltb, ltb_true, ltb_false}
+use borrow.Author.Tests.{lt-ltb, le-ltb, ltb-true, ltb-false}
 use lib.Dec.{ltb}
 use lib.ListN.{length, get_or, take, drop, set, length-append, length-take, length-drop, length-set, drop_of_length-le}
 use lib.Seq.{drop-cons, take_all}
@@ -28,12 +28,12 @@ enough_by : (k n : ℕ) (t : Bool) → ltb n 10 ≡ t → (10 ≤ n → last_dig
     → last_digits (suc (suc k)) n ≡ last_digits (suc k) n
 unfolding last_digits
 enough_by k n true e ih = rw e
-enough_by k n false e ih = rw (e, ih (ltb_false n 10 e))
+enough_by k n false e ih = rw (e, ih (ltb-false n 10 e))
 
 enough : (k n : ℕ) → n < 10 ^ suc k → last_digits (suc (suc k)) n ≡ last_digits (suc k) n
 enough zero n h = enough_by 0 n (ltb n 10) refl (λ o. absurd (let p : n < 10 = h in omega arith))
 enough (suc k) n h =
-    let p : n < 10 ^ suc k * 10 = rw (pow_suc 10 (suc k)) at h in
+    let p : n < 10 ^ suc k * 10 = rw (pow-suc 10 (suc k)) at h in
     enough_by (suc k) n (ltb n 10) refl (λ o. enough k (n / 10) (omega arith))
 
 decimal_one : (n : ℕ) → n < 10 → decimal n ≡ (48 + n) ∷ []

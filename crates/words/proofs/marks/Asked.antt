@@ -45,4 +45,4 @@ module _ (f b r : ℕ) (h : 0 < b) (l : b < 2 ^ 64) (e : r ≡ clear (count_trai
 
 pub ruleset longer_rules = (longer_le, longer_fits, longer_is, rules)
 
-pub ruleset rules = (shl_one, shl_pos, full_shl, full_64, without_is, mask_is, rules)
+pub ruleset own_rules = (shl_one, shl_pos, full_shl, full_64, without_is, mask_is, rules)

@@ -2,7 +2,7 @@
 use mathlib.Core.Path.{◌≡◌, refl, sym, ◌∙◌, ap, ap₂}
 use mathlib.Core.List.{List, [], ◌∷◌, map}
 use Prim.Native.Nat.{ℕ, zero, suc, ◌+◌, ◌-◌, ◌*◌, ◌/◌, ◌%◌, ◌^◌, ◌<◌, ◌≤◌}
-use native.Mathlib.Nat.{pow_suc}
+use native.Mathlib.Nat.{pow-suc}
 use native.Mathlib.Omega.{arith}
 use lib.Count.{count_trailing_zeros}
 use Rattle.words.specs.Marks.{clear, Split, under, splits, raise, Longer}
@@ -51,7 +51,7 @@ splits_low (suc k) m h l = by_digit_lem _ m
     (λ e.
     let t = count_trailing_zeros k (m / 2) in
     let b : m / 2 * 2 ≡ m = omega arith in
-    rw (low_even k m e, double_digit (clear t (m / 2)) (m % 2) (digit_2 m), double_half (clear t (m / 2)) (m % 2) (digit_2 m), e, splits_low k (m / 2) (half_pos m h e) (half_lt k m l), pow_suc 2 t)
+    rw (low_even k m e, double_digit (clear t (m / 2)) (m % 2) (digit_2 m), double_half (clear t (m / 2)) (m % 2) (digit_2 m), e, splits_low k (m / 2) (half_pos m h e) (half_lt k m l), pow-suc 2 t)
     (ap₂ (λ (x : Split) (y : List Split). x ∷ y) (split_is refl b) (under_raise (2 ^ t) (splits k (clear t (m / 2))))))
     (λ e.
     rw (low_odd k m e, e, even_digit m, even_half m)

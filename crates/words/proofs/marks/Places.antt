@@ -2,7 +2,7 @@
 use mathlib.Core.Path.{◌≡◌, refl, sym, ◌∙◌}
 use mathlib.Core.List.{List, [], ◌∷◌, map}
 use Prim.Native.Nat.{ℕ, zero, suc, ◌+◌, ◌-◌, ◌*◌, ◌/◌, ◌%◌, ◌^◌, ◌<◌, ◌≤◌}
-use native.Mathlib.Nat.{pow_suc}
+use native.Mathlib.Nat.{pow-suc}
 use native.Mathlib.Omega.{arith}
 use native.Mathlib.Decide.{dec_le}
 use lib.ListN.{length, length-map}
@@ -22,7 +22,7 @@ by_digit_lem P m f g = go (m % 2) refl
     go (suc (suc d)) e = absurd (omega arith)
 
 pub half_lt : (k m : ℕ) → m < 2 ^ suc k → m / 2 < 2 ^ k
-half_lt k m h = let p = pow_suc 2 k in omega arith
+half_lt k m h = let p = pow-suc 2 k in omega arith
 
 pub half_pos : (m : ℕ) → 0 < m → m % 2 ≡ 0 → 0 < m / 2
 half_pos m h e = omega arith
@@ -49,13 +49,13 @@ even_digit m = omega arith
 pub digit_le : (k m : ℕ) → digit k m ≡ 1 → 2 ^ k ≤ m
 unfolding digit
 digit_le zero m e = omega arith
-digit_le (suc k) m e = let r = digit_le k (m / 2) e in let p = pow_suc 2 k in omega arith
+digit_le (suc k) m e = let r = digit_le k (m / 2) e in let p = pow-suc 2 k in omega arith
 
 pub clear_is : (k m : ℕ) → digit k m ≡ 1 → m - 2 ^ k ≡ clear k m
 unfolding digit clear
 clear_is zero m e = omega arith
 clear_is (suc k) m e =
-    let r = clear_is k (m / 2) e in let p = pow_suc 2 k in let l = digit_le k (m / 2) e in omega arith
+    let r = clear_is k (m / 2) e in let p = pow-suc 2 k in let l = digit_le k (m / 2) e in omega arith
 
 pub clear_add : (k m : ℕ) → digit k m ≡ 1 → clear k m + 2 ^ k ≡ m
 clear_add k m e = omega (arith, clear_is k m e, digit_le k m e)
@@ -85,13 +85,13 @@ pub mask_clear : (w k m : ℕ) → k < w → m < 2 ^ w → bit_and m ((2 ^ w - 1
 unfolding clear
 mask_clear zero k m h l = absurd (omega arith)
 mask_clear (suc w) zero m h l =
-    let p : ((2 ^ suc w - 1) - 1) / 2 ≡ 2 ^ w - 1 = omega (arith, pow_suc 2 w, pow_pos w) in
-    let q : ((2 ^ suc w - 1) - 1) % 2 ≡ 0 = omega (arith, pow_suc 2 w, pow_pos w) in
+    let p : ((2 ^ suc w - 1) - 1) / 2 ≡ 2 ^ w - 1 = omega (arith, pow-suc 2 w, pow_pos w) in
+    let q : ((2 ^ suc w - 1) - 1) % 2 ≡ 0 = omega (arith, pow-suc 2 w, pow_pos w) in
     rw (and_step m ((2 ^ suc w - 1) - 1), p, q, and_mask (m / 2) w, mod-eq_of_lt (half_lt w m l)) (omega arith)
 mask_clear (suc w) (suc k) m h l =
-    let b : 2 ^ k ≤ 2 ^ w - 1 = omega (arith, pow_mono {i = suc k} {j = w} (omega arith), pow_suc 2 k, pow_pos k) in
-    let p : ((2 ^ suc w - 1) - 2 ^ suc k) / 2 ≡ (2 ^ w - 1) - 2 ^ k = omega (arith, pow_suc 2 w, pow_suc 2 k, pow_pos w) in
-    let q : ((2 ^ suc w - 1) - 2 ^ suc k) % 2 ≡ 1 = omega (arith, pow_suc 2 w, pow_suc 2 k, pow_pos w) in
+    let b : 2 ^ k ≤ 2 ^ w - 1 = omega (arith, pow_mono {i = suc k} {j = w} (omega arith), pow-suc 2 k, pow_pos k) in
+    let p : ((2 ^ suc w - 1) - 2 ^ suc k) / 2 ≡ (2 ^ w - 1) - 2 ^ k = omega (arith, pow-suc 2 w, pow-suc 2 k, pow_pos w) in
+    let q : ((2 ^ suc w - 1) - 2 ^ suc k) % 2 ≡ 1 = omega (arith, pow-suc 2 w, pow-suc 2 k, pow_pos w) in
     rw (and_step m ((2 ^ suc w - 1) - 2 ^ suc k), p, q, mask_clear w k (m / 2) (omega arith) (half_lt w m l)) (omega arith)
 
 -- ---- The lowest place: the trailing zeros.
@@ -153,8 +153,8 @@ low_one : (w k : ℕ) → k < w → count_trailing_zeros w (2 ^ k) ≡ k
 low_one zero k h = absurd (omega arith)
 low_one (suc w) zero h = low_odd w 1 refl
 low_one (suc w) (suc k) h =
-    let p : 2 ^ suc k % 2 ≡ 0 = omega (arith, pow_suc 2 k) in
-    let q : 2 ^ suc k / 2 ≡ 2 ^ k = omega (arith, pow_suc 2 k) in
+    let p : 2 ^ suc k % 2 ≡ 0 = omega (arith, pow-suc 2 k) in
+    let q : 2 ^ suc k / 2 ≡ 2 ^ k = omega (arith, pow-suc 2 k) in
     low_even w (2 ^ suc k) p ∙ rw (q, low_one w k (omega arith))
 
 pub positions_one : (w k : ℕ) → k < w → positions w (2 ^ k) ≡ k ∷ []
@@ -174,10 +174,10 @@ count_positions (suc k) m h = by_digit_lem _ m
 -- ---- All of n.
 
 pub full_odd : (n : ℕ) → (2 ^ suc n - 1) % 2 ≡ 1
-full_odd n = let p = pow_suc 2 n in let q = pow_pos n in omega arith
+full_odd n = let p = pow-suc 2 n in let q = pow_pos n in omega arith
 
 pub full_half : (n : ℕ) → (2 ^ suc n - 1) / 2 ≡ 2 ^ n - 1
-full_half n = let p = pow_suc 2 n in let q = pow_pos n in omega arith
+full_half n = let p = pow-suc 2 n in let q = pow_pos n in omega arith
 
 -- ---- Choices that are left are among the marks.
 

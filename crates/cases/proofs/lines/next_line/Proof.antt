@@ -1,5 +1,5 @@
 -- `cases::lines::next_line` is safe and ends. Assumes nothing.
-use Rattle.cases.proofs.Laws.{rules}
+use Rattle.cases.proofs.Laws.{own_rules}
 use Prim.Native.Nat.{◌-◌, ◌≤◌}
 use lib.ListN.{length}
 use Rattle.cases.proofs.lines.next_line.Statement.{statement}
@@ -17,11 +17,11 @@ next-line-spec =
     (tie.spec
     invariant-loop
     decreases-loop
-    (λ c. search rules)
-    (λ c. search rules)
-    (λ c. search rules)
-    (λ c. search rules)
-    (λ c. search rules)
-    (λ c. search rules)
-    (λ c. search rules)
-    (λ c. search rules))
+    (λ c. search own_rules)
+    (λ c. search own_rules)
+    (λ c. search own_rules)
+    (λ c. search own_rules)
+    (λ c. search own_rules)
+    (λ c. search own_rules)
+    (λ c. search own_rules)
+    (λ c. search own_rules))

@@ -1,5 +1,5 @@
 -- `cases::lines::seek` is safe and ends. Assumes nothing.
-use Rattle.cases.proofs.Laws.{rules}
+use Rattle.cases.proofs.Laws.{own_rules}
 use Prim.Native.Nat.{◌-◌}
 use lib.ListN.{length}
 use Rattle.cases.proofs.lines.seek.Statement.{statement}
@@ -17,10 +17,10 @@ seek-spec =
     (tie.spec
     invariant-loop
     decreases-loop
-    (λ c. search rules)
-    (λ c κs. search rules)
-    (λ c. search rules)
-    (λ c κs. search rules)
-    (λ c. search rules)
-    (λ c. search rules)
-    (λ c. search rules))
+    (λ c. search own_rules)
+    (λ c κs. search own_rules)
+    (λ c. search own_rules)
+    (λ c κs. search own_rules)
+    (λ c. search own_rules)
+    (λ c. search own_rules)
+    (λ c. search own_rules))

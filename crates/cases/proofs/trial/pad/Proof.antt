@@ -1,5 +1,5 @@
 -- `cases::trial::pad` is safe and ends. Assumes nothing.
-use Rattle.cases.proofs.Laws.{rules}
+use Rattle.cases.proofs.Laws.{own_rules}
 use mathlib.Core.Path.{◌≡◌}
 use Prim.Native.Nat.{◌≤◌}
 use lib.ListN.{length}
@@ -18,13 +18,13 @@ pad-spec =
     (tie.spec
     invariant-loop
     decreases-loop
-    (λ c. search rules)
-    (λ c. search rules)
-    (λ c. search rules)
-    (λ c. search rules)
-    (λ c. search rules)
-    (λ c. search rules)
-    (λ c. search rules)
-    (λ c. search rules)
-    (λ c. search rules)
-    (λ c. search rules))
+    (λ c. search own_rules)
+    (λ c. search own_rules)
+    (λ c. search own_rules)
+    (λ c. search own_rules)
+    (λ c. search own_rules)
+    (λ c. search own_rules)
+    (λ c. search own_rules)
+    (λ c. search own_rules)
+    (λ c. search own_rules)
+    (λ c. search own_rules))

@@ -1,5 +1,5 @@
 -- `cases::trial::play` is safe and ends. Assumes nothing.
-use Rattle.cases.proofs.Laws.{rules}
+use Rattle.cases.proofs.Laws.{own_rules}
 use Rattle.cases.proofs.trial.play.Statement.{statement}
 use Rattle.cases.proofs.trial.play.Tie as tie
 
@@ -7,10 +7,10 @@ pub play-spec : {M : Type 1} → statement M
 play-spec =
     tie.close
     (tie.spec
-    (λ c κs. search rules)
-    (λ c. search rules)
-    (λ c κs. search rules)
-    (λ c. search rules)
-    (λ c. search rules)
-    (λ c κs. search rules)
-    (λ c. search rules))
+    (λ c κs. search own_rules)
+    (λ c. search own_rules)
+    (λ c κs. search own_rules)
+    (λ c. search own_rules)
+    (λ c. search own_rules)
+    (λ c κs. search own_rules)
+    (λ c. search own_rules))

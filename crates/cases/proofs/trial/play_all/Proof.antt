@@ -1,5 +1,5 @@
 -- `cases::trial::play_all` is safe and ends. Assumes nothing.
-use Rattle.cases.proofs.Laws.{rules}
+use Rattle.cases.proofs.Laws.{own_rules}
 use Rattle.cases.proofs.trial.play_all.Statement.{statement}
 use Rattle.cases.proofs.trial.play_all.Tie as tie
 
@@ -15,19 +15,19 @@ play-all-spec =
     (tie.spec
     invariant-loop
     decreases-loop
-    (λ c. search rules)
-    (λ c. search rules)
-    (λ c. search rules)
-    (λ c κs. search rules)
-    (λ c. search rules)
-    (λ c κs. search rules)
-    (λ c κs. search rules)
-    (λ c κs. search rules)
-    (λ c. search rules)
-    (λ c κs. search rules)
-    (λ c κs. search rules)
-    (λ c κs. search rules)
-    (λ c. search rules)
-    (λ c. search rules)
-    (λ c. search rules)
-    (λ c. search rules))
+    (λ c. search own_rules)
+    (λ c. search own_rules)
+    (λ c. search own_rules)
+    (λ c κs. search own_rules)
+    (λ c. search own_rules)
+    (λ c κs. search own_rules)
+    (λ c κs. search own_rules)
+    (λ c κs. search own_rules)
+    (λ c. search own_rules)
+    (λ c κs. search own_rules)
+    (λ c κs. search own_rules)
+    (λ c κs. search own_rules)
+    (λ c. search own_rules)
+    (λ c. search own_rules)
+    (λ c. search own_rules)
+    (λ c. search own_rules))

@@ -4,7 +4,7 @@ use mathlib.Core.Path.{◌≡◌}
 use Rattle.words.specs.Words.{entries}
 use Rattle.tables.specs.Line.{columns_of}
 use Rattle.review_count.specs.Scan.{none_from}
-use Rattle.review_count.proofs.always.Scanned.{rules}
+use Rattle.review_count.proofs.always.Scanned.{own_rules}
 use Rattle.review_count.proofs.always.always_true.Statement.{statement}
 use Rattle.review_count.proofs.always.always_true.Tie as tie
 
@@ -16,12 +16,12 @@ decreases-loop lines pc₀ pc = entries - pc
 
 pub always-true-spec : {M : Type 1} → statement M
 always-true-spec = tie.close (tie.spec invariant-loop decreases-loop
-    (λ c. search rules)
-    (λ c κs. search rules)
-    (λ c κs. search rules)
-    (λ c. search rules)
-    (λ c. search rules)
-    (λ c. search rules)
-    (λ c. search rules)
-    (λ c. search rules)
-    (λ c. search rules))
+    (λ c. search own_rules)
+    (λ c κs. search own_rules)
+    (λ c κs. search own_rules)
+    (λ c. search own_rules)
+    (λ c. search own_rules)
+    (λ c. search own_rules)
+    (λ c. search own_rules)
+    (λ c. search own_rules)
+    (λ c. search own_rules))

@@ -1,7 +1,7 @@
 -- `round_lists::keeping::keep_slots` meets its contract. Assumes nothing.
 use Prim.Native.Nat.{◌-◌}
 use Rattle.round_lists.specs.Lists.{waits_as, binds_as}
-use Rattle.round_lists.proofs.Laws.{Saving, rules}
+use Rattle.round_lists.proofs.Laws.{Saving, own_rules}
 use Rattle.round_lists.proofs.keeping.keep_slots.Statement.{statement}
 use Rattle.round_lists.proofs.keeping.keep_slots.Tie as tie
 use Rattle.round_lists.proofs.keeping.keep_slots.Reads as reads
@@ -16,34 +16,34 @@ abbrev decreases-loop : tie.decreases-loop
 decreases-loop table₀ base used slots j₀ table j = used - j
 
 loop-holds : tie.Need-loop-init invariant-loop decreases-loop
-loop-holds c = search rules
+loop-holds c = search own_rules
 
 add-put-entry : tie.Need-overflow-add-put-entry invariant-loop decreases-loop
-add-put-entry c = search rules
+add-put-entry c = search own_rules
 
 add-put-entry-2 : tie.Need-overflow-add-put-entry-2 invariant-loop decreases-loop
-add-put-entry-2 c = search rules
+add-put-entry-2 c = search own_rules
 
 waiting-at-requires : tie.Need-waiting-at-requires invariant-loop decreases-loop
-waiting-at-requires c κs = search rules
+waiting-at-requires c κs = search own_rules
 
 put-entry-requires : tie.Need-put-entry-requires invariant-loop decreases-loop
-put-entry-requires c κs = search rules
+put-entry-requires c κs = search own_rules
 
 add-j : tie.Need-overflow-add-j invariant-loop decreases-loop
-add-j c = search rules
+add-j c = search own_rules
 
 loop-less : tie.Need-loop-smaller invariant-loop decreases-loop
-loop-less c = search rules
+loop-less c = search own_rules
 
 loop-again : tie.Need-loop-preserved invariant-loop decreases-loop
-loop-again c = search rules
+loop-again c = search own_rules
 
 same_length : tie.Need-same-length invariant-loop decreases-loop
-same_length c = search rules
+same_length c = search own_rules
 
 returns : tie.Need-returns invariant-loop decreases-loop
-returns c = search rules
+returns c = search own_rules
 
 pub keep-slots-spec : {M : Type 1} → statement M
 keep-slots-spec =

@@ -1,5 +1,5 @@
 -- `round_lists::taking::reopen` meets its contract. Assumes nothing.
-use Rattle.round_lists.proofs.Outs.{rules}
+use Rattle.round_lists.proofs.Outs.{own_rules}
 use Rattle.round_lists.proofs.taking.reopen.Statement.{statement}
 use Rattle.round_lists.proofs.taking.reopen.Tie as tie
 use Rattle.round_lists.proofs.taking.reopen.Reads as reads
@@ -9,28 +9,28 @@ use Rattle.tables.proofs.slot.held_at.Reads as held-at-reads
 use Rattle.tables.proofs.slot.put_frame.Reads as put-frame-reads
 
 mul-base : tie.Need-mul-base
-mul-base c = search rules
+mul-base c = search own_rules
 
 add-entry-at : tie.Need-add-entry-at
-add-entry-at c = search rules
+add-entry-at c = search own_rules
 
 entry-at-requires : tie.Need-entry-at-requires
-entry-at-requires c κs = search rules
+entry-at-requires c κs = search own_rules
 
 add-entry-at-2 : tie.Need-add-entry-at-2
-add-entry-at-2 c = search rules
+add-entry-at-2 c = search own_rules
 
 entry-at-requires-2 : tie.Need-entry-at-requires-2
-entry-at-requires-2 c κs = search rules
+entry-at-requires-2 c κs = search own_rules
 
 held-at-requires : tie.Need-held-at-requires
-held-at-requires c κs = search rules
+held-at-requires c κs = search own_rules
 
 put-frame-requires : tie.Need-put-frame-requires
-put-frame-requires c κs = search rules
+put-frame-requires c κs = search own_rules
 
 returns : tie.Need-returns
-returns c = search rules
+returns c = search own_rules
 
 pub reopen-spec : {M : Type 1} → statement M
 reopen-spec =

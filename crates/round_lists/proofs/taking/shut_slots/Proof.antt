@@ -1,6 +1,6 @@
 -- `round_lists::taking::shut_slots` meets its contract. Assumes nothing.
 use Prim.Native.Nat.{◌-◌}
-use Rattle.round_lists.proofs.Outs.{Shutting, rules}
+use Rattle.round_lists.proofs.Outs.{Shutting, own_rules}
 use Rattle.round_lists.proofs.taking.shut_slots.Statement.{statement}
 use Rattle.round_lists.proofs.taking.shut_slots.Tie as tie
 use Rattle.round_lists.proofs.taking.shut_slots.Reads as reads
@@ -14,22 +14,22 @@ abbrev decreases-loop : tie.decreases-loop
 decreases-loop used slots₀ j₀ slots j = used - j
 
 loop-holds : tie.Need-loop-init invariant-loop decreases-loop
-loop-holds c = search rules
+loop-holds c = search own_rules
 
 put-alone-requires : tie.Need-put-alone-requires invariant-loop decreases-loop
-put-alone-requires c κs = search rules
+put-alone-requires c κs = search own_rules
 
 add-j : tie.Need-overflow-add-j invariant-loop decreases-loop
-add-j c = search rules
+add-j c = search own_rules
 
 loop-less : tie.Need-loop-smaller invariant-loop decreases-loop
-loop-less c = search rules
+loop-less c = search own_rules
 
 loop-again : tie.Need-loop-preserved invariant-loop decreases-loop
-loop-again c = search rules
+loop-again c = search own_rules
 
 returns : tie.Need-returns invariant-loop decreases-loop
-returns c = search rules
+returns c = search own_rules
 
 pub shut-slots-spec : {M : Type 1} → statement M
 shut-slots-spec =

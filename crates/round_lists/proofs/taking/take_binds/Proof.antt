@@ -1,6 +1,6 @@
 -- `round_lists::taking::take_binds` meets its contract. Assumes nothing.
 use Prim.Native.Nat.{◌-◌}
-use Rattle.round_lists.proofs.Outs.{Rebinding, rules}
+use Rattle.round_lists.proofs.Outs.{Rebinding, own_rules}
 use Rattle.round_lists.proofs.taking.take_binds.Statement.{statement}
 use Rattle.round_lists.proofs.taking.take_binds.Tie as tie
 use Rattle.round_lists.proofs.taking.take_binds.Reads as reads
@@ -14,34 +14,34 @@ abbrev decreases-loop : tie.decreases-loop
 decreases-loop table base n b₀ v₀ b v = n - v
 
 loop-holds : tie.Need-loop-init invariant-loop decreases-loop
-loop-holds c = search rules
+loop-holds c = search own_rules
 
 add-entry-at : tie.Need-overflow-add-entry-at invariant-loop decreases-loop
-add-entry-at c = search rules
+add-entry-at c = search own_rules
 
 add-entry-at-2 : tie.Need-overflow-add-entry-at-2 invariant-loop decreases-loop
-add-entry-at-2 c = search rules
+add-entry-at-2 c = search own_rules
 
 entry-at-requires : tie.Need-entry-at-requires invariant-loop decreases-loop
-entry-at-requires c κs = search rules
+entry-at-requires c κs = search own_rules
 
 mul-b : tie.Need-overflow-mul-b invariant-loop decreases-loop
-mul-b c = search rules
+mul-b c = search own_rules
 
 array-set-from-b : tie.Need-array-set-from-b invariant-loop decreases-loop
-array-set-from-b c = search rules
+array-set-from-b c = search own_rules
 
 add-v : tie.Need-overflow-add-v invariant-loop decreases-loop
-add-v c = search rules
+add-v c = search own_rules
 
 loop-less : tie.Need-loop-smaller invariant-loop decreases-loop
-loop-less c = search rules
+loop-less c = search own_rules
 
 loop-again : tie.Need-loop-preserved invariant-loop decreases-loop
-loop-again c = search rules
+loop-again c = search own_rules
 
 returns : tie.Need-returns invariant-loop decreases-loop
-returns c = search rules
+returns c = search own_rules
 
 pub take-binds-spec : {M : Type 1} → statement M
 take-binds-spec =

@@ -1,6 +1,6 @@
 -- `round_sweep::pull::pull` meets its contract. Assumes nothing.
 use Prim.Native.Nat.{◌-◌}
-use Rattle.round_sweep.proofs.Pulls.{Pulling, rules}
+use Rattle.round_sweep.proofs.Pulls.{Pulling, own_rules}
 use Rattle.round_sweep.proofs.pull.pull.Statement.{statement}
 use Rattle.round_sweep.proofs.pull.pull.Tie as tie
 use Rattle.round_sweep.proofs.pull.pull.Reads as reads
@@ -14,43 +14,43 @@ abbrev decreases-loop : tie.decreases-loop
 decreases-loop table₀ many fresh left used k₀ table k = left - k
 
 returns : tie.Need-returns invariant-loop decreases-loop
-returns c = search rules
+returns c = search own_rules
 
 loop-holds : tie.Need-loop-init invariant-loop decreases-loop
-loop-holds c = search rules
+loop-holds c = search own_rules
 
 add-copy : tie.Need-overflow-add-copy invariant-loop decreases-loop
-add-copy c = search rules
+add-copy c = search own_rules
 
 mul-copy : tie.Need-overflow-mul-copy invariant-loop decreases-loop
-mul-copy c = search rules
+mul-copy c = search own_rules
 
 add-copy-2 : tie.Need-overflow-add-copy-2 invariant-loop decreases-loop
-add-copy-2 c = search rules
+add-copy-2 c = search own_rules
 
 mul-copy-2 : tie.Need-overflow-mul-copy-2 invariant-loop decreases-loop
-mul-copy-2 c = search rules
+mul-copy-2 c = search own_rules
 
 add-copy-3 : tie.Need-overflow-add-copy-3 invariant-loop decreases-loop
-add-copy-3 c = search rules
+add-copy-3 c = search own_rules
 
 copy-requires : tie.Need-copy-requires invariant-loop decreases-loop
-copy-requires c κs = search rules
+copy-requires c κs = search own_rules
 
 add-k : tie.Need-overflow-add-k invariant-loop decreases-loop
-add-k c = search rules
+add-k c = search own_rules
 
 loop-less : tie.Need-loop-smaller invariant-loop decreases-loop
-loop-less c = search rules
+loop-less c = search own_rules
 
 loop-again : tie.Need-loop-preserved invariant-loop decreases-loop
-loop-again c = search rules
+loop-again c = search own_rules
 
 same_length : tie.Need-same-length invariant-loop decreases-loop
-same_length c = search rules
+same_length c = search own_rules
 
 returns-2 : tie.Need-returns-2 invariant-loop decreases-loop
-returns-2 c = search rules
+returns-2 c = search own_rules
 
 pub pull-spec : {M : Type 1} → statement M
 pull-spec =

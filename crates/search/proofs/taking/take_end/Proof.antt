@@ -2,7 +2,7 @@
 use Prim.Native.Nat.{◌+◌, ◌-◌, ◌≤◌}
 use mathlib.Core.Path.{◌≡◌, refl, sym, ap, ◌∙◌}
 use native.Mathlib.Omega.{arith}
-use borrow.Author.Tests.{ltb_true, ltb_false}
+use borrow.Author.Tests.{ltb-true, ltb-false}
 use lib.ListN.{length}
 use Rattle.rules.specs.Rows.{row}
 use Rattle.value_places.specs.Held.{put}
@@ -32,7 +32,7 @@ filled-requires : tie.Need-filled-requires invariant-loop decreases-loop
 filled-requires c κs = c.before.before.requires.1.1.steps
 
 returns : tie.Need-returns invariant-loop decreases-loop
-returns c = end_full _ _ _ _ _ _ _ _ (ltb_true _ _ (sym c.before.before.is-short.ensures ∙ c.before.if1.true)) c.filled.ensures refl
+returns c = end_full _ _ _ _ _ _ _ _ (ltb-true _ _ (sym c.before.before.is-short.ensures ∙ c.before.if1.true)) c.filled.ensures refl
 
 loop-holds : tie.Need-loop-init invariant-loop decreases-loop
 loop-holds c =
@@ -82,7 +82,7 @@ returns-2 : tie.Need-returns-2 invariant-loop decreases-loop
 returns-2 c =
     let k = c.before.before.before.before.before.before.requires.1.1.bound in
     let i = c.before.before.before.loop.invariant in
-    end_wrote _ _ _ _ _ _ _ _ _ (ltb_false _ _ (sym c.before.before.before.before.before.is-short.ensures ∙ c.before.before.before.before.if1.false)) c.wrote.ensures
+    end_wrote _ _ _ _ _ _ _ _ _ (ltb-false _ _ (sym c.before.before.before.before.before.is-short.ensures ∙ c.before.before.before.before.if1.false)) c.wrote.ensures
     (row_out_size _ _ _ _ _ _ _ k i.3 c.before.if2.false) (row_out _ _ _ _ _ _ _ _ k i.4 c.before.if2.false)
 
 pub take-end-spec : {M : Type 1} → statement M

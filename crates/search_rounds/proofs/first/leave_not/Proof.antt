@@ -3,7 +3,7 @@ use Prim.Native.Nat.{◌-◌}
 use native.Mathlib.Omega.{arith}
 use Rattle.tables.specs.Line.{columns_of}
 use Rattle.search.specs.Told.{env_by}
-use Rattle.search_rounds.proofs.Heads.{GoneTo, gone_none, gone_valid, gone_long, gone_steps, gone_left, gone_spent, gone_over, gone_next, gone_less, rules}
+use Rattle.search_rounds.proofs.Heads.{GoneTo, gone_none, gone_valid, gone_long, gone_steps, gone_left, gone_spent, gone_over, gone_next, gone_less, own_rules}
 use Rattle.search_rounds.proofs.first.leave_not.Statement.{statement}
 use Rattle.search_rounds.proofs.first.leave_not.Tie as tie
 use Rattle.search_rounds.proofs.first.leave_not.Reads as reads

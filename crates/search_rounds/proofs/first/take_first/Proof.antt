@@ -1,6 +1,6 @@
 -- `search_rounds::first::take_first` meets its contract. Assumes nothing.
 use mathlib.Core.Path.{◌∙◌, sym}
-use Rattle.search_rounds.proofs.Heads.{first_place, first_valid, first_steps, first_inside, first_left, first_plain, rules}
+use Rattle.search_rounds.proofs.Heads.{first_place, first_valid, first_steps, first_inside, first_left, first_plain, own_rules}
 use Rattle.search_rounds.proofs.first.take_first.Statement.{statement}
 use Rattle.search_rounds.proofs.first.take_first.Tie as tie
 use Rattle.search_rounds.proofs.first.take_first.Reads as reads
@@ -31,7 +31,7 @@ leave-not-requires c κs =
     (p.0, (first_inside p.1.0 c.before.before.before.before.before.before.before.before.before.before.before.take_out.ensures c.before.before.before.before.before.before.before.before.before.before.Alone-of.ensures c.before.before.before.before.before.before.once.result.state c.before.before.before.before.before.before.once.last.1.1.1.1.1.1.1.0 c.before.before.before.before.before.before.once.result.binds c.before.before.before.before.before.before.once.last.1.1.1.1.1.1.1.1.0 c.before.before.before.before.before.before.once.ensures (sym c.before.before.before.before.before.before.before.before.before.op-at.ensures ∙ c.before.before.if1.taken), p.1.1))
 
 same_length : tie.Need-same-length
-same_length c = search rules
+same_length c = search own_rules
 
 returns : tie.Need-returns
 returns c =
@@ -40,7 +40,7 @@ returns c =
     c.before.leave-not.last.1.1.1.1.1.1.1.1.0 c.before.leave-not.ensures
 
 same-length-2 : tie.Need-same-length-2
-same-length-2 c = search rules
+same-length-2 c = search own_rules
 
 returns-2 : tie.Need-returns-2
 returns-2 c =

@@ -1,5 +1,5 @@
 -- `search_rounds::remainder::remain` meets its contract. Assumes nothing.
-use Rattle.search_rounds.proofs.Laws.{list_there, list_top, list_slotted, list_alone, list_named, list_picks, list_framed, remained, rules}
+use Rattle.search_rounds.proofs.Laws.{list_there, list_top, list_slotted, list_alone, list_named, list_picks, list_framed, remained, own_rules}
 use Rattle.search_rounds.proofs.remainder.remain.Statement.{statement}
 use Rattle.search_rounds.proofs.remainder.remain.Tie as tie
 use Rattle.search_rounds.proofs.remainder.remain.Reads as reads
@@ -36,7 +36,7 @@ keep-requires c κs =
     (list_framed L c.before.before.before.before.before.before.before.before.before.before.take_out.ensures c.before.before.before.before.before.before.before.before.head-of.ensures c.before.before.before.before.reopen.last.1.1.1.1.0 c.before.before.before.before.reopen.ensures c.before.before.settle.result c.before.before.settle.last.1.1.1.1.0 c.before.before.settle.ensures, (L.ruled.fine.few, (L.uses.variables, (L.uses.most, L.there))))
 
 same_length : tie.Need-same-length
-same_length c = search rules
+same_length c = search own_rules
 
 returns : tie.Need-returns
 returns c =

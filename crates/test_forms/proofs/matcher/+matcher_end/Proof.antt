@@ -5,7 +5,7 @@ use borrow.Fn.Kinds.{In}
 use borrow.Fn.PlainCycle.{Measures, is, falls, and}
 use Rattle.test_forms.specs.Ends.{in_row}
 use Rattle.test_forms.specs.Matchers.{matcher_from}
-use Rattle.test_forms.proofs.matcher.Steps.{rules}
+use Rattle.test_forms.proofs.matcher.Steps.{own_rules}
 use Rattle.test_forms.proofs.matcher.matcher_end.Reads as matcher-end
 use Rattle.test_forms.proofs.matcher.matcher_end.Kinds as matcher-end-kinds
 use Rattle.test_forms.proofs.matcher.+matcher_end.Lts-matcher_end as matcher-end-lts
@@ -31,28 +31,28 @@ decreases-loop s at left t n₀ e₀ n e = n
 
 pub +matcher-end-spec : {M : Type 1} → statement M
 +matcher-end-spec = close μ-matcher-end λ t. matcher-end-lts.spec (tag-at-reads.Asked, tag-at-reads.Learnt, matcher-end-below t, matcher_end_lem.Post, between-reads.Asked, between-reads.Learnt) (matcher-end-at t) matcher_end_lem.Post invariant-loop decreases-loop
-    (λ c. search rules)
-    (λ c. search rules)
-    (λ c. search rules)
-    (λ c. search rules)
-    (λ c. search rules)
-    (λ c. search rules)
-    (λ c. search rules)
-    (λ c. search rules)
-    (λ c. search rules)
-    (λ c. search rules)
-    (λ c. search rules)
-    (λ c. search rules)
-    (λ c. search rules)
-    (λ c. search rules)
-    (λ c. search rules)
-    (λ c. search rules)
-    (λ c. search rules)
-    (λ c. search rules)
-    (λ c. search rules)
-    (λ c. search rules)
-    (λ c. search rules)
-    (λ c. search rules)
-    (λ c. search rules)
-    (λ c. search rules)
-    (λ c. search rules)
+    (λ c. search own_rules)
+    (λ c. search own_rules)
+    (λ c. search own_rules)
+    (λ c. search own_rules)
+    (λ c. search own_rules)
+    (λ c. search own_rules)
+    (λ c. search own_rules)
+    (λ c. search own_rules)
+    (λ c. search own_rules)
+    (λ c. search own_rules)
+    (λ c. search own_rules)
+    (λ c. search own_rules)
+    (λ c. search own_rules)
+    (λ c. search own_rules)
+    (λ c. search own_rules)
+    (λ c. search own_rules)
+    (λ c. search own_rules)
+    (λ c. search own_rules)
+    (λ c. search own_rules)
+    (λ c. search own_rules)
+    (λ c. search own_rules)
+    (λ c. search own_rules)
+    (λ c. search own_rules)
+    (λ c. search own_rules)
+    (λ c. search own_rules)
