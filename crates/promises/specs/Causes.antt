@@ -37,6 +37,8 @@ whole_told ts h (ok g) e (well us) a = subst (λ l. Told ts (ended g) (told (wel
         let t = took 8 0 ts g e in
         let n : length (words g.it) ≡ g.next = omega (arith, t.1) in
         (left_over, refl, subst (λ j. Wrong ts j left_over) n (over h g.it w ws (target_sound 8 0 ts g e).1 (t.0 ∙ ap (λ l. words g.it ++ l) q)))
+whole_told ts h (ok g) e (wrong c) a = elim a [ ]
+whole_told ts h (fault i) e (well us) b = elim b [ ]
 whole_told ts h (fault i) e (wrong c) b =
     let n : length b.front + b.k ≡ i = omega (arith, b.place) in
     (c, refl, subst (λ j. Wrong ts j c) n (early h b.front b.rest b.split b.awaits b.spot))

@@ -78,6 +78,7 @@ one_more k m = omega arith
 some_marked : (us : Valuesᵒ) (i k : ℕ) (vs : Values) → Among us (placed_all i k vs) → (m : ℕ) × (marks_all us ≡ 2 ^ k * m) × (plain_all us ≡ remaining vs m)
 unfolding placed_all marks_all plain_all
 some_marked emptyᵒ i k vs a = (0, omega arith, sym (remaining_none vs))
+some_marked (u ▸ᵒ us) i k empty a = elim a [ ]
 some_marked (u ▸ᵒ us) i k (v ▸ vs) (kept a) =
     let r = some_marked us (i + size v) (suc k) vs a in (
       1 + 2 * r.0,
