@@ -1,8 +1,0 @@
--- `matchers::words_at` meets its contract. Assumes nothing.
-use Rattle.matchers.proofs.Ends.{tag_rules}
-use Rattle.matchers.proofs.words_at.Statement.{statement}
-use Rattle.matchers.proofs.words_at.Tie as tie
-use Rattle.words.proofs.tag_at.Reads as tag-at-reads
-
-pub words-at-spec : {M : Type 1} → statement M
-words-at-spec = tie.close (tie.spec (λ c κs. search tag_rules) (λ c. search tag_rules) (λ c. search tag_rules))
