@@ -267,8 +267,8 @@ unfolding follow_of members parted items first_of others_of countᵖ
 tuple_next pc p q ps m k ks ms ts = let e : suc (suc (countᵖ ps)) - 2 ≡ countᵖ ps = omega arith in rw e
 
 module _ {ms : List ℤ} {vars pc : ℕ} where
-  strip_goes : {p : Pattern} {ks : List Matcher} {m : Matcher} {ts : List Item} {ls : List Line} → Loose p → is_something m ≡ false
-      → Stands ms vars pc ls (point ks p m m ts) → Goes ms vars pc ls strip (point ks p something m ts)
+  strip_goes : {p : Pattern} {ks : List Matcher} {m m' : Matcher} {ts : List Item} {ls : List Line} → Loose p → is_something m ≡ false
+      → Stands ms vars pc ls (point ks p m m' ts) → Goes ms vars pc ls strip (point ks p something m ts)
   unfolding pattern_words variables_in binding op_of operands_of is_something
   strip_goes {ks = ks} {m} {ts} loose_wildcard h (at_tag {ls = ls} i us a ps e v) =
       let r : ls ≡ line 1 0 0 i (pos 0) ∷ leaf_line 2 i (slot_of us) (item_words ts) ∷ later ms us (suc (suc pc)) (item_words ts)
@@ -309,15 +309,15 @@ module _ {ms : List ℤ} {vars pc : ℕ} where
       let r = e ∙ plain_lines ms i us pc (pos 2) (c ∷ []) (item_words ts) 1 4 (matcher_tag integer a) refl refl refl (tight_strip 1 4 i refl) in
       leaf_goes ks ks 4 i (c ∷ item_words ts) ps r v (omega arith) (λ to y. rw (slot_from ps, y) (means_constant refl))
 
-  nil_goes : {ks : List Matcher} {m : Matcher} {ts : List Item} {ls : List Line}
-      → Stands ms vars pc ls (point ks nil m m ts) → (t : ℕ) → Goes ms vars pc ls (test (as_nil m) (from ts) t) (beside ks ts)
+  nil_goes : {ks : List Matcher} {m m' : Matcher} {ts : List Item} {ls : List Line}
+      → Stands ms vars pc ls (point ks nil m m' ts) → (t : ℕ) → Goes ms vars pc ls (test (as_nil m) (from ts) t) (beside ks ts)
   unfolding pattern_words binding op_of operands_of leaf_line Leads
   nil_goes {ks} {m} {ts} (at_tag i us a ps e v) t =
       let r = e ∙ plain_lines ms i us pc (pos 4) [] (item_words ts) (tag_of m) 7 (matcher_tag m a) refl refl refl (tight_strip (tag_of m) 7 i refl) in
       leaf_goes ks ks 7 i (item_words ts) ps r v (omega arith) (λ to y. rw (slot_from ps, y) (means_nil m refl))
 
-  value_goes : {ks : List Matcher} (x : ℕ) (c : ℤ) (m : Matcher) {ts : List Item} {ls : List Line} → x < 16 → without_something m ≡ true
-      → Stands ms vars pc ls (point ks (value (pos x) c) m m ts) → (t : ℕ) → Goes ms vars pc ls (test (as_value m x c) (from ts) t) (beside ks ts)
+  value_goes : {ks : List Matcher} (x : ℕ) (c : ℤ) (m : Matcher) {m' : Matcher} {ts : List Item} {ls : List Line} → x < 16 → without_something m ≡ true
+      → Stands ms vars pc ls (point ks (value (pos x) c) m m' ts) → (t : ℕ) → Goes ms vars pc ls (test (as_value m x c) (from ts) t) (beside ks ts)
   unfolding pattern_words binding op_of operands_of leaf_line tag_of without_something is_integer Leads
   value_goes x c something l z s t = absent (sym z)
   value_goes {ks} x c integer {ts} l z (at_tag i us a ps e v) t =
@@ -333,8 +333,8 @@ module _ {ms : List ℤ} {vars pc : ℕ} where
       let r = e ∙ plain_lines ms i us pc (pos 3) (pos x ∷ c ∷ []) (item_words ts) 4 6 (matcher_tag (tuple_of m) a) refl refl refl (tight_strip 4 6 i refl) in
       leaf_goes ks ks 6 i (pos x ∷ c ∷ item_words ts) ps r v (omega arith) (λ to y. rw (slot_from ps, y) (value_means i (slot_of us) x c (item_words ts) l (tuple_of m) refl a to))
 
-  split_goes : {ks : List Matcher} (d : Kind) {p q : Pattern} {ts : List Item} {ls : List Line}
-      → Stands ms vars pc ls (point ks (whole d p q) (over d) (over d) ts)
+  split_goes : {ks : List Matcher} (d : Kind) {p q : Pattern} {m : Matcher} {ts : List Item} {ls : List Line}
+      → Stands ms vars pc ls (point ks (whole d p q) (over d) m ts)
       → Goes ms vars pc ls (split d) (point ks p (first_by d) (first_by d) (item q (over d) pc ∷ ts))
   unfolding whole over first_by pattern_words variables_in binding op_of first_under from_by slot_by behind_by tag_of item_words others
   split_goes {ks} (list_cons m) {p} {q} {ts} (at_tag i us a ps e v) =
@@ -350,8 +350,8 @@ module _ {ms : List ℤ} {vars pc : ℕ} where
       let u = ap variables_in r in
       record { first = _; others = _; lines = r; means = λ to y. means_join m refl; stands = at_tag {pc = suc pc} {ks = ks} {p = p} i (waits i pc 0 ∷ us) a (parts {n = 0} {p = q} a (omega arith) ps) refl (omega arith) }
 
-  tuple_goes : {ks : List Matcher} (p q : Pattern) (ps : Patterns) (m k : Matcher) (ms' : Matchers) {ts : List Item} {ls : List Line} → countᵖ ps ≡ countᵐ ms' → countᵖ ps ≤ 2
-      → Stands ms vars pc ls (point ks (tuple (p ▸ᵖ q ▸ᵖ ps)) (tuple_of (m ▸ᵐ k ▸ᵐ ms')) (tuple_of (m ▸ᵐ k ▸ᵐ ms')) ts)
+  tuple_goes : {ks : List Matcher} (p q : Pattern) (ps : Patterns) (m k : Matcher) (ms' : Matchers) {m' : Matcher} {ts : List Item} {ls : List Line} → countᵖ ps ≡ countᵐ ms' → countᵖ ps ≤ 2
+      → Stands ms vars pc ls (point ks (tuple (p ▸ᵖ q ▸ᵖ ps)) (tuple_of (m ▸ᵐ k ▸ᵐ ms')) m' ts)
       → Goes ms vars pc ls (apart (countᵖ ps)) (reserved (countᵖ ps) (point ks p m m (item q k pc ∷ items ps ms' (suc pc) ts)))
   unfolding pattern_words pattern_words_all variables_in binding item_words tag_of
   tuple_goes {ks} p q ps m k ms' {ts} c d (at_tag {ls = ls} i us a w e v) =
@@ -371,24 +371,24 @@ module _ {ms : List ℤ} {vars pc : ℕ} where
         stands = reserved_stands n (at_tag {pc = suc (pc + n)} {ks = ks} {p = p} (i + 2) vs (matchers_first b) (tuple_parts ps ms' (matchers_others b) d refl (sym c) w) refl (omega arith));
       }
 
-  keep_goes : {ks : List Matcher} {p q : Pattern} {m : Matcher} {ts : List Item} {ls : List Line}
-      → Stands ms vars pc ls (point ks (both p q) m m ts) → Goes ms vars pc ls keep (point ks p m m (item q m pc ∷ ts))
+  keep_goes : {ks : List Matcher} {p q : Pattern} {m m' : Matcher} {ts : List Item} {ls : List Line}
+      → Stands ms vars pc ls (point ks (both p q) m m' ts) → Goes ms vars pc ls keep (point ks p m m (item q m pc ∷ ts))
   unfolding pattern_words variables_in binding op_of first_under from_by slot_by behind_by item_words others
   keep_goes {ks} {p} {q} {m} {ts} (at_tag i us a ps e v) =
       let r = e ∙ split_lines ms i us pc (pos 8) (tag_of m) 14 (matcher_tag m a) refl refl refl p q ts in
       let u = ap variables_in r in
       record { first = _; others = _; lines = r; means = λ to y. means_keep refl; stands = at_tag {pc = suc pc} {ks = ks} {p = p} i (waits i pc 0 ∷ us) a (parts {n = 0} {p = q} a (omega arith) ps) refl (omega arith) }
 
-  choice_goes : {ks : List Matcher} {p q : Pattern} {m : Matcher} {ts : List Item} {ls : List Line}
-      → Stands ms vars pc ls (point ks (either p q) m m ts) → (t : ℕ) → Goes ms vars pc ls (choice t) (point ks p m m (or_else q m ∷ ts))
+  choice_goes : {ks : List Matcher} {p q : Pattern} {m m' : Matcher} {ts : List Item} {ls : List Line}
+      → Stands ms vars pc ls (point ks (either p q) m m' ts) → (t : ℕ) → Goes ms vars pc ls (choice t) (point ks p m m (or_else q m ∷ ts))
   unfolding pattern_words variables_in binding op_of first_under from_by slot_by behind_by item_words Leads
   choice_goes {ks} {p} {q} {m} {ts} (at_tag i us a ps e v) t =
       let r = e ∙ split_lines ms i us pc (pos 9) (tag_of m) 15 (matcher_tag m a) refl refl refl p q ts in
       let u = ap variables_in r in
       record { first = _; others = _; lines = r; means = λ to y. rw y (means_choice refl); stands = at_tag {pc = suc pc} {ks = ks} {p = p} i (waits i (slot_of us) 3 ∷ us) a (parts_else {q = q} a (sym (slot_from ps)) ps) refl (omega arith) }
 
-  deny_goes : {ks : List Matcher} {p : Pattern} {m : Matcher} {ts : List Item} {ls : List Line}
-      → Stands ms vars pc ls (point ks (never p) m m ts) → (t : ℕ) → Goes ms vars pc ls (deny (from ts) t) (point ks p m m (stop pc ∷ ts))
+  deny_goes : {ks : List Matcher} {p : Pattern} {m m' : Matcher} {ts : List Item} {ls : List Line}
+      → Stands ms vars pc ls (point ks (never p) m m' ts) → (t : ℕ) → Goes ms vars pc ls (deny (from ts) t) (point ks p m m (stop pc ∷ ts))
   unfolding pattern_words variables_in binding op_of first_under from_by slot_by behind_by item_words Leads
   deny_goes {ks} {p} {m} {ts} (at_tag i us a ps e v) t =
       let r = e ∙ lines_split ms i (pos 10) (tag_of m) 16 (matcher_tag m a) refl refl us pc (pattern_words p ++ item_words ts)
