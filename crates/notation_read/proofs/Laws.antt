@@ -1,5 +1,5 @@
 -- Reading, as the code asks. Assumes nothing.
-use mathlib.Core.Path.{◌≡◌, refl, sym, ◌∙◌, ap}
+use mathlib.Core.Path.{◌≡◌, refl, sym, ◌∙◌, ap, subst}
 use mathlib.Core.Bool.{Bool, true, false, cond}
 use mathlib.Core.List.{List, [], ◌∷◌}
 use Prim.Native.Nat.{ℕ, zero, suc, ◌+◌, ◌-◌, ◌*◌, ◌^◌, ◌<◌, ◌≤◌}
@@ -312,7 +312,11 @@ module _ (text froms tos stack : List ℕ) (words₀ words : List ℤ) (at count
         ≡ cond (eqb t.kind 24) (ended text (view s stack words))
         (going (ran_from text (left - 1) t.to) t (added text t (names froms tos count)) (taken text t (names froms tos count) (view s stack words)))
     unfolding ran_from
-    turn = rw e (go left l)
+    turn = subst
+        (λ (x : Token). ran_from text left at (names froms tos count) (view s stack words)
+        ≡ cond (eqb x.kind 24) (ended text (view s stack words))
+        (going (ran_from text (left - 1) x.to) x (added text x (names froms tos count)) (taken text x (names froms tos count) (view s stack words))))
+        (sym e) (go left l)
       where
         go : (n : ℕ) → 0 < n → ran_from text n at (names froms tos count) (view s stack words)
             ≡ cond (eqb (scanned text at).kind 24) (ended text (view s stack words))
