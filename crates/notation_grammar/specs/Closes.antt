@@ -124,8 +124,10 @@ module _ (n : ℕ) (stack : List ℕ) (place m p : ℕ) (base : List ℤ) (start
       → settled stack (standing place m p base (wait k c ws ∷ gs) item start) r ≡ settled stack (standing place m p base gs (ws ++ item) (length (under base gs))) r
   unfolding settled settling Held under
   ends k c r ws gs h e =
-      rw (h.0, e, h.1, append_assoc (under base gs) ws item)
-      (settling_from stack place m p (suc (length gs)) start (length gs) (length (under base gs)) r (length gs) (length (under base gs)) (length (under base gs ++ (ws ++ item))))
+      rw (h.0, e, h.1)
+      (ap (λ (l : List ℤ). settling stack (record { place = place; top = suc (length gs); len = length l; start = start; matcher = m; pattern = p; cause = 0 }) r (length gs) (length (under base gs)))
+      (append_assoc (under base gs) ws item)
+      ∙ settling_from stack place m p (suc (length gs)) start (length gs) (length (under base gs)) r (length gs) (length (under base gs)) (length (under base gs ++ (ws ++ item))))
 
   -- From a place that is not after a matcher or a pattern nothing ends.
   pub none_ends : (gs : List Wait) → Held n stack base gs → settled stack (standing place m p base gs item start) 9 ≡ standing place m p base gs item start

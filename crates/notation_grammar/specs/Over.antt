@@ -17,7 +17,7 @@ stays n x (i ∷ is) = rw (lt-ltb n (n + 1) (omega arith))
 before : (b is : List ℤ) (w : ℤ) (j n : ℕ) → n ≡ j + length b → shifted n j w (over b is) ≡ over (w ∷ b) is
 unfolding shifted over
 before [] [] w j n e = refl
-before [] (i ∷ is) w j n e = let q : n ≡ j = omega arith in rw (q, le-ltb j j (omega arith)) (ap (λ us. w ∷ us) (stays j i is))
+before [] (i ∷ is) w j n e = let q : n ≡ j = omega arith in ap (λ k. shifted k j w (i ∷ is)) q ∙ rw (le-ltb j j (omega arith)) (ap (λ us. w ∷ us) (stays j i is))
 before (c ∷ b) [] w j n e = refl
 before (c ∷ b) (i ∷ is) w j n e = rw (le-ltb n j (omega arith)) (ap (λ us. w ∷ us) (before b is c (j + 1) n (omega arith)))
 
