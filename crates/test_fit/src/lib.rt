@@ -39,7 +39,7 @@ fn first_part(t: u32, i: usize) -> usize
 
 // A tuple of n parts under the matcher i.
 fn tuple_at(ms: &[i32], i: usize, n: u32) -> Here
-    requires* { do ⌜ i + 1 < 2 ^ 64 ⌝ }
+    requires { i + 1 < 2 ^ 64 }
     ensures { result ≡ tuple_at ms.now i n }
 {
     if width_fits(tag_at(ms, i + 1), n) {
@@ -52,7 +52,7 @@ fn tuple_at(ms: &[i32], i: usize, n: u32) -> Here
 // Whether a value of the variable v, plus c, may stand under the matcher i, where the variables to the left stand under the first `next` matchers of
 // `under`.
 fn value_fits(ms: &[i32], i: usize, under: &[usize], next: usize, v: u32, c: u32) -> bool
-    requires* { do ⌜ next ≤ length under.now ⌝ }
+    requires { next ≤ length under.now }
     ensures { result ≡ value_fits_tag ms.now i (take next under.now) v c }
 {
     let at = v as usize;
@@ -70,7 +70,7 @@ fn value_fits(ms: &[i32], i: usize, under: &[usize], next: usize, v: u32, c: u32
 
 // The tag at an index of the pattern under the matcher i.
 fn here_at(ms: &[i32], i: usize, ps: &[i32], at: usize, under: &[usize], next: usize) -> Here
-    requires* { do ⌜ (at < length ps.now) × (next ≤ length under.now) × (next ≤ 128) ⌝ }
+    requires { (at < length ps.now) × (next ≤ length under.now) × (next ≤ 128) }
     ensures { result ≡ here_at ms.now i ps.now at (take next under.now) }
 {
     let t = tag_at(ps, at);
@@ -140,7 +140,7 @@ fn here_in(
     under: &[usize],
     next: usize,
 ) -> Here
-    requires* { do ⌜ (at < length ps.now) × (next ≤ length under.now) × (next ≤ 128) ⌝ }
+    requires { (at < length ps.now) × (next ≤ length under.now) × (next ≤ 128) }
     ensures { result ≡ here_in_at firsts ms.now i ps.now at (take next under.now) }
 {
     if unlike(firsts, ms, i, tag_at(ps, at)) {
@@ -151,7 +151,7 @@ fn here_in(
 
 // k matchers, one after the other, the first at the index i, onto the stack of n, the first on top.
 fn push(ms: &[i32], stack: &mut [usize; WAITING], n: usize, k: usize, i: usize)
-    requires* { do ⌜ (n + k ≤ 386) × (length stack.old ≡ 386) ⌝ }
+    requires { (n + k ≤ 386) × (length stack.old ≡ 386) }
     ensures { stack.new ≡ pushed ms.now stack.old n k i }
 {
     let mut left = k;

@@ -10,7 +10,7 @@ use words::tag_at;
 
 // Whether words that are few are one whole pattern: so many operands of the tag before are to be skipped, so many patterns are still to come.
 fn walk(ps: &[i32]) -> Tested
-    requires* { do ⌜ length ps.now ≤ 256 ⌝ }
+    requires { length ps.now ≤ 256 }
     ensures { result ≡ reads_p 0 1 0 ps.now }
 {
     let mut skip: u32 = 0;

@@ -43,7 +43,7 @@ fn opens(k: u32, t: u32) -> bool
 
 // The first of n elements or parts under the matcher i, whose tag is k.
 fn members_of(ms: &[i32], i: usize, k: u32, n: u32) -> Members
-    requires* { do ⌜ i + 1 < 2 ^ 64 ⌝ }
+    requires { i + 1 < 2 ^ 64 }
     ensures { result ≡ members_of ms.now i k n }
 {
     if k == matcher::TUPLE {
