@@ -31,7 +31,7 @@ pub loop-i-smaller : goal.loop-i-smaller
 loop-i-smaller c = search read_rules
 
 pub loop-i-preserved : goal.loop-i-preserved
-loop-i-preserved c = (read_turn _ _ _ _ _ _ c.loop-i.invariant.0 c.loop-i-test.true _ _ c.both_halves.ensures c.both_halves.type-inv c.of_bits.ensures, search read_rules, search read_rules)
+loop-i-preserved c = (read_turn _ _ _ _ _ _ c.loop-i.invariant.0 c.loop-i-test.true _ _ c.both_halves.ensures c.both_halves.type_inv c.of_bits.ensures, search read_rules, search read_rules)
 
 pub shape_of-out : goal.shape_of-out
 shape_of-out c = search read_rules

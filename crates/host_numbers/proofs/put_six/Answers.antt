@@ -24,9 +24,4 @@ pub shape_of-out : goal.shape_of-out
 shape_of-out c = search own_rules
 
 pub returns : goal.returns
-returns c = let e = c.before.before.before.before.before.before in
-    let d = e.before.before.before.before in
-    let n = d.before.before.before.before in
-    let m = n.before.before.before.before in
-    let l = m.before.before.before.before in
-    six _ _ _ _ _ _ _ l.put-number.ensures m.put-number2.ensures n.put-number3.ensures _ _ _ _ _ _ d.put-number4.ensures e.put-number5.ensures c.put_number-6.ensures l.before.before.before.pre
+returns c = six _ _ _ _ _ _ _ c.put_number.ensures c.put_number-2.ensures c.put_number-3.ensures _ _ _ _ _ _ c.put_number-4.ensures c.put_number-5.ensures c.put_number-6.ensures c.requires

@@ -82,7 +82,7 @@ pub loop-at-smaller : goal.loop-at-smaller
 loop-at-smaller c = search own_rules
 
 pub loop-at-preserved : goal.loop-at-preserved
-loop-at-preserved c = (turn_wide _ _ _ _ _ c.loop-at.invariant.0 c.loop-at-test.true _ c.if-skip-gt0.false c.if-need-eq0.false c.tag_at.ensures _ c.row_of.ensures _ c.enum_told-in-Wide-1.is _ c.tag_at-k.ensures _ c.between.ensures c.if-not-between.false, search own_rules, search own_rules, search own_rules)
+loop-at-preserved c = (turn_wide _ _ _ _ _ c.loop-at.invariant.0 c.loop-at-test.true _ c.if-skip-gt0.false c.if-need-eq0.false c.tag_at.ensures _ c.row_of.ensures _ c.in-Wide.is _ c.tag_at-k.ensures _ c.between.ensures c.if-not-between.false-raw, search own_rules, search own_rules, search own_rules)
 
 pub overflow_add-skip : goal.overflow_add-skip
 overflow_add-skip c = search own_rules
