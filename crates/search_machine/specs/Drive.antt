@@ -11,7 +11,7 @@ use Rattle.rules.specs.Rows.{row}
 use Rattle.rules.specs.Search.{State, Run, run_in}
 use Rattle.search_machine.specs.Machine.{Machine, passing, writing, filling, step_on, once, times, answer_by, told, opened, run_steps}
 use Rattle.program_rules.specs.Points.{Instr, strip, keep, other, close, drop, bind, test, split, apart, choice, deny, cut_at, end, Point, resume}
-use Rattle.program_rules.specs.Points.{Follows, strips, drops, binds, tests, splits, aparts, keeps, chooses, denies, cuts, ends}
+use Rattle.program_rules.specs.Points.{Follows, strips, drops, binds, tests, splits, aparts, keeps, chooses, denies, cuts, elses, closes, reserves, ends, after_end_lem}
 use Rattle.search_machine.specs.Held.{Data}
 use Rattle.search_machine.specs.Engine.{Conf, exec, settle}
 use Rattle.search_machine.specs.Rep.{Bound, bound_none, bound, At, at, at_cut, done, Rep, over_all, live}
@@ -139,6 +139,10 @@ module _ (D : Data) where
     same_step c i ss o k K x cuts (at_cut a bs) r = same_pass k K o _ x r
     same_step c i ss o k K (running y) ends (done {e = e} bs) r = rw (row_ok bs) (same_row (leb (length (row D.form e)) k.left) k K (row D.form e) o ss (running y) r)
     same_step c i ss o k K stopped ends (done {e = e} bs) r = rw (row_ok bs) (same_row (leb (length (row D.form e)) k.left) k K (row D.form e) o ss stopped r)
+    same_step c i ss o k K x elses a r = elim a [ ]
+    same_step c i ss o k K x closes a r = elim a [ ]
+    same_step c i ss o k K x reserves a r = elim a [ ]
+    same_step c i ss o k K x after_end_lem a r = elim a [ ]
 
     pub same_turn : {k : Engine D} {K : Machine} → Same k K → Same (turn code k) (once D.dialect D.form K)
     unfolding turn once advance step_on

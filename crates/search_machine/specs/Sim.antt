@@ -17,7 +17,7 @@ use Rattle.rules.specs.Equality.{raised, equal_to, is_value}
 use Rattle.rules.specs.Search.{Halves, Atom, State, state, drop_if, atoms, apart as takeApart, leave_not, after_in, cons_halves_in}
 use Rattle.program_rules.specs.Points.{Kind, over, first_by, halves, branch, after_whole, Test, as_constant, as_value, as_nil, test_by, passes, Sound, after_test}
 use Rattle.program_rules.specs.Points.{Instr, split, apart, Item, item, or_else, end_or, stop, Point, point, cutting, finish, enter, from, known, within, inside, first_of, others_of, items}
-use Rattle.program_rules.specs.Points.{resume, Follows, after_loose, strips, drops, binds, tests, splits, aparts, keeps, chooses, denies, cuts, ends}
+use Rattle.program_rules.specs.Points.{resume, Follows, after_loose, strips, drops, binds, tests, splits, aparts, keeps, chooses, denies, cuts, elses, closes, reserves, ends, after_end_lem}
 use Rattle.search_machine.specs.Held.{Data, Opened, Parts}
 use Rattle.search_machine.specs.Engine.{put, Slot, Conf, Turn, on, back, check, next, pushed, opening, kept, kept_here, framed, framed_here, without, keeping, parting, exec, slot_after, top_after, chosen, resumed, choose, next_choice, settle}
 use Rattle.search_machine.specs.Rep.{Waits, waits_none, waits, waits_else, waits_end, waits_cut, Bound, bound_none, bound, At, at, at_cut, done, Chain, shut, open_at, choice_at_lem, deny_at, Rep, over_all, live, put_same, put_below, waits_agree, bound_agree, chain_agree}
@@ -254,3 +254,7 @@ module _ (D : Data) where
         (waits_agree D (omega arith) (framed_same c) ws) bs (rw put_same (framed_chain c l ch)))
     step_rep c i ss cd (cuts {j = j}) l (at_cut x bs) ch = cut_rep (without D c j) j ch refl
     step_rep c i ss cd ends l (done bs) ch = choice_rep c ch
+    step_rep c i ss cd elses l a ch = elim a [ ]
+    step_rep c i ss cd closes l a ch = elim a [ ]
+    step_rep c i ss cd reserves l a ch = elim a [ ]
+    step_rep c i ss cd after_end_lem l a ch = elim a [ ]
