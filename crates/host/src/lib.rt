@@ -1,6 +1,6 @@
 // Document 01, section 1: the border to C. Words cross as slices of i32; the answer's numbers go to a lent slice of bytes.
-mod books;
-mod rooms;
+pub mod books;
+pub mod rooms;
 
 ghost use Rattle.std.specs.Prelude.{◌≡◌, ◌≤◌, length, ◌∷◌, []};
 ghost use Rattle.host_numbers.specs.Numbers.{bytes_of, over};

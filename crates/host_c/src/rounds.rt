@@ -1,0 +1,24 @@
+// Match by rounds at the border to C.
+ghost use Rattle.std.specs.Prelude.{◌≡◌, length};
+ghost use Rattle.host.specs.Border.{called};
+ghost use Rattle.host_rounds.specs.Rounds.{rounds_called};
+
+// Match in the other search order, with its rows in the form, and in the dialect, that the caller picks; what is left in the table is of no account.
+#[unsafe(no_mangle)]
+pub extern "C" fn lozhbinor_rounds(
+    form: u32,
+    dialect: u32,
+    matcher: &[i32],
+    pattern: &[i32],
+    target: &[i32],
+    budget: u32,
+    table: &mut [i32],
+    room: &mut [i32],
+    numbers: &mut [u8],
+) -> u32
+    ensures { called result room.new numbers.new ≡ rounds_called form dialect matcher.now pattern.now target.now budget (length table.old) room.old numbers.old }
+{
+    host_rounds::lozhbinor_rounds(
+        form, dialect, matcher, pattern, target, budget, table, room, numbers,
+    )
+}
