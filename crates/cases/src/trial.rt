@@ -1,9 +1,19 @@
 // Cases of the trial program: its input, a line `=`, what it must print, a line `--`. A line `=!` says that the newline before it is no part of the input.
-ghost use Rattle.std.specs.Prelude.{◌≤◌, length};
+ghost use Rattle.std.specs.Prelude.{◌≡◌, ◌≤◌, length};
 
 use crate::file::{Tally, load, tell};
 use crate::lines::{next_line, seek, stands_at};
+use std::fs::Files;
 use text::{Printed, TEXT_BYTES};
+
+// The bytes of a case file, at most.
+const FILE_BYTES: usize = 65536;
+
+fn blank() -> [u8; FILE_BYTES]
+    ensures { 65536 ≡ length result }
+{
+    [0; FILE_BYTES]
+}
 
 // Writes empty lines from an index on, as far as there is room; gives their end.
 fn pad(out: &mut [u8], at: usize, lines: u64) -> usize
@@ -43,18 +53,19 @@ fn same(a: &[u8], b: &[u8]) -> bool {
 }
 
 // One case.
-fn one(path: &[u8], input: &[u8], wanted: &[u8], tally: Tally) -> Tally {
+fn one(rt: &impl Print, path: &[u8], input: &[u8], wanted: &[u8], tally: Tally) -> Tally {
     let mut out = [0u8; TEXT_BYTES];
     let n = printed(input, &mut out);
     let good = same(wanted, &out[..n]);
     if !good {
-        tell(path, input, wanted, &out[..n]);
+        tell(rt, path, input, wanted, &out[..n]);
     }
     tally.seen(good)
 }
 
 // The case with its input at one part of a file and what it must print at another.
 fn case(
+    rt: &impl Print,
     path: &[u8],
     s: &[u8],
     at: usize,
@@ -81,7 +92,7 @@ fn case(
     if s.len() < to {
         return tally.seen(false);
     }
-    one(path, &s[at..end], &s[from..to], tally)
+    one(rt, path, &s[at..end], &s[from..to], tally)
 }
 
 fn least(a: usize, b: usize) -> usize {
@@ -89,7 +100,7 @@ fn least(a: usize, b: usize) -> usize {
 }
 
 // A file has no more cases than bytes.
-fn play_all(path: &[u8], s: &[u8], start: Tally) -> Tally {
+fn play_all(rt: &impl Print, path: &[u8], s: &[u8], start: Tally) -> Tally {
     let mut tally = start;
     let mut at: usize = 0;
     let mut left = s.len();
@@ -100,15 +111,15 @@ fn play_all(path: &[u8], s: &[u8], start: Tally) -> Tally {
         let middle = least(seek(s, at, b"=\n"), seek(s, at, b"=!\n"));
         let from = next_line(s, middle);
         let to = seek(s, from, b"--\n");
-        tally = case(path, s, at, middle, from, to, tally);
+        tally = case(rt, path, s, at, middle, from, to, tally);
         at = next_line(s, to);
         left -= 1;
     }
     tally
 }
 
-pub(crate) fn play(path: &[u8], tally: Tally) -> Tally {
-    let mut file = io::large_buffer();
-    let n = load(path, &mut file);
-    play_all(path, &file[..n], tally)
+pub(crate) fn play(rt: &(impl Files + Print + Eprint), path: &[u8], tally: Tally) -> Tally {
+    let mut file = blank();
+    let n = load(rt, path, &mut file);
+    play_all(rt, path, &file[..n], tally)
 }

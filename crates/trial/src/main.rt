@@ -1,9 +1,11 @@
 // The trial program of document 01, section 9: asks match what standard input asks, and prints the answer.
+#![tactic(auto)]
+
 ghost use Rattle.std.specs.Prelude.{◌≡◌, ◌<◌, ◌≤◌, length, take};
 ghost use Rattle.text.specs.Printed.{printed};
 ghost use Rattle.trial.specs.Meaning.{Told, Whole};
 
-use libc::{STDERR_FILENO, STDIN_FILENO, STDOUT_FILENO};
+use streams::read_full;
 use text::{Printed, TEXT_BYTES};
 use text_ask::INPUT_BYTES;
 
@@ -26,49 +28,49 @@ fn newlines() -> [u8; LINES]
 }
 
 // Writes the first bytes of a slice and then empty lines.
-fn send(out: &[u8], at: usize, lines: u64) -> Sent
+fn send(rt: &impl Print, out: &[u8], at: usize, lines: u64) -> Sent
     requires { at ≤ length out.now }
     ensures { Told at lines result }
 {
-    if !io::write_all(STDOUT_FILENO, &out[..at]) {
+    if rt.write_all(&out[..at]).is_err() {
         return Sent::Cut;
     }
     let full = newlines();
     let mut sent: u64 = 0;
     while FULL < lines - sent {
-        if !io::write_all(STDOUT_FILENO, &full) {
+        if rt.write_all(&full).is_err() {
             return Sent::Cut;
         }
         sent += FULL;
     }
     let n = (lines - sent) as usize;
-    if !io::write_all(STDOUT_FILENO, &full[..n]) {
+    if rt.write_all(&full[..n]).is_err() {
         return Sent::Cut;
     }
     Sent::All(at, sent + n as u64)
 }
 
 // Answers the first n bytes of what was read. The slice they were read into has one byte more than the program reads, so that longer input is seen.
-fn respond(read: &[u8], n: usize, out: &mut [u8]) -> Sent
+fn respond(rt: &impl Print, read: &[u8], n: usize, out: &mut [u8]) -> Sent
     requires in_bounds { 32768 < length read.now }
     requires n_in_bounds { n ≤ length read.now }
     requires in_bounds_2 { 98304 ≤ length out.old }
     ensures { Whole (printed (take n read.now)) out.new result }
 {
     match text::answer(&read[..n], out) {
-        Printed::Text(at, lines) => send(out, at, lines),
+        Printed::Text(at, lines) => send(rt, out, at, lines),
         Printed::Short => Sent::Cut,
     }
 }
 
-fn main() {
+fn main(rt: HostRuntime) {
     let mut input = [0u8; INPUT_BYTES + 1];
-    let n = io::read_full(STDIN_FILENO, &mut input);
+    let n = read_full(&mut rt.stdin(), &mut input);
     let mut out = [0u8; TEXT_BYTES];
-    match respond(&input, n, &mut out) {
+    match respond(&rt, &input, n, &mut out) {
         Sent::All(_, _) => {}
         Sent::Cut => {
-            io::write_all(STDERR_FILENO, b"trial: the output could not be written\n");
+            let _ = rt.eprintln("trial: the output could not be written");
         }
     }
 }

@@ -11,6 +11,7 @@ use book::withdrawal::{Changed, withdraw};
 use book_blocks::BLOCK;
 use book_blocks::form::{FORM, GOOD, LONGEST, NO_BADGE};
 use book_blocks::writing::Named;
+use std::fs::File;
 use tests::{Judgement, rule_refused_in};
 use words::casts::{half_index, wide, wide_index};
 use words::dialect::FIRST_PLACES;
@@ -54,10 +55,11 @@ pub(crate) fn is_change(asked: Request) -> bool {
 }
 
 // What a block says of its rule, whose words stand together, the matcher's first.
-fn print_words(s: Shown, words: &[i32]) {
+fn print_words(rt: &impl Print, s: Shown, words: &[i32]) {
     let m = least(s.matcher, words.len());
     let n = m + least(s.pattern, words.len() - m);
     print_rule(
+        rt,
         wide_index(half_index(s.version)),
         wide_index(half_index(s.badge)),
         wide(s.dialect),
@@ -67,32 +69,33 @@ fn print_words(s: Shown, words: &[i32]) {
 }
 
 // The rule of a block, unless it is withdrawn.
-fn print_block(book: &[u8], k: usize) {
+fn print_block(rt: &impl Print, book: &[u8], k: usize) {
     let mut words = [0i32; LONGEST];
     let s = show(book, k, &mut words);
     if s.badge != NO_BADGE {
-        print_words(s, &words);
+        print_words(rt, s, &words);
     }
 }
 
-fn list(book: &[u8], used: usize) {
-    tell(b"done", 0, 0);
+fn list(rt: &impl Print, book: &[u8], used: usize) {
+    tell(rt, b"done", 0, 0);
     let mut k: usize = 0;
     while k < used {
-        print_block(book, k);
+        print_block(rt, book, k);
         k += 1;
     }
 }
 
-fn show_badge(book: &[u8], used: usize, badge: u16) {
+fn show_badge(rt: &impl Print, book: &[u8], used: usize, badge: u16) {
     let mut words = [0i32; LONGEST];
     let r = read(book, used, badge, &mut words);
     if r.found == 0 {
-        tell(b"none", 0, 0);
+        tell(rt, b"none", 0, 0);
         return;
     }
-    tell(b"done", 0, 0);
+    tell(rt, b"done", 0, 0);
     print_words(
+        rt,
         Shown {
             answer: GOOD,
             badge: badge,
@@ -105,37 +108,38 @@ fn show_badge(book: &[u8], used: usize, badge: u16) {
     );
 }
 
-fn check(book: &[u8], used: usize) {
+fn check(rt: &impl Print, book: &[u8], used: usize) {
     let t = total(book, used);
-    tell(b"good", wide_index(t.number), wide_index(used));
+    tell(rt, b"good", wide_index(t.number), wide_index(used));
 }
 
 // The block that was changed goes to the file, which had so many bytes.
-fn keep(fd: i32, book: &[u8], c: Changed, had: usize) {
-    if store(fd, book, c.block, had) {
-        tell(b"done", wide_index(c.block), 0);
+fn keep(rt: &impl Print, file: &File, book: &[u8], c: Changed, had: usize) {
+    if store(file, book, c.block, had) {
+        tell(rt, b"done", wide_index(c.block), 0);
     } else {
-        tell(b"unwritten", wide_index(c.block), 0);
+        tell(rt, b"unwritten", wide_index(c.block), 0);
     }
 }
 
 // A refusal of an add: with 15, review's answer and place where the rule is at fault in its dialect.
-fn add_refused(answer: u32, dialect: u32, matcher: &[i32], pattern: &[i32]) {
+fn add_refused(rt: &impl Print, answer: u32, dialect: u32, matcher: &[i32], pattern: &[i32]) {
     if answer == FORM {
         if let Judgement::Refused(a, i) = rule_refused_in(
             dialect == FIRST_PLACES,
             matcher,
             pattern,
         ) {
-            tell(b"rule", wide(a), wide_index(i));
+            tell(rt, b"rule", wide(a), wide_index(i));
             return;
         }
     }
-    tell(b"refused", wide(answer), 0);
+    tell(rt, b"refused", wide(answer), 0);
 }
 
 fn add_rule(
-    fd: i32,
+    rt: &impl Print,
+    file: &File,
     book: &mut [u8],
     had: usize,
     asked: Request,
@@ -149,36 +153,45 @@ fn add_rule(
     };
     let c = add(book, had / BLOCK, e, matcher, pattern);
     if c.answer == GOOD {
-        keep(fd, book, c, had);
+        keep(rt, file, book, c, had);
     } else {
-        add_refused(c.answer, asked.dialect, matcher, pattern);
+        add_refused(rt, c.answer, asked.dialect, matcher, pattern);
     }
 }
 
-fn withdraw_rule(fd: i32, book: &mut [u8], had: usize, badge: u16) {
+fn withdraw_rule(rt: &impl Print, file: &File, book: &mut [u8], had: usize, badge: u16) {
     let c = withdraw(book, had / BLOCK, badge);
     if c.answer == GOOD {
-        keep(fd, book, c, had);
+        keep(rt, file, book, c, had);
     } else {
-        tell(b"refused", wide(c.answer), 0);
+        tell(rt, b"refused", wide(c.answer), 0);
     }
 }
 
 // What is asked of a book that was tested.
-fn obey(fd: i32, book: &mut [u8], had: usize, asked: Request, matcher: &[i32], pattern: &[i32]) {
+fn obey(
+    rt: &impl Print,
+    file: &File,
+    book: &mut [u8],
+    had: usize,
+    asked: Request,
+    matcher: &[i32],
+    pattern: &[i32],
+) {
     let command = asked.command;
     match command {
-        LIST => list(book, had / BLOCK),
-        ADD => add_rule(fd, book, had, asked, matcher, pattern),
-        WITHDRAW => withdraw_rule(fd, book, had, asked.badge),
-        CHECK => check(book, had / BLOCK),
-        _ => show_badge(book, had / BLOCK, asked.badge),
+        LIST => list(rt, book, had / BLOCK),
+        ADD => add_rule(rt, file, book, had, asked, matcher, pattern),
+        WITHDRAW => withdraw_rule(rt, file, book, had, asked.badge),
+        CHECK => check(rt, book, had / BLOCK),
+        _ => show_badge(rt, book, had / BLOCK, asked.badge),
     }
 }
 
 // A book that is at fault is left alone, whatever is asked.
 pub(crate) fn answer(
-    fd: i32,
+    rt: &impl Print,
+    file: &File,
     book: &mut [u8],
     had: usize,
     asked: Request,
@@ -187,10 +200,15 @@ pub(crate) fn answer(
 ) {
     let t = test(book, had / BLOCK);
     if t.answer != GOOD {
-        tell(b"block", wide(t.answer), wide_index(t.block));
+        tell(rt, b"block", wide(t.answer), wide_index(t.block));
     } else if had % BLOCK != 0 {
-        tell(b"part", wide_index(had / BLOCK), wide_index(had % BLOCK));
+        tell(
+            rt,
+            b"part",
+            wide_index(had / BLOCK),
+            wide_index(had % BLOCK),
+        );
     } else {
-        obey(fd, book, had, asked, matcher, pattern);
+        obey(rt, file, book, had, asked, matcher, pattern);
     }
 }

@@ -1,7 +1,7 @@
 // A line of text, put together before it is written at once.
 ghost use Rattle.std.specs.Prelude.{◌≤◌};
 
-use libc::STDOUT_FILENO;
+use std::io::{Cursor, Write};
 use words::casts::wide;
 use words::{MINUS_ONE, NEGATIVE, bits};
 
@@ -36,8 +36,10 @@ fn put_text(out: &mut [u8; LINE], at: usize, text: &[u8]) -> usize
 fn put_digits(out: &mut [u8; LINE], at: usize, n: u64) -> usize
     ensures { result ≤ 4096 }
 {
-    let mut digits = [0u8; DIGITS];
-    let k = io::decimal(n, &mut digits);
+    let mut to = Cursor::new([0u8; DIGITS]);
+    let _ = write!(to, "{n}");
+    let k = (to.position() as usize).min(DIGITS);
+    let digits = to.into_inner();
     put_text(out, at, &digits[..k])
 }
 
@@ -73,15 +75,22 @@ fn put_words(out: &mut [u8; LINE], at: usize, words: &[i32]) -> usize
     if LINE < end { LINE } else { end }
 }
 
-fn send(out: &[u8; LINE], n: usize) {
+fn send(rt: &impl Print, out: &[u8; LINE], n: usize) {
     let all: &[u8] = out;
     if n <= all.len() {
-        io::write_all(STDOUT_FILENO, &all[..n]);
+        let _ = rt.write_all(&all[..n]);
     }
 }
 
 // A rule as `add` takes it.
-pub(crate) fn print_rule(version: u64, badge: u64, dialect: u64, matcher: &[i32], pattern: &[i32]) {
+pub(crate) fn print_rule(
+    rt: &impl Print,
+    version: u64,
+    badge: u64,
+    dialect: u64,
+    matcher: &[i32],
+    pattern: &[i32],
+) {
     let mut out = [0u8; LINE];
     let a = put_digits(&mut out, 0, version);
     let b = put_number(&mut out, a, badge);
@@ -91,15 +100,15 @@ pub(crate) fn print_rule(version: u64, badge: u64, dialect: u64, matcher: &[i32]
     let f = put_text(&mut out, e, b" /");
     let g = put_words(&mut out, f, pattern);
     let h = put_text(&mut out, g, b"\n");
-    send(&out, h);
+    send(rt, &out, h);
 }
 
 // The first line: what became of what was asked.
-pub(crate) fn tell(word: &[u8], a: u64, b: u64) {
+pub(crate) fn tell(rt: &impl Print, word: &[u8], a: u64, b: u64) {
     let mut out = [0u8; LINE];
     let i = put_text(&mut out, 0, word);
     let j = put_number(&mut out, i, a);
     let k = put_number(&mut out, j, b);
     let l = put_text(&mut out, k, b"\n");
-    send(&out, l);
+    send(rt, &out, l);
 }

@@ -1,0 +1,6 @@
+-- The next line starts further on.
+use Rattle.std.proofs.Common.{◌-◌, length}
+use Rattle.cases.proofs.lines.seek.Given as goal
+
+abbrev pub decreases-loop-at : goal.decreases-loop-at
+decreases-loop-at l = length l.s - l.at
