@@ -34,7 +34,7 @@ pub struct Token {
 }
 
 // What was begun: one of the states below, the token of its first character, the number so far, where it begins, and its second character.
-#[derive(Drop)]
+#[derive(Clone, Copy)]
 pub struct Begun {
     pub state: u32,
     pub kind: u32,

@@ -10,7 +10,7 @@ use words::{bits, of_bits};
 
 // Where the automaton stands: the place; how many wait; the words so far, and where those of what was read last begin; where the matcher's and the
 // pattern's begin; and why the text is refused, 0 where it is not.
-#[derive(Drop)]
+#[derive(Clone, Copy)]
 pub struct Stand {
     pub place: u32,
     pub top: usize,
