@@ -159,6 +159,7 @@ module _ (D : Data) (code : ℕ → Instr) (points : ℕ → Point) where
         go s (chooses p q₁ r pt pt₂) (at x ws bs) q = let z : ◌≡◌ {A = ℕ} 0 1 = cc in absurd (omega arith)
         go s cuts (at_cut x bs) q = let z : ◌≡◌ {A = ℕ} 0 1 = cc in absurd (omega arith)
         go s ends (done bs) q = let z : ◌≡◌ {A = ℕ} 0 1 = cc in absurd (omega arith)
+        go s w a q = elim a [ ]
 
     -- A not's state has an atom.
     pub not_row : {c : Conf D} {g : Bool} {e : Bindings} → Rep D code points (some c) (state g [] e ∷ []) → (n to : ℕ) → code c.pc ≡ deny n to → ⊥
@@ -166,6 +167,7 @@ module _ (D : Data) (code : ℕ → Instr) (points : ℕ → Point) where
       where
         go : {i : Instr} {P : Point} {f : ℕ → Slot D} {b : ℕ → D.Held} {pc : ℕ} {h : D.Held} → Follows points c.pc i P → At D f b pc h P (state g [] e) → i ≡ deny n to → ⊥
         go ends (done bs) q = let z : ◌≡◌ {A = ℕ} 0 1 = cc in omega arith
+        go w a q = elim a [ ]
 
   -- No state inside has a row.
   pub no_row : {c : Conf D} {g : Bool} {e : Bindings} {ss : List State} → Rep D code points (some c) (state g [] e ∷ ss) → searching (state g [] e ∷ ss) ≡ true → ⊥
