@@ -251,6 +251,7 @@ module _ (most pc : ℕ) where
   costs e t l w x n (closes {ms = ms} {ts = ts}) = let a = count_beside most ms ts (l + e) w in omega arith
   costs e t l w x n ends = let z : ◌≡◌ {A = ℕ} 0 1 = cc in absurd (omega arith)
   costs e t l w x n after_end_lem = let z : ◌≡◌ {A = ℕ} 0 1 = cc in absurd (omega arith)
+  costs e t l w x n reserves = elim n [ ]
 
   pub reserves_after : {points : ℕ → Point} {i : Instr} {P : Point} → eqb (number_by i) 0 ≡ false → Reserves 0 P → Follows points pc i P
       → Reserves (reserved_after (number_by i)) (follow_of pc P)
@@ -274,6 +275,7 @@ module _ (most pc : ℕ) where
   reserves_after x n (closes {ms = ms} {ts = ts}) = none_beside ms ts
   reserves_after x n ends = let z : ◌≡◌ {A = ℕ} 0 1 = cc in absurd (omega arith)
   reserves_after x n after_end_lem = let z : ◌≡◌ {A = ℕ} 0 1 = cc in absurd (omega arith)
+  reserves_after x n reserves = elim n [ ]
 
   -- A place that is reserved adds nothing.
   pub passed : {points : ℕ → Point} {i : Instr} {P : Point} {n : ℕ} → Reserves (suc n) P → Follows points pc i P

@@ -149,6 +149,7 @@ module _ (most pc : ℕ) where
   keeps_product e t l w x n (closes {ms = ms} {ts = ts}) = sym (product_beside most ms ts (l + e) w)
   keeps_product e t l w x n ends = let z : ◌≡◌ {A = ℕ} 0 1 = cc in absurd (omega arith)
   keeps_product e t l w x n after_end_lem = let z : ◌≡◌ {A = ℕ} 0 1 = cc in absurd (omega arith)
+  keeps_product e t l w x n reserves = elim n [ ]
 
   -- A place that is reserved changes nothing.
   pub passed_product : {points : ℕ → Point} {i : Instr} {P : Point} {n : ℕ} → Reserves (suc n) P → Follows points pc i P
