@@ -24,7 +24,7 @@ const NO_NUMBER: u32 = 32;
 const LARGEST: u64 = 2147483648;
 
 // A token: its number, what it counts where it is a number, and where it begins, where its name begins behind a `$`, and where it ends.
-#[derive(Drop)]
+#[derive(Clone, Copy)]
 pub struct Token {
     pub kind: u32,
     pub value: u64,

@@ -1,0 +1,27 @@
+use Rattle.notation_write.proofs.Laws.{rule_put, rule_rules}
+use Rattle.notation_write.proofs.write_rule.Goals as goal
+
+pub put_units-p-requires : goal.put_units-p-requires
+put_units-p-requires c = search rule_rules
+
+pub put-q-requires : goal.put-q-requires
+put-q-requires c = search rule_rules
+
+pub write-m-requires : goal.write-m-requires
+write-m-requires c = search rule_rules
+
+pub put-r-requires : goal.put-r-requires
+put-r-requires c = search rule_rules
+
+pub write-s-requires : goal.write-s-requires
+write-s-requires c = search rule_rules
+
+pub shape_of-out : goal.shape_of-out
+shape_of-out c = search rule_rules
+
+pub returns : goal.returns
+returns c = let y = c.before.before.before.before.before.before in
+    let x = y.before.before.before.before in
+    let w = x.before.before.before.before in
+    let v = w.before.before.before.before in
+    rule_put _ _ _ _ _ _ _ _ _ _ _ v.put-units.ensures w.put.ensures x.write.ensures.0 y.put2.ensures c.write-s.ensures.0

@@ -1,0 +1,12 @@
+use Prim.Native.Nat.{◌≤◌, ◌+◌, ◌-◌}
+use mathlib.Core.Path.{◌≡◌}
+use Rattle.tables.specs.Place.{sections_of, Whole}
+use Rattle.value_places.specs.Places.{Standing, hops}
+use Rattle.value_places.specs.Tables.{Filled}
+use Rattle.value_places.proofs.places.fill.Given as goal
+
+abbrev pub invariant-loop-left : goal.invariant-loop-left
+invariant-loop-left l = (l.from ≤ l.o) × (l.o + l.left ≡ l.from + l.n) × Standing l.s l.left l.e × (l.e ≡ hops l.s (l.o - l.from) l.at) × Whole (sections_of l.places) × Filled l.s l.at (l.o - l.from) l.from (sections_of l.initial.places) (sections_of l.places)
+
+abbrev pub decreases-loop-left : goal.decreases-loop-left
+decreases-loop-left l = l.left
