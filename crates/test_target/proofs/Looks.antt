@@ -15,7 +15,7 @@ use lib.IntN.{ℤ, negsuc}
 use Rattle.rules.specs.Forms.{Value}
 use Rattle.rules.specs.Reading.{Verdict, ok, fault, Got, entry, at_most64, width, target}
 use Rattle.rules.specs.Causes.{Cause, unknown_tag, bad_count, too_deep, cut_short, bad_width, cause_number, told}
-use Rattle.rules.specs.Causes.{Look, wrong, ◌thence◌, in_turn, see, Kind, integer, kinds, any_word, innermost, opened, value}
+use Rattle.rules.specs.Causes.{Look, well, wrong, ◌thence◌, in_turn, see, Kind, integer, kinds, any_word, innermost, opened, value}
 use Rattle.forms.specs.Together.{Agree, target_agrees, value_well}
 use Rattle.words.specs.Words.{tag_at}
 use Rattle.words.proofs.Signed as signed
@@ -195,6 +195,7 @@ look_wrong d at ws i e = go (target d at ws) e (value d ws) (target_agrees d at 
     go : (x : Verdict (Got Value)) → x ≡ fault i → (y : Look) → Agree d at ws x y → (c : Cause) × (y ≡ wrong c)
     go (ok g) q y a = let z : ◌≡◌ {A = ℕ} 0 1 = cc in absurd (omega arith)
     go (fault j) q (wrong c) a = (c, refl)
+    go (fault j) q (well rest) a = elim a [ ]
 
 module _ (s : List ℤ) (d : ℕ) where
   abbrev looks : ℕ → List ℤ → Look

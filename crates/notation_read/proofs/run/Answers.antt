@@ -36,14 +36,10 @@ pub ran_to-requires-then-s-gt0 : goal.ran_to-requires-then-s-gt0
 ran_to-requires-then-s-gt0 c = search run_rules
 
 pub shape_of-words-then-s-gt0 : goal.shape_of-words-then-s-gt0
-shape_of-words-then-s-gt0 c = let l = c.before.before.before.before.before.before.before.before.before.before.before.before.before.before.before.before.before in
-    run_kept _ _ _ _ _ _ _ _ c.step-s.ensures ∙ l.loop.invariant.1
+shape_of-words-then-s-gt0 c = run_kept _ _ _ _ _ _ _ _ c.step-s.ensures ∙ c.loop-left.invariant.1
 
 pub returns-then-s-gt0 : goal.returns-then-s-gt0
-returns-then-s-gt0 c = let r = c.before.before.before.before.before.before.before.before.before.before in
-    let e = r.before.before.before in
-    let l = e.before.before.before.before in
-    run_refused _ _ _ _ _ _ _ _ _ _ l.loop.invariant.0 _ e.before.before.scan.ensures e.before.before.before.loop-test.true _ _ _ _ e.if1.false r.resolve.ensures c.step-s.ensures _ c.if-s-gt0.true c.ran_to-then-s-gt0.ensures
+returns-then-s-gt0 c = run_refused _ _ _ _ _ _ _ _ _ _ c.loop-left.invariant.0 _ c.scan-t.ensures c.loop-left-test.true _ _ _ _ c.if-t-eq-END.false c.resolve-n.ensures c.step-s.ensures _ c.if-s-gt0.true c.ran_to-then-s-gt0.ensures
 
 pub overflow_sub-left : goal.overflow_sub-left
 overflow_sub-left c = search run_rules
@@ -52,16 +48,12 @@ pub loop-left-smaller : goal.loop-left-smaller
 loop-left-smaller c = search run_rules
 
 pub loop-left-preserved : goal.loop-left-preserved
-loop-left-preserved c = let a = c.before.before.before.before.before.before in
-    let r = a.before.before.before in
-    let e = r.before.before.before in
-    let l = e.before.before.before.before in
-    let t = e.before.before.before.loop-test.true in (
-      run_next _ _ _ _ _ _ _ _ _ _ l.loop.invariant.0 _ e.before.before.scan.ensures t _ _ _ _ e.if1.false r.resolve.ensures c.step-s.ensures _ _ _ c.if-s-gt0.false a.add.ensures,
-      run_kept _ _ _ _ _ _ _ _ c.step-s.ensures ∙ l.loop.invariant.1,
-      run_len _ _ _ _ _ _ _ _ _ c.step-s.ensures t l.loop.invariant.2,
-      run_top _ _ _ _ _ _ _ _ _ c.step-s.ensures t l.loop.invariant.3,
-    )
+loop-left-preserved c = let t = c.loop-left-test.true in (
+  run_next _ _ _ _ _ _ _ _ _ _ c.loop-left.invariant.0 _ c.scan-t.ensures t _ _ _ _ c.if-t-eq-END.false c.resolve-n.ensures c.step-s.ensures _ _ _ c.if-s-gt0.false c.add-count.ensures,
+  run_kept _ _ _ _ _ _ _ _ c.step-s.ensures ∙ c.loop-left.invariant.1,
+  run_len _ _ _ _ _ _ _ _ _ c.step-s.ensures t c.loop-left.invariant.2,
+  run_top _ _ _ _ _ _ _ _ _ c.step-s.ensures t c.loop-left.invariant.3,
+)
 
 pub finish-requires-2 : goal.finish-requires-2
 finish-requires-2 c = search run_rules

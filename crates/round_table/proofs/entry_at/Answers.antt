@@ -26,4 +26,4 @@ pub joined-requires : goal.joined-requires
 joined-requires c = search own_rules
 
 pub returns : goal.returns
-returns c = (search own_rules, search own_rules)
+returns c = record { fact_1 = search own_rules; fact_2 = search own_rules }

@@ -103,24 +103,24 @@ waits-requires-in-Wide c = search rules
 
 pub returns-in-Misfit : goal.returns-in-Misfit
 unfolding waits_after stack_after under_after
-returns-in-Misfit c = let e = c.in-Misfit.is in (rw e c.waits.ensures, (rw e, rw e))
+returns-in-Misfit c = let e = c.in-Misfit.is in record { fact_1 = rw e c.waits.ensures; fact_2 = (rw e, rw e) }
 
 pub returns-in-Leaf : goal.returns-in-Leaf
 unfolding waits_after stack_after under_after
-returns-in-Leaf c = let e = c.in-Leaf.is in (rw e c.waits-in-Leaf.ensures, (rw e, rw e))
+returns-in-Leaf c = let e = c.in-Leaf.is in record { fact_1 = rw e c.waits-in-Leaf.ensures; fact_2 = (rw e, rw e) }
 
 pub returns-in-Bind : goal.returns-in-Bind
 unfolding waits_after stack_after under_after
-returns-in-Bind c = let e = c.in-Bind.is in (rw e c.waits-in-Bind.ensures, (rw e, rw e))
+returns-in-Bind c = let e = c.in-Bind.is in record { fact_1 = rw e c.waits-in-Bind.ensures; fact_2 = (rw e, rw e) }
 
 pub returns-in-One : goal.returns-in-One
 unfolding waits_after stack_after under_after
-returns-in-One c = let e = c.in-One.is in (rw e c.waits-in-One.ensures, (rw e, rw e))
+returns-in-One c = let e = c.in-One.is in record { fact_1 = rw e c.waits-in-One.ensures; fact_2 = (rw e, rw e) }
 
 pub returns-in-Parts : goal.returns-in-Parts
 unfolding waits_after stack_after under_after
-returns-in-Parts c = let e = c.in-Parts.is in (rw e c.waits-in-Parts.ensures, (rw e, rw e))
+returns-in-Parts c = let e = c.in-Parts.is in record { fact_1 = rw e c.waits-in-Parts.ensures; fact_2 = (rw e, rw e) }
 
 pub returns-in-Wide : goal.returns-in-Wide
 unfolding waits_after stack_after under_after
-returns-in-Wide c = let e = c.in-Wide.is in (rw e c.waits-in-Wide.ensures, (rw e c.push.ensures, rw e))
+returns-in-Wide c = let e = c.in-Wide.is in record { fact_1 = rw e c.waits-in-Wide.ensures; fact_2 = (rw e c.push.ensures, rw e) }

@@ -1,13 +1,15 @@
 use mathlib.Core.Path.{◌≡◌}
-use Prim.Native.Nat.{ℕ, ◌≤◌}
+use Prim.Native.Nat.{ℕ, ◌<◌, ◌≤◌}
 use native.Mathlib.Omega.{arith}
 use borrow.Author.Tests.{eq-eqb, ne_eqb}
 use Rattle.test_variables.specs.Variables.{allowed_tag}
 use Rattle.test_variables.proofs.allowed.Goals as goal
 
-    le-zero : (n : ℕ) → n ≤ 0 → n ≡ 0
-    le-zero n h = omega arith
+pos-not-zero : (n : ℕ) → 0 < n → n ≡ 0 → ⊥
+pos-not-zero n h e = omega arith
 
+le-zero : (n : ℕ) → n ≤ 0 → n ≡ 0
+le-zero n h = omega arith
 
 pub returns-then-inside-gt0 : goal.returns-then-inside-gt0
 unfolding allowed_tag

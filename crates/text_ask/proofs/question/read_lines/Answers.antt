@@ -75,15 +75,7 @@ pub shape_of-t-in_default-bounds_of : goal.shape_of-t-in_default-bounds_of
 shape_of-t-in_default-bounds_of c = search lines_rules
 
 pub returns-in_default-bounds_of : goal.returns-in_default-bounds_of
-returns-in_default-bounds_of c = let e = c.before.before.before.before in
-    let f = e.before.before.before in
-    let g = f.before.before.before in
-    let h = g.before.before.before in
-    let i = h.before.before.before in
-    let j = i.before.before.before in (
-      no_bounds _ _ _ _ _ _ _ _ j.words_of.ensures.words _ i.matcher.given.1 _ h.words-of2.ensures.words _ g.pattern.given.1 _ f.words-of3.ensures.words _ e.target.given.1 _ c.bounds_of.ensures.result_value c.in_default-bounds_of.is,
-      search lines_rules,
-    )
+returns-in_default-bounds_of c = record { t_after = no_bounds _ _ _ _ _ _ _ _ c.words_of.ensures.words _ c.in-Words.is _ c.words_of-2.ensures.words _ c.in-Words-words_of.is _ c.words_of-3.ensures.words _ c.in-Words-words_of-2.is _ c.bounds_of.ensures.result_value c.in_default-bounds_of.is; few = search lines_rules }
 
 pub shape_of-m : goal.shape_of-m
 shape_of-m c = search lines_rules
@@ -95,12 +87,4 @@ pub shape_of-t : goal.shape_of-t
 shape_of-t c = search lines_rules
 
 pub returns : goal.returns
-returns c = let e = c.before.before.before.before.before in
-    let f = e.before.before.before in
-    let g = f.before.before.before in
-    let h = g.before.before.before in
-    let i = h.before.before.before in
-    let j = i.before.before.before in (
-      all_four _ _ _ _ _ _ _ _ j.words_of.ensures.words _ i.matcher.given.1 _ h.words-of2.ensures.words _ g.pattern.given.1 _ f.words-of3.ensures.words _ e.target.given.1 _ c.bounds_of.ensures.result_value _ _ c.in-Of.is,
-      few_all _ _ _ _ _ _ _ _ _ i.matcher.given.1 j.words_of.ensures.few g.pattern.given.1 h.words-of2.ensures.few e.target.given.1 f.words-of3.ensures.few c.in-Of.is c.bounds_of.ensures.room_few,
-    )
+returns c = record { t_after = all_four _ _ _ _ _ _ _ _ c.words_of.ensures.words _ c.in-Words.is _ c.words_of-2.ensures.words _ c.in-Words-words_of.is _ c.words_of-3.ensures.words _ c.in-Words-words_of-2.is _ c.bounds_of.ensures.result_value _ _ c.in-Of.is; few = few_all _ _ _ _ _ _ _ _ _ c.in-Words.is c.words_of.ensures.few c.in-Words-words_of.is c.words_of-2.ensures.few c.in-Words-words_of-2.is c.words_of-3.ensures.few c.in-Of.is c.bounds_of.ensures.room_few }

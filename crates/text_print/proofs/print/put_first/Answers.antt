@@ -31,11 +31,4 @@ pub shape_of-out : goal.shape_of-out
 shape_of-out c = simp length-set (omega arith)
 
 pub returns : goal.returns
-returns c = let y = c.before.before.before.before.before.before in
-    let x = y.before.before.before.before in
-    let w = x.before.before.before.before in
-    let v = w.before.before.before.before in
-    let u = v.before.before.before.before in (
-      six_wrote _ _ _ _ _ _ _ _ _ _ _ _ _ _ _ _ _ _ _ u.put-decimal.ensures.0 v.put_next.ensures.0 w.put-next2.ensures.0 x.put-next3.ensures.0 y.put-next4.ensures.0 c.put_next-l.ensures.wrote,
-      omega arith,
-    )
+returns c = record { wrote = six_wrote _ _ _ _ _ _ _ _ _ _ _ _ _ _ _ _ _ _ _ c.put_decimal-g.ensures.wrote c.put_next-h.ensures.wrote c.put_next-i.ensures.wrote c.put_next-j.ensures.wrote c.put_next-k.ensures.wrote c.put_next-l.ensures.wrote; upper_bound = omega arith }

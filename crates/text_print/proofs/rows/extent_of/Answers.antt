@@ -51,8 +51,8 @@ pub loop-k-smaller : goal.loop-k-smaller
 loop-k-smaller c = search extent_rules
 
 pub loop-k-preserved : goal.loop-k-preserved
-loop-k-preserved c = let e = c.before.before.before.before in (
-  extent_turn _ _ _ _ e.before.before.loop.invariant.0 _ _ e.before.if1.false e.if2.false c.inside-arg-1.given c.inside-arg-in-loop-k-1.given c.inside.ensures c.wide.ensures,
+loop-k-preserved c = (
+  extent_turn _ _ _ _ c.loop-k.invariant.0 _ _ c.if-k-eq0.false c.if-ws-i.false c.inside-arg-1.given c.inside-arg-in-loop-k-1.given c.inside.ensures c.wide.ensures,
   search extent_rules,
   search extent_rules,
 )

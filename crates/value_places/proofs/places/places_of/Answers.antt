@@ -32,8 +32,7 @@ overflow_add-at-else-n-eq0 c = search from_rules
 
 pub fill-e-requires : goal.fill-e-requires
 fill-e-requires c = let l = c.loop-at.invariant in
-    let b = c.put_base.ensures in
-    (search from_rules, (search from_rules, (search from_rules, (search from_rules, base_whole _ _ _ _ b l.2))))
+    let b = c.put_base.ensures in record { fact_1 = search from_rules; fact_2 = search from_rules; fact_3 = search from_rules; fact_4 = (search from_rules, base_whole _ _ _ _ b l.2) }
 
 pub put_end-requires-else-n-eq0 : goal.put_end-requires-else-n-eq0
 put_end-requires-else-n-eq0 c = search from_rules
