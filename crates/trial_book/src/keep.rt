@@ -26,7 +26,7 @@ const WITHDRAW: usize = 2;
 const CHECK: usize = 3;
 
 // What is asked; a command of another number is `show`.
-#[derive(Drop)]
+#[derive(Clone, Copy)]
 pub struct Request {
     pub version: u16,
     pub dialect: u32,
