@@ -21,7 +21,7 @@ pub enum Tally {
 
 // What a line does with what waits: nothing; it lays aside the rest of a cons, a part that begins anew, or one on the same collection; or the next part
 // is the one that was laid aside last.
-#[derive(Drop)]
+#[derive(Clone, Copy)]
 pub enum Turn {
     Stay,
     Rest,

@@ -9,7 +9,6 @@ use native.Mathlib.Omega.{arith}
 use borrow.Author.Rules.{rules}
 use borrow.Author.Tests.{le-leb, lt-leb, eqb-true}
 use denote.Enum.Declared.{tag_of}
-use types.Run.{OneOf}
 use lib.Dec.{eqb}
 use lib.ListN.{length, get_or, take, drop, set, length-set, drop_of_length-le}
 use lib.Seq.{drop-cons, get_or-drop}
@@ -144,12 +143,6 @@ asks_in firsts m i p at under = go (unlike firsts m i (tag_at p at))
     go true = tt
     go false = asks m i p at under
 
-not_misfit : (r : Here) → OneOf (1 ∷ 2 ∷ 3 ∷ 4 ∷ 5 ∷ []) (tag_of the_type r) → r ≡ Misfit → ⊥
-not_misfit r k e = go (subst (λ x. OneOf (1 ∷ 2 ∷ 3 ∷ 4 ∷ 5 ∷ []) (tag_of the_type x)) e k)
-  where
-    go : OneOf (1 ∷ 2 ∷ 3 ∷ 4 ∷ 5 ∷ []) 0 → ⊥
-    go j = ⊎_elim (λ x. omega arith) (⊎_elim (λ x. omega arith) (⊎_elim (λ x. omega arith) (⊎_elim (λ x. omega arith) (λ x. omega arith)))) j
-
 -- ---- The loop.
 
 -- What is left to read decides; the bounds of the stack and of the variables.
@@ -279,10 +272,9 @@ module _ (firsts : Bool) (m p : List ℤ) (a u : List ℕ) (w : Waiting) (at : �
             under = G.under;
           }
 
-      -- The keys are those of all variants but the misfit.
-      pub going_follow : (r : Here) → r ≡ asks_at → OneOf (1 ∷ 2 ∷ 3 ∷ 4 ∷ 5 ∷ []) (tag_of the_type r) → (v : Waiting) → v ≡ waits_after r (w.matchers - 1) w.bound
+      pub going_follow : (r : Here) → r ≡ asks_at → (r ≡ Misfit → ⊥) → (v : Waiting) → v ≡ waits_after r (w.matchers - 1) w.bound
           → (b c : List ℕ) → b ≡ stack_after m r (get_or a (w.matchers - 1) 0) (w.matchers - 1) a → c ≡ under_after r (get_or a (w.matchers - 1) 0) w.bound u → Going firsts m p b c v (at + 1)
-      going_follow r e k v d b c i j = rw (d, i, j) (follows r e (not_misfit r k))
+      going_follow r e k v d b c i j = rw (d, i, j) (follows r e k)
 
 pub ruleset own_rules = (ret_long, starts, ret_end, going_skip, ret_spare, ret_misfit, follow_room, going_follow, rules)
 

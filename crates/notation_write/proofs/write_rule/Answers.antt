@@ -20,8 +20,4 @@ pub shape_of-out : goal.shape_of-out
 shape_of-out c = search rule_rules
 
 pub returns : goal.returns
-returns c = let y = c.before.before.before.before.before.before in
-    let x = y.before.before.before.before in
-    let w = x.before.before.before.before in
-    let v = w.before.before.before.before in
-    rule_put _ _ _ _ _ _ _ _ _ _ _ v.put-units.ensures w.put.ensures x.write.ensures.0 y.put2.ensures c.write-s.ensures.0
+returns c = rule_put _ _ _ _ _ _ _ _ _ _ _ c.put_units-p.ensures c.put-q.ensures c.write-m.ensures.0 c.put-r.ensures c.write-s.ensures.0

@@ -91,7 +91,7 @@ enum_known-asks-in-Wide-1 c = search rules
 
 pub push-requires : goal.push-requires
 unfolding waits_after stack_after under_after
-push-requires c = let p = c.requires in (room_wide _ _ _ p.0 _ _ c.in-Wide.is, p.1.0)
+push-requires c = let p = c.requires in (room_wide _ _ _ p.fact_1 _ _ c.in-Wide.is, p.fact_2.0)
 
 pub overflow_add-n-in-Wide : goal.overflow_add-n-in-Wide
 unfolding waits_after stack_after under_after
