@@ -21,7 +21,7 @@ pub const VARIABLES: usize = 16;
 
 // What a variable is bound to: the index of a tag in the target, and marks.
 #[repr(C)]
-#[derive(Drop)]
+#[derive(Clone, Copy)]
 pub struct Binding {
     pub at: usize,
     pub marks: u64,

@@ -1,0 +1,10 @@
+use mathlib.Core.Path.{◌≡◌}
+use Rattle.value_equality.specs.Equality.{integers_paired}
+use Rattle.value_equality.specs.Levels.{Both}
+use Rattle.value_equality.proofs.paired_integers.Given as goal
+
+abbrev pub invariant-loop-x : goal.invariant-loop-x
+invariant-loop-x l = (integers_paired l.s l.a l.am l.b l.bm ≡ integers_paired l.s l.a l.x l.b l.y) × Both l.s l.a l.x l.b l.y
+
+abbrev pub decreases-loop-x : goal.decreases-loop-x
+decreases-loop-x l = l.x
