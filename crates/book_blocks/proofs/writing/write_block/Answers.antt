@@ -1,0 +1,7 @@
+-- `book_blocks::writing::write_block` meets its contract: head, rule, check.
+use borrow.Author.Rules.{rules}
+use Rattle.book_blocks.proofs.writing.Puts.{block_out}
+use Rattle.book_blocks.proofs.writing.write_block.Goals as goal
+
+pub returns : goal.returns
+returns c = search (block_out, rules)

@@ -1,0 +1,11 @@
+use Rattle.program.proofs.link.Pass.{count_rules}
+use Rattle.program.proofs.link.counted.Goals as goal
+
+pub overflow_add-result : goal.overflow_add-result
+overflow_add-result c = search count_rules
+
+pub returns-then-o-eq-BIND : goal.returns-then-o-eq-BIND
+returns-then-o-eq-BIND c = search count_rules
+
+pub returns-else-o-eq-BIND : goal.returns-else-o-eq-BIND
+returns-else-o-eq-BIND c = search count_rules

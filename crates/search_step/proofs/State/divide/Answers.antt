@@ -1,0 +1,26 @@
+use Rattle.search_step.proofs.Laws.{divide_rules}
+use Rattle.search_step.proofs.State.divide.Goals as goal
+
+pub apart-requires : goal.apart-requires
+apart-requires c = search divide_rules
+
+pub returns-then-o-lt-AND : goal.returns-then-o-lt-AND
+returns-then-o-lt-AND c = search divide_rules
+
+pub sides-requires : goal.sides-requires
+sides-requires c = search divide_rules
+
+pub returns-then-o-gt-JOIN : goal.returns-then-o-gt-JOIN
+returns-then-o-gt-JOIN c = search divide_rules
+
+pub head-requires : goal.head-requires
+head-requires c = search divide_rules
+
+pub returns-then-o-eq-LIST_CONS : goal.returns-then-o-eq-LIST_CONS
+returns-then-o-eq-LIST_CONS c = search divide_rules
+
+pub split-requires : goal.split-requires
+split-requires c = search divide_rules
+
+pub returns : goal.returns
+returns c = search divide_rules
