@@ -17,7 +17,7 @@ const FOR_DIALECT: usize = DIALECT_BIT as usize;
 const TWO_WORDS: usize = 2 * WORD_BYTES;
 
 // What an add names beside its rule.
-#[derive(Drop)]
+#[derive(Clone, Copy)]
 pub struct Named {
     pub version: u16,
     pub badge: u16,

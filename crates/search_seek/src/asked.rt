@@ -20,7 +20,7 @@ use tables::slot::Slots;
 
 // The line at which the first part starts; the line that asks for an integer, 0 where there is none; and the one that asks for the second part of a pair
 // after it, the same where there is none.
-#[derive(Drop)]
+#[derive(Clone, Copy)]
 pub struct Asking {
     pub part: usize,
     pub first: usize,

@@ -26,7 +26,7 @@ pub struct Sum {
 }
 
 // What a pair is asked for: an integer as its first part; and, where `both`, another as its second.
-#[derive(Drop)]
+#[derive(Clone, Copy)]
 pub struct Wanted {
     pub first: Sum,
     pub second: Sum,

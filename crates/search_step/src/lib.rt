@@ -30,7 +30,7 @@ pub const FULL: u64 = 3;
 
 // `at` and `marks` are the value of the first atom, `top` the last open frame (0: none, j + 1: at j), `words` how many words are written.
 #[repr(C)]
-#[derive(Drop)]
+#[derive(Clone, Copy)]
 pub struct State {
     pub pc: usize,
     pub at: usize,

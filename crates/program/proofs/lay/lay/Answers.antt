@@ -8,8 +8,7 @@ pub loop-c-init : goal.loop-c-init
 loop-c-init c = start _ _ _ _ _ _ refl refl refl (λ j. get_d_same 257 j 0) (λ j. get_d_same 257 j 0)
 
 pub lay_next-c-requires : goal.lay_next-c-requires
-lay_next-c-requires c = let h = c.requires in
-    let P = c.loop-c.invariant in record { fact_1 = h.0; fact_2 = h.1; fact_3 = c.loop-c-test.true; fact_4 = P.fits; fact_5 = lines_low P h.1 }
+lay_next-c-requires c = let P = c.loop-c.invariant in record { fact_1 = c.requires.fact_1; fact_2 = c.requires.fact_2; fact_3 = c.loop-c-test.true; fact_4 = P.fits; fact_5 = lines_low P c.requires.fact_2 }
 
 pub loop-c-preserved : goal.loop-c-preserved
 loop-c-preserved c = goes_on_lem c.loop-c.invariant c.lay_next-c.ensures.fact_2 c.lay_next-c.ensures.fact_3

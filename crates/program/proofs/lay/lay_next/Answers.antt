@@ -5,20 +5,18 @@ use Rattle.program.proofs.Turns.{Tagged, Closed, slot_asks, skip_fits, under_ask
 use Rattle.program.proofs.lay.lay_next.Goals as goal
 
 -- What is known before the two kinds of tag part.
-tagged : (c : tie.After-operands) → let a = c.args in
+tagged : (c : goal.After-operands) → let a = c.args in
     Tagged a.m.now a.p.now a.under.now a.slots.now a.behind.now a.c (columns_of a.lines.now)
     c.tag_at-k.result c.op_of-o.result c.operands.result
 tagged c =
-    let h = c.requires in
-    record { fits = h.1.1.1.0; brief = h.0; short = h.1.0; inside = h.1.1.0; under = cc; op = cc; skip = c.operands.ensures; low = h.1.1.1.1 }
+    record { fits = c.requires.fact_4; brief = c.requires.fact_1; short = c.requires.fact_2; inside = c.requires.fact_3; under = cc; op = cc; skip = c.operands.ensures; low = c.requires.fact_5 }
 
 -- And when the ends on top are laid.
-closed : (c : tie.After-close) → let a = c.args in
+closed : (c : goal.After-close-d) → let a = c.args in
     Closed a.m.now a.p.now a.under.now a.slots.now a.behind.now a.c (columns_of a.lines.now)
     c.operands.result c.close-d.result (c.leaf-q.result + (a.c.depth - c.close-d.result)) (columns_of c.close-d.new.1.1.1.1.0)
 closed c =
-    let l = c.leaf-q.ensures in
-    closes (tagged c.before.before.before.before.before.before.before) c.if-o-gt-NIL.false _ _ l.0 l.1 _ _ c.close-d.ensures.fact_1 c.close-d.ensures.fact_2
+    closes (tagged c.before.before.before.before.before.before.before) c.if-o-gt-NIL.false _ _ c.leaf-q.ensures.fact_1 c.leaf-q.ensures.fact_2 _ _ c.close-d.ensures.fact_1 c.close-d.ensures.fact_2
 
 pub overflow_add-next : goal.overflow_add-next
 overflow_add-next c = skip_fits (tagged c)
@@ -43,7 +41,7 @@ pub leaf-q-requires : goal.leaf-q-requires
 leaf-q-requires c = record { fact_1 = search rules; fact_2 = leaf_asks (tagged c.before.before) c.if-o-gt-NIL.false }
 
 pub close-d-requires : goal.close-d-requires
-close-d-requires c = let l = c.leaf-q.ensures in close_asks (tagged c.before.before.before.before.before.before) c.if-o-gt-NIL.false _ _ l.0 l.1
+close-d-requires c = close_asks (tagged c.before.before.before.before.before.before) c.if-o-gt-NIL.false _ _ c.leaf-q.ensures.fact_1 c.leaf-q.ensures.fact_2
 
 pub overflow_add-end : goal.overflow_add-end
 overflow_add-end c = close_fits (closed c)
@@ -64,5 +62,4 @@ pub pop-requires : goal.pop-requires
 pop-requires c = pop_asks (closed c.before.before.before.before.before.before.before.before) c.if-d-eq0.false
 
 pub returns : goal.returns
-returns c = let o = c.other-pc.ensures in
-    leaf_returns (closed c.before.before.before.before.before.before.before.before.before) c.if-d-eq0.false _ _ o.0 o.1 _ _ _ _ c.pop.ensures
+returns c = leaf_returns (closed c.before.before.before.before.before.before.before.before.before) c.if-d-eq0.false _ _ c.other-pc.ensures.fact_1 c.other-pc.ensures.fact_2 _ _ _ _ c.pop.ensures
