@@ -19,7 +19,7 @@ use value_places::places::element;
 use words::marks::{lowest, rest};
 
 // An integer that is asked for: the one at an index, plus a constant.
-#[derive(Drop)]
+#[derive(Clone, Copy)]
 pub struct Sum {
     pub at: usize,
     pub plus: i32,
