@@ -17,7 +17,7 @@ use Rattle.rules.specs.Rows.{Form, as_words, as_origins, form_of}
 use Rattle.rules.specs.Services.{accepted, Rule, rule_of, target_of, Matched, turned_away, match_in, match_with, Reviewed, declined, counted, capped, unless_always_true, review_rule, review, review_of}
 use Rattle.forms.specs.Written.{largest, variable_tags}
 use Rattle.forms.specs.Faults.{rule_accepted, sane_exactly}
-use Rattle.forms.specs.ReadTarget.{target_read}
+use Rattle.forms.proofs.ReadTarget.{target_read}
 use Rattle.promises.specs.Room.{widest}
 use Rattle.promises.specs.Main.Bounds.{variables_counted, enough_reviewed}
 use Rattle.room_rules.specs.Rooms.{rows_counted, rows_capped, rows_unless_always, rows_reviewed, or_none, variables_in, width_of, Roomed, room_by, room}

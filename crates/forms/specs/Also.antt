@@ -1,13 +1,13 @@
 -- A rule that one of the dialects accepts is accepted by dialect 1: test 4 of dialect 2 asks for more.
-use Rattle.std.specs.Prelude.{ℕ, ◌+◌, ◌≡◌, refl, Bool, true, false, ◌&&◌, List, [], ◌∷◌, ◌++◌, T, eqb, ℤ}
+use Rattle.std.specs.Prelude.{ℕ, ◌+◌, ◌≡◌, refl, Bool, true, false, ◌&&◌, List, [], T, eqb, ℤ}
 use Rattle.std.proofs.Common.{suc-ne-zero, sym, ap, ◌∙◌, subst}
 use Rattle.rules.specs.Forms.{Matcher, Matchers, no_matchers, ◌▸ᵐ◌, countᵐ, Value}
 use Rattle.rules.specs.Forms.{Pattern, wildcard, variable, constant, value, nil, cons, join, tuple, both, either, never, Patterns, no_patterns, ◌▸ᵖ◌, countᵖ, span}
 use Rattle.rules.specs.Reading.{Verdict, ok, fault, ◌then◌, read_matcher, read_pattern}
 use Rattle.rules.specs.Variables.{demand, variables}
-use Rattle.rules.specs.Dialects.{Dialect, every_place, first_places}
+use Rattle.rules.specs.Dialects.{Dialect, every_place}
 use Rattle.rules.specs.Fit.{takes, told_apart, element, members, fits_in, fits_parts_in}
-use Rattle.rules.specs.Services.{Judged, accepted, refused, test, Rule, rule_in, rule_of, target_of}
+use Rattle.rules.specs.Services.{Judged, accepted, test, Rule, rule_in, rule_of, target_of}
 use Rattle.forms.specs.Readers.{then_ok}
 use Rattle.forms.specs.Tests.{and_split}
 use Rattle.forms.specs.Numbering.{demand_ok}

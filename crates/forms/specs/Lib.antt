@@ -8,9 +8,7 @@ pub mod Readers
 pub mod Counted
 pub mod ReadMatcher
 pub mod ReadPattern
-pub mod ReadTarget
 pub mod Wrong
-pub mod Together
 pub mod Numbering
 pub mod Origins
 pub mod Faults

@@ -1,5 +1,5 @@
 -- Values with their origin: without it they are the values that were placed.
-use Rattle.std.specs.Prelude.{ℕ, suc, ◌+◌, ◌≡◌, refl, List}
+use Rattle.std.specs.Prelude.{ℕ, suc, ◌+◌, ◌≡◌, refl}
 use Rattle.std.proofs.Common.{ap, ap₂}
 use Rattle.rules.specs.Forms.{Value, int, collection, tupled, Values, empty, ◌▸◌, size}
 use Rattle.rules.specs.Origins.{plain, plain_all, placed, placed_all, target}

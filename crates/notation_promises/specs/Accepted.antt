@@ -11,7 +11,7 @@ use Rattle.rules.specs.Variables.{variables}
 use Rattle.forms.specs.Written.{matcher_words, pattern_words, pattern_words_all, IsWidth, Widthsᵐ, WidthsAllᵐ, Widthsᵖ, WidthsAllᵖ, Widths, WidthsAll}
 use Rattle.forms.specs.ReadMatcher.{matcher_read}
 use Rattle.forms.specs.ReadPattern.{pattern_read}
-use Rattle.forms.specs.ReadTarget.{target_read}
+use Rattle.forms.proofs.ReadTarget.{target_read}
 use Rattle.notation_rules.specs.PatternsBack as B
 use Rattle.notation_rules.specs.Matchers as M
 use Rattle.notation_rules.specs.Targets as U

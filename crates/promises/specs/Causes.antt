@@ -12,13 +12,14 @@ use Rattle.rules.specs.Causes.{Cause, over_length, left_over, cause_number}
 use Rattle.rules.specs.Causes.{Look, well, wrong, value, told, cause_of}
 use Rattle.forms.specs.Tests.{is_false, leb_true, leb_false}
 use Rattle.forms.specs.Readers.{Sound}
-use Rattle.forms.specs.ReadTarget.{target_sound, target_complete}
-use Rattle.forms.specs.Wrong.{Wrong, long, early, over, number_range, number_once, Says, wrong_says}
+use Rattle.forms.proofs.ReadTarget.{target_sound, target_complete}
+use Rattle.forms.specs.Wrong.{Wrong, long, early, over, number_range, number_once, Says}
+use Rattle.forms.proofs.Wrong.{wrong_says}
 use Rattle.rules.specs.Services.{accepted, Rule, rule_of, Matched, cause_in, turned_away, carried_out, match_in}
 use Rattle.rules.specs.Rows.{Form}
 use Rattle.forms.specs.Faults.{Fault, of_rule, of_target, not_target, unfit, Judgement, turned, ran, rule_accepted, rule_range, match_turned, match_judged, refused_exactly}
 use Rattle.promises.specs.Found.{Found, awaits_found}
-use Rattle.forms.specs.Together.{Agree, took, target_agrees, value_well}
+use Rattle.forms.proofs.Together.{Agree, took, target_agrees, value_well}
 
 -- ---- The whole target.
 

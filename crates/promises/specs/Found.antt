@@ -11,10 +11,10 @@ use Rattle.rules.specs.Causes.{Look, wrong, ◌thence◌, in_turn, see, kinds, a
 use Rattle.forms.specs.Written.{deepest, largest, Widths, IsWidth}
 use Rattle.forms.specs.Readers.{got, known_is}
 use Rattle.forms.specs.Counted.{width_only, width_is, at_most_only, at_most_is}
-use Rattle.forms.specs.ReadTarget.{target_complete}
+use Rattle.forms.proofs.ReadTarget.{target_complete}
 use Rattle.forms.specs.Wrong.{Outside, Heads, of_collection, of_tuple, Within, Awaits, outermost, inside, Spot}
 use Rattle.forms.specs.Wrong.{not_tag, not_count, deep_collection, deep_tuple, no_tag, no_integer, no_count, no_width, not_width}
-use Rattle.forms.specs.Together.{value_well}
+use Rattle.forms.proofs.Together.{value_well}
 
 -- The reader ends with a fault at i, and the look with the cause c.
 abbrev pub Found : (d at : ℕ) (ws : List ℤ) (i : ℕ) → Cause → Type 0

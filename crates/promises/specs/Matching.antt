@@ -31,7 +31,7 @@ use Rattle.promises.specs.Bound.{Fine, fine_target, anew, steps_bound, rows_boun
 use Rattle.forms.specs.Numbering.{variables_found}
 use Rattle.promises.specs.Room.{follows_binds, widest, rows_words}
 use Rattle.forms.specs.Origins.{plain_target}
-use Rattle.forms.specs.ReadTarget.{target_read}
+use Rattle.forms.proofs.ReadTarget.{target_read}
 use Rattle.promises.specs.Reviewing.{count_of, everybody}
 use Rattle.forms.specs.Faults.{Sane, WellFormed}
 use Rattle.forms.specs.Also.{sane_also}

@@ -18,7 +18,7 @@ use Rattle.rules.specs.Tables.{nums}
 use Rattle.forms.specs.Written.{largest, largest_of, deepest, deepest_of, Widths, WidthsAll, variable_tags, length_words}
 use Rattle.promises.specs.Trace.{trace}
 use Rattle.promises.specs.Budget.{report, Full, Outcome, done, spent, full}
-use Rattle.forms.specs.ReadTarget.{target_read}
+use Rattle.forms.proofs.ReadTarget.{target_read}
 use Rattle.forms.specs.Faults.{Sane, sane_exactly, rule_accepted, target_accepted}
 use Rattle.promises.specs.Reviewing.{count_of, count_is}
 use Rattle.promises.specs.Matching.{states, outcome, result, answer_0, answer_7, answer_8, room_enough}

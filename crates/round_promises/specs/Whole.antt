@@ -29,7 +29,7 @@ use Rattle.promises.specs.Nots.{inner}
 use Rattle.promises.specs.Suited.{Suits, fits_suits}
 use Rattle.promises.specs.Bound.{Fine, fine_target, anew, steps_bound, rows_bound}
 use Rattle.promises.specs.Room.{widest, rows_words}
-use Rattle.forms.specs.ReadTarget.{target_read}
+use Rattle.forms.proofs.ReadTarget.{target_read}
 use Rattle.promises.specs.Reviewing.{count_of}
 use Rattle.forms.specs.Faults.{Sane}
 use Rattle.forms.specs.Also.{sane_also}

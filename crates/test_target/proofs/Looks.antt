@@ -16,7 +16,7 @@ use Rattle.rules.specs.Forms.{Value}
 use Rattle.rules.specs.Reading.{Verdict, ok, fault, Got, entry, at_most64, width, target}
 use Rattle.rules.specs.Causes.{Cause, unknown_tag, bad_count, too_deep, cut_short, bad_width, cause_number, told}
 use Rattle.rules.specs.Causes.{Look, well, wrong, ◌thence◌, in_turn, see, Kind, integer, kinds, any_word, innermost, opened, value}
-use Rattle.forms.specs.Together.{Agree, target_agrees, value_well}
+use Rattle.forms.proofs.Together.{Agree, target_agrees, value_well}
 use Rattle.words.specs.Words.{tag_at}
 use Rattle.words.proofs.Signed as signed
 use Rattle.test_forms.specs.Ends.{end_of, onward, in_row, within}

@@ -14,7 +14,7 @@ use lib.IntN.{ℤ}
 use Rattle.rules.specs.Forms.{Value}
 use Rattle.rules.specs.Reading.{Verdict, ok, fault, ◌then◌, Got, ended, whole, limited, target, read_target}
 use Rattle.rules.specs.Causes.{cause_number, over_length, left_over, well, told, value, cause_of}
-use Rattle.forms.specs.Together.{value_well}
+use Rattle.forms.proofs.Together.{value_well}
 use Rattle.words.specs.Words.{tag_at}
 use Rattle.words.proofs.Signed as signed
 use Rattle.test_forms.specs.Ends.{within}

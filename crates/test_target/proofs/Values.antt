@@ -16,7 +16,7 @@ use Rattle.rules.specs.Reading.{fault, ◌then◌, Reader, give, ◌>>=◌, know
 use Rattle.rules.specs.Reading.{TargetTag, one, many, target_tags, at_most64, width, target_parts, target}
 use Rattle.forms.specs.Written.{deepest, largest, Widths}
 use Rattle.forms.specs.Readers.{Complete}
-use Rattle.forms.specs.ReadTarget.{target_sound, target_complete}
+use Rattle.forms.proofs.ReadTarget.{target_sound, target_complete}
 use Rattle.words.specs.Words.{tag_z, tag_at}
 use Rattle.test_forms.specs.Ends.{end_of, in_row, within}
 use Rattle.test_target.specs.Targets.{count_fits, value_from}

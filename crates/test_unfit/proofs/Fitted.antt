@@ -14,7 +14,7 @@ use Rattle.rules.specs.Reading.{Verdict, ok, fault, ◌then◌, target, read_mat
 use Rattle.rules.specs.Variables.{demand}
 use Rattle.rules.specs.Fit.{fits_all, fits_value, fits_each}
 use Rattle.forms.specs.Written.{matcher_words, deepest, deepest_of, largest, largest_of, IsWidth, Widths, WidthsAll, Widthsᵐ, length_words}
-use Rattle.forms.specs.ReadTarget.{target_complete, target_read}
+use Rattle.forms.proofs.ReadTarget.{target_complete, target_read}
 use Rattle.words.specs.Words.{tag_at}
 use Rattle.test_forms.specs.Ends.{end_of, onward, within}
 use Rattle.test_fit.specs.Shapes.{width_fits}

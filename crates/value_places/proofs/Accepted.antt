@@ -10,7 +10,7 @@ use lib.IntN.{ℤ, pos, negsuc}
 use Rattle.rules.specs.Forms.{Value, int, collection, tupled, Values, empty, ◌▸◌, count, words, words_all}
 use Rattle.rules.specs.Reading.{ok, read_target}
 use Rattle.forms.specs.Written.{deepest, deepest_of, largest, Widths, length_words}
-use Rattle.forms.specs.ReadTarget.{target_read}
+use Rattle.forms.proofs.ReadTarget.{target_read}
 use Rattle.words.specs.Words.{tag_z, tag_at}
 use Rattle.value_places.specs.Places.{forest, head_of, value_at, count_by, count_at, Target, Tag}
 use Rattle.value_places.specs.Held.{Held, held_at, whole_at}

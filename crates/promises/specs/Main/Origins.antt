@@ -10,7 +10,7 @@ use Rattle.rules.specs.Ways.{Way, Good}
 use Rattle.rules.specs.Services.{Matched, accepted, Rule, rule_of, target_of, turned_away, match_in, match_with}
 use Rattle.forms.specs.Lists.{Mem}
 use Rattle.forms.specs.Faults.{sane_exactly}
-use Rattle.forms.specs.ReadTarget.{target_read}
+use Rattle.forms.proofs.ReadTarget.{target_read}
 use Rattle.promises.specs.Origins.{PointsBack}
 use Rattle.promises.specs.Bindings.{bindings_point_back}
 use Rattle.promises.specs.Telling.{Tells, ways_told}

@@ -6,7 +6,8 @@ use Rattle.rules.specs.Causes.{Cause, cause_number, cause_of}
 use Rattle.rules.specs.Services.{accepted, Rule, rule_of, cause_in, turned_away, match_in}
 use Rattle.rules.specs.Rows.{Form}
 use Rattle.forms.specs.Faults.{Fault, Judgement, Sane, match_turned, match_judged, refused_exactly, fault_once, not_both}
-use Rattle.forms.specs.Wrong.{Wrong, Says, wrong_says}
+use Rattle.forms.specs.Wrong.{Wrong, Says}
+use Rattle.forms.proofs.Wrong.{wrong_says}
 use Rattle.promises.specs.Causes.{cause_none, cause_at_lem, cause_length, cause_5, cause_other, answer_5}
 
 -- ---- Refusals: for every input exactly one of a refusal, by the first fault in the fixed order, or a run.

@@ -10,7 +10,7 @@ use Rattle.promises.specs.Sums.{sum_inside, sum_outside}
 use Rattle.forms.specs.Pairing.{greedy, equal_equiv, multisets_greedy}
 use Rattle.forms.specs.ReadMatcher.{matcher_read, matcher_once}
 use Rattle.forms.specs.ReadPattern.{pattern_read, pattern_once}
-use Rattle.forms.specs.ReadTarget.{target_read, target_once}
+use Rattle.forms.proofs.ReadTarget.{target_read, target_once}
 
 -- ---- Multiset equality: pairing off is marking off greedily; and equality is symmetric and transitive under every matcher, the one at tag 3.
 

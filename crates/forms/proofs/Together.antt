@@ -15,7 +15,7 @@ use Rattle.rules.specs.Causes.{Cause, bad_count, cut_short, bad_width, Look, wel
 use Rattle.forms.specs.Written.{deepest, largest, Widths, IsWidth}
 use Rattle.forms.specs.Readers.{got, Sound, not_some}
 use Rattle.forms.specs.Counted.{width_only, width_is, at_most_only, at_most_is}
-use Rattle.forms.specs.ReadTarget.{target_sound, target_complete}
+use Rattle.forms.proofs.ReadTarget.{target_sound, target_complete}
 use Rattle.forms.specs.Wrong.{Outside, Heads, of_collection, of_tuple, Within, Awaits, outermost, inside, Spot}
 use Rattle.forms.specs.Wrong.{not_tag, not_count, deep_collection, deep_tuple, no_tag, no_integer, no_count, no_width, not_width}
 
