@@ -22,7 +22,7 @@ use words::is_total;
 use words::marks::{lowest, rest};
 
 // The choices left, the steps taken, the rows and their words written.
-#[derive(Drop)]
+#[derive(Clone, Copy)]
 pub struct Tally {
     pub left: u64,
     pub steps: u64,

@@ -10,7 +10,7 @@ use value_places::places::number_at;
 use value_rows::{Binding, Bindings, VARIABLES};
 
 // How many variables a row tells, and whether it tells origins.
-#[derive(Drop)]
+#[derive(Clone, Copy)]
 pub struct Shape {
     pub vars: usize,
     pub origins: bool,

@@ -1,0 +1,47 @@
+use mathlib.Core.Path.{refl, ap, ◌∙◌}
+use mathlib.Core.Logic.{⊎_elim, inl, inr}
+use lib.ListN.{length}
+use mir.Facts.{to_z-of_z}
+use Rattle.search_leaf.specs.Leaf.{tallied}
+use Rattle.search_leaf.proofs.Words.{tells_by}
+use Rattle.search_leaf.proofs.Laws.{told_at_lem, by_not, take_part, take_counts, take_var, take_bound, took_is, none_is}
+use borrow.Author.Rules.{rules}
+use mir.Syntax.{w32}
+use Rattle.search_leaf.proofs.take.Goals as goal
+
+pub op_at-o-requires : goal.op_at-o-requires
+op_at-o-requires c = c.requires.fact_3.place
+
+pub arg_at-v-requires : goal.arg_at-v-requires
+arg_at-v-requires c = c.requires.fact_3.place
+
+pub told_of-told-requires : goal.told_of-told-requires
+told_of-told-requires c = let h = c.requires.fact_3 in record { fact_1 = c.requires.fact_1; fact_2 = take_bound _ _ _ _ _ _ _ _ _ _ _ h; fact_3 = (take_var _ _ _ _ _ _ _ _ _ _ _ h _ c.arg_at-v.ensures, refl) }
+
+pub returns-then-not-told : goal.returns-then-not-told
+returns-then-not-told c = inl (none_is _ _ _ _ _ _ _ _ _ _ _ _ c.arg_at-v.ensures c.told_of-told.ensures.fact_1 refl refl)
+
+pub con_at-requires : goal.con_at-requires
+con_at-requires c = record { fact_1 = c.requires.fact_3.place; fact_2 = c.requires.fact_3.constant }
+
+pub take_sums-t-requires : goal.take_sums-t-requires
+take_sums-t-requires c = let h = c.requires.fact_3 in
+    let y = c.told_of-told.ensures.fact_1 in record { fact_1 = c.requires.fact_1; fact_2 = c.requires.fact_2; fact_3 = take_part _ _ _ _ _ _ _ _ c.frame_at-f.ensures _ _ _ _ c.op_at-o.ensures c.arg_at-v.ensures (to_z-of_z {w = w32} (search rules) ∙ c.con_at.ensures) y _ _ _ _ h; fact_4 = take_counts _ _ _ _ _ _ _ _ c.frame_at-f.ensures _ _ _ _ c.op_at-o.ensures c.arg_at-v.ensures c.con_at.ensures y _ _ _ _ h; fact_5 = (c.if-o-eq-SUM.true, h.few, (c.told_of-told.ensures.fact_2 (by_not _ c.if-not-told.false)).long) }
+
+pub take_all-r-requires : goal.take_all-r-requires
+take_all-r-requires c = let h = c.requires.fact_3 in
+    let y = c.told_of-told.ensures.fact_1 in record { fact_1 = c.requires.fact_1; fact_2 = c.requires.fact_2; fact_3 = take_part _ _ _ _ _ _ _ _ c.frame_at-f.ensures _ _ _ _ c.op_at-o.ensures c.arg_at-v.ensures (to_z-of_z {w = w32} (search rules) ∙ c.con_at.ensures) y _ _ _ _ h; fact_4 = take_counts _ _ _ _ _ _ _ _ c.frame_at-f.ensures _ _ _ _ c.op_at-o.ensures c.arg_at-v.ensures c.con_at.ensures y _ _ _ _ h; fact_5 = (c.if-o-eq-SUM.false, h.few, (c.told_of-told.ensures.fact_2 (by_not _ c.if-not-told.false)).long) }
+
+pub put_left-requires : goal.put_left-requires
+put_left-requires c = record { fact_1 = c.requires.fact_4; fact_2 = c.requires.fact_5 }
+
+pub shape_of-room : goal.shape_of-room
+shape_of-room c = ⊎_elim (λ w. ap length w.5 ∙ w.3.kept.1.1.1.1.1.1.1.0) (λ w. ap length w.6 ∙ w.2.kept.1.1.1.1.1.1.1.0) c.if-o-eq-SUM.branch
+
+pub returns : goal.returns
+unfolding tallied
+returns c = let t = c.told_of-told.ensures.fact_2 (by_not _ c.if-not-told.false) in
+    inr (took_is _ _ _ _ _ _ _ _ c.frame_at-f.ensures _ _ _ _ c.op_at-o.ensures c.arg_at-v.ensures (to_z-of_z {w = w32} (search rules) ∙ c.con_at.ensures) c.told_of-told.ensures.fact_1 _ _ _ _ _ _ _ _ _ _
+    (tells_by _ _ _ _ _ _ _ c.but_of.ensures t)
+    (⊎_elim (λ w. told_at_lem _ _ _ _ _ _ _ _ _ _ _ _ _ _ w.6 w.7 w.5 w.3.ensures) (λ w. told_at_lem _ _ _ _ _ _ _ _ _ _ _ _ _ _ w.7 w.8 w.6 w.2.ensures) c.if-o-eq-SUM.branch)
+    c.put_left.ensures)

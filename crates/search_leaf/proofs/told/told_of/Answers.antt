@@ -1,0 +1,77 @@
+-- `search_leaf::told::told_of` meets its contract: the words of the variables so far are told.
+use Prim.Native.Nat.{◌-◌}
+use mathlib.Core.Path.{refl, sym, ◌∙◌}
+use mathlib.Core.Logic.{⊎_elim}
+use native.Mathlib.Omega.{arith}
+use borrow.Author.Rules.{rules}
+use mir.Facts.{to_z-of_z}
+use Rattle.value_places.proofs.Elements.{second, tag_small}
+use Rattle.value_rows.proofs.Row.{held_1024}
+use Rattle.search_leaf.proofs.Words.{tells_none, tells_all, tells_but, tells_next}
+use Rattle.search_leaf.proofs.Ends.{no_answer}
+use mir.Syntax.{w32}
+use Rattle.search_leaf.proofs.told.told_of.Goals as goal
+
+-- src/told.rt:62:17
+pub offset_bounds-b-var : goal.offset_bounds-b-var
+offset_bounds-b-var c = let l = c.requires.fact_3.0 in record { fits = omega arith }
+
+-- src/told.rt:62:17
+pub bounds-b-var : goal.bounds-b-var
+bounds-b-var c = c.requires.fact_3.0
+
+-- src/told.rt:64:5
+pub loop-v-init : goal.loop-v-init
+loop-v-init c = (omega arith, tells_none _ _ _ _ _ c.requires.fact_3.1)
+
+-- src/told.rt:66:21
+pub offset_bounds-b-v : goal.offset_bounds-b-v
+offset_bounds-b-v c = let h = c.loop-v-test.true in let l = c.requires.fact_2.most in record { fits = omega arith }
+
+-- src/told.rt:66:21
+pub bounds-b-v : goal.bounds-b-v
+bounds-b-v c = let h = c.loop-v-test.true in let l = c.requires.fact_2.most in omega arith
+
+-- src/told.rt:68:17
+pub number_at-tag-requires : goal.number_at-tag-requires
+number_at-tag-requires c = tag_small _ _ c.requires.fact_1 (c.requires.fact_2.are _ c.loop-v-test.true).tag
+
+-- src/told.rt:70:17
+pub returns-then-tag-ne0 : goal.returns-then-tag-ne0
+returns-then-tag-ne0 c = record { fact_1 = refl; fact_2 = no_answer }
+
+-- src/told.rt:75:24
+pub word_of-requires : goal.word_of-requires
+word_of-requires c = let w = c.requires.fact_2.are _ c.loop-v-test.true in (held_1024 _ _ _ c.requires.fact_1 w, second _ _ c.requires.fact_1 w.tag)
+
+-- src/told.rt:75:13
+pub offset_bounds-words-v : goal.offset_bounds-words-v
+offset_bounds-words-v c = let h = c.loop-v-test.true in let l = c.requires.fact_2.most in record { fits = omega arith }
+
+-- src/told.rt:75:13
+pub bounds-words-v : goal.bounds-words-v
+bounds-words-v c = let h = c.loop-v-test.true in let l = c.requires.fact_2.most in omega arith
+
+-- src/told.rt:77:9
+pub overflow_add-v : goal.overflow_add-v
+overflow_add-v c = let h = c.loop-v-test.true in let l = c.requires.fact_2.most in record { fits = omega arith }
+
+-- src/told.rt:64:5
+pub loop-v-smaller : goal.loop-v-smaller
+loop-v-smaller c = let h = c.loop-v-test.true in omega arith
+
+-- src/told.rt:64:5
+pub loop-v-preserved : goal.loop-v-preserved
+loop-v-preserved c = let h = c.loop-v-test.true in
+    let l = c.requires.fact_2.most in
+    let i = c.loop-v.invariant in (
+      omega arith,
+      ⊎_elim
+          (λ w. tells_next _ _ _ _ _ _ i.1 _ (omega arith) (sym w.2.ensures ∙ w.3.left) (to_z-of_z {w = w32} (search rules) ∙ w.4.ensures) _ w.5)
+          (λ w. tells_but _ _ _ _ _ _ i.1 w.0.left _ w.1)
+          c.if-v-but.branch,
+    )
+
+-- src/told.rt:51:1
+pub returns : goal.returns
+returns c = record { fact_1 = refl; fact_2 = λ e. tells_all _ _ _ _ _ _ c.loop-v.invariant.1 _ c.loop-v.invariant.0 c.loop-v-test.false }
