@@ -17,4 +17,4 @@ pub put-requires : goal.put-requires
 put-requires c = end_low c.loop-c.invariant c.requires.fact_2 c.loop-c-test.false
 
 pub returns : goal.returns
-returns c = end_returns c.loop-c.invariant c.requires.fact_2 c.loop-c-test.false _ c.put.ensures
+returns c = let r = end_returns c.loop-c.invariant c.requires.fact_2 c.loop-c-test.false _ c.put.ensures in record { fact_1 = r.0; fact_2 = r.1 }

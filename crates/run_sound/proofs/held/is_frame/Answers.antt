@@ -22,7 +22,7 @@ pub returns-then-not-is_held : goal.returns-then-not-is_held
 returns-then-not-is_held c = search frame_rules
 
 pub returns-then-o-eq-JOIN : goal.returns-then-o-eq-JOIN
-returns-then-o-eq-JOIN c = frame_join _ _ _ _ _ _ (search rules) (search rules) (search rules) (search rules) c.is_held_lem.result (search rules) (search rules) (search rules)
+returns-then-o-eq-JOIN c = frame_join _ _ _ _ _ _ (search rules) (search rules) (search rules) (search rules) c.is_held.result (search rules) (search rules) (search rules)
 
 pub returns-then-c-eq0 : goal.returns-then-c-eq0
 returns-then-c-eq0 c = search frame_rules
