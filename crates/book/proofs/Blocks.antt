@@ -12,11 +12,11 @@ use Rattle.book_rules.specs.Sums.{word, checked, and_also}
 use Rattle.book_rules.specs.Blocks.{Block, badge_of, unless, or_else, known, formed, live_formed, holds, taken, verdict}
 use Rattle.book_rules.specs.Books.{in_use, fault, walk, place}
 use Rattle.book_rules.specs.Bytes.{block_at, blocks_from, book_of}
-use Rattle.book_rules.specs.Round.{holds_true}
+use Rattle.book_rules.proofs.Round.{holds_true}
 use Rattle.book_rules.specs.Noticed.{good_number}
 use Rattle.book_rules.specs.Views.{Bytes, block_of, block_sized, length_blocks}
-use Rattle.book_rules.specs.Walks.{First, place_some, walk_at, or_second, last_test, and_also_fst, held_is, holds_zero}
-use Rattle.book_rules.specs.Kept.{good_walk}
+use Rattle.book_rules.proofs.Walks.{First, place_some, walk_at, or_second, last_test, and_also_fst, held_is, holds_zero}
+use Rattle.book_rules.proofs.Kept.{good_walk}
 use Rattle.book.specs.Testing.{found}
 use Rattle.book.specs.declared.testing.Found.{Found}
 use Rattle.book.specs.declared.testing.Found.TheVariants.{At, Nothing}

@@ -8,7 +8,7 @@ use Rattle.book_rules.specs.Blocks.{Block}
 use Rattle.book_rules.specs.Books.{Book, in_use, fault}
 use Rattle.book_rules.specs.Bytes.{block_at, blocks_from, book_of}
 use Rattle.book_rules.specs.Views.{length_blocks}
-use Rattle.book_rules.specs.Kept.{good_lent}
+use Rattle.book_rules.proofs.Kept.{good_lent}
 
 take_blocks : (s : List ℕ) (k u m : ℕ) → take u (blocks_from s k m) ≡ blocks_from s k (u - (u - m))
 unfolding blocks_from

@@ -1,5 +1,5 @@
 -- Document 02, No. 7: a book and its four calls as functions. Only blocks in use are tested, in every call (readings 74, 103).
-use Rattle.std.specs.Prelude.{ℕ, zero, suc, ◌+◌, max, Bool, true, false, not, List, [], ◌∷◌, length, take, set, get_or, eqb, leb, ltb}
+use Rattle.std.specs.Prelude.{ℕ, zero, suc, max, Bool, true, false, not, List, [], ◌∷◌, length, take, set, get_or, eqb, leb, ltb}
 use Rattle.std.proofs.Math.Option.{Option, none, some}
 use Rattle.book_rules.specs.Sums.{word, and_also}
 use Rattle.book_rules.specs.Blocks.{Block, Entry, counts, written, emptied, badge_of, entry_of, unless, or_else, known, is_rule, holds, taken, verdict}

@@ -1,10 +1,10 @@
 -- The view of bytes as blocks and back: what is written is seen, and what is seen writes itself.
-use Prim.Native.Nat.{ℕ, zero, suc, ◌+◌, ◌-◌, ◌*◌, ◌/◌, ◌%◌, ◌<◌, ◌≤◌}
+use Prim.Native.Nat.{ℕ, zero, suc, ◌+◌, ◌*◌, ◌/◌, ◌%◌, ◌<◌, ◌≤◌}
 use native.Mathlib.Omega.{arith}
 use Rattle.std.proofs.Math.Decide.{dec_lt, ℕ_discrete}
-use Rattle.std.specs.Prelude.{◌≡◌, ◌≢◌, length, take, drop, set}
+use Rattle.std.specs.Prelude.{◌≡◌, ◌≢◌, length, drop, set}
 use Rattle.std.proofs.Math.Path.{refl, ap₂}
-use Rattle.std.proofs.Common.{sym, ap, ◌∙◌, subst, length-set, length-append, length-take, take-append-drop, get_or-set_same, get_or-set_other, drop-cons, drop-drop, take-add, drop-set-lt}
+use Rattle.std.proofs.Common.{sym, ap, ◌∙◌, length-set, length-append, get_or-set_same, get_or-set_other, drop-cons, drop-set-lt}
 use mathlib.Core.List.{List, [], ◌∷◌, ◌++◌, append_assoc}
 use Rattle.std.proofs.Math.ListN.{get_or}
 use Rattle.std.proofs.lemmas.List.Edits.{sets}

@@ -1,8 +1,8 @@
 -- Document 02, No. 7: worked scripts, each line computed, under one claim.
-use Rattle.std.specs.Prelude.{ℕ, zero, suc, ◌≡◌, refl, Bool, true, false, List, [], ◌∷◌, ◌++◌, map, length, set, get_or, replicate, ℤ, pos, negsuc, ◌-◌}
+use Rattle.std.specs.Prelude.{ℕ, zero, suc, ◌≡◌, refl, List, [], ◌∷◌, ◌++◌, map, length, set, get_or, replicate, ℤ, pos, negsuc, ◌-◌}
 use Rattle.std.proofs.Math.Option.{Option, none, some}
 use Rattle.rules.specs.Tables.{nums}
-use Rattle.book_rules.specs.Sums.{word, exchanged}
+use Rattle.book_rules.specs.Sums.{exchanged}
 use Rattle.book_rules.specs.Blocks.{Block, Entry}
 use Rattle.book_rules.specs.Books.{Book, Told, add, withdraw, total, read}
 

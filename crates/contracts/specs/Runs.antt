@@ -6,8 +6,8 @@ use Rattle.std.proofs.Math.Path.{refl, ap}
 use Rattle.rules.specs.Services.{Matched, match_picked}
 use Rattle.run_rules.specs.Lent.{Numbers, Lent, cut, opened, advanced}
 use Rattle.run_rules.specs.Calls.{Call, called, given}
-use Rattle.run_rules.specs.Matches.{numbers_of}
-use Rattle.run_rules.specs.Main.{portions_add_up, room_holds}
+use Rattle.run_rules.proofs.Matches.{numbers_of}
+use Rattle.run_rules.proofs.Main.{portions_add_up, room_holds}
 use Rattle.host_numbers.specs.Numbers.{bytes_of, over}
 use Rattle.host.specs.Border.{match_numbers}
 use Rattle.service_runs.specs.Kept.{told, Kept, Advances}

@@ -8,9 +8,9 @@ use Rattle.notation_rules.specs.Letters.{full}
 use Rattle.notation_rules.specs.Names.{resolve}
 use Rattle.notation_rules.specs.Places.{Told, good, faulty, Spot, spots, bare, left, line, column, told, from_spots, from_text}
 use Rattle.notation_rules.specs.Rules.{Rule, rule, the_rule, read_text, write_text}
-use Rattle.notation_rules.specs.RulesBack.{Fine, rule_back}
-use Rattle.notation_rules.specs.Kept.{read_fine}
-use Rattle.notation_rules.specs.Main as N
+use Rattle.notation_rules.proofs.RulesBack.{Fine, rule_back}
+use Rattle.notation_rules.proofs.Kept.{read_fine}
+use Rattle.notation_rules.proofs.Main as N
 use Rattle.notation_read.specs.Read.{Answered, Stopped, refusal, ruled, judged, reading, ran, stopped}
 use Rattle.notation_read.specs.Read as Code
 use Rattle.notation_same.specs.Scans.{Bytes, from_index}

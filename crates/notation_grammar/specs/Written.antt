@@ -7,7 +7,7 @@ use Rattle.notation_rules.specs.LettersBack.{Lettered, Spelled, SpelledAll}
 use Rattle.notation_rules.specs.Names.{calls}
 use Rattle.notation_rules.specs.NamesBack.{Good}
 use Rattle.notation_rules.specs.Rules.{Rule, write_rule, text_of, write_text}
-use Rattle.notation_rules.specs.RulesBack.{Fine, good_rule}
+use Rattle.notation_rules.proofs.RulesBack.{Fine, good_rule}
 use Rattle.notation_same.specs.Scans.{Bytes}
 
 AllBytes : List ℕ → Type 0

@@ -18,7 +18,7 @@ use Rattle.notation_rules.specs.Targets as U
 use Rattle.notation_rules.specs.NamesBack.{Numbered, numbered}
 use Rattle.notation_rules.specs.KeptMachine.{in_width}
 use Rattle.notation_rules.specs.Rules.{rule, write_text}
-use Rattle.notation_rules.specs.RulesBack as R
+use Rattle.notation_rules.proofs.RulesBack as R
 use Rattle.notation_print.specs.Pages.{page, letters}
 use Rattle.notation_print.specs.Inks.{sheet}
 use Rattle.notation_write.specs.Written.{draws, rule_inks}

@@ -18,7 +18,7 @@ use Rattle.notation_rules.specs.PatternsBack as B
 use Rattle.notation_rules.specs.Matchers as M
 use Rattle.notation_rules.specs.Targets as U
 use Rattle.notation_rules.specs.Rules.{Rule, rule, units, write_rule, text_of, write_text, read_text}
-use Rattle.notation_rules.specs.RulesBack as R
+use Rattle.notation_rules.proofs.RulesBack as R
 use Rattle.notation_print.specs.Pages.{page, letter, letters}
 use Rattle.notation_print.specs.Inks.{sheet}
 use Rattle.notation_write.specs.Written.{ink, draws, written, units_inks, rule_inks}

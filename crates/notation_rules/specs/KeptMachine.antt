@@ -3,15 +3,11 @@ use Rattle.std.specs.Prelude.{ℕ, suc, ◌≤◌, Bool, true, false, ◌&&◌, 
 use Rattle.std.proofs.Common.{arith, ◌∙◌, le→leb}
 use Rattle.std.proofs.Math.Path.{◌≡◌}
 use mathlib.Core.List.{List, [], ◌∷◌}
-use Rattle.rules.specs.Forms.{something}
-use Rattle.rules.specs.Forms.{both}
 use Rattle.rules.specs.Numbers.{in_range}
 use Rattle.notation_rules.specs.Tokens.{out_of_range, Outcome, done, refused, Mark}
 use Rattle.notation_rules.specs.Tokens.{Token, code, Step, next, no, bad, Entry, ◌⇒◌, ◌refuses◌, look, ranged, Ended, is, lacks, Machine, stopped, run}
 use Rattle.notation_rules.specs.NamesBack.{Event, event, events_of}
 use Rattle.notation_rules.specs.PatternsBack.{width}
-use Rattle.notation_rules.specs.Patterns.{Mode}
-use Rattle.notation_rules.specs.Places
 
 -- ---- A fact about what a step or an end gives, if it gives something.
 unfoldable pub OnStep : {A : Type 0} → (A → Type 0) → Step A → Type 0

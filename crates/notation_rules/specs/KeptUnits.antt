@@ -3,14 +3,11 @@ use Rattle.std.specs.Prelude.{ℕ, suc, ◌+◌, ◌≤◌, ◌≡◌, refl, tru
 use Rattle.std.proofs.Common.{arith}
 use Rattle.rules.specs.Forms.{Matcher, something, integer, list, multiset, Matchers, no_matchers, ◌▸ᵐ◌, countᵐ}
 use Rattle.rules.specs.Forms.{Value, int, Values, empty, ◌▸◌, count}
-use Rattle.notation_rules.specs.Tokens.{Token, mark, sign, binds, uses, number, wrong, no, numeral}
+use Rattle.notation_rules.specs.Tokens.{Token, mark, sign, binds, uses, number, wrong, numeral}
 use Rattle.notation_rules.specs.NamesBack.{Event, event}
 use Rattle.notation_rules.specs.PatternsBack.{test}
-use Rattle.notation_rules.specs.Patterns.{Frame, opened, want, negative, Mode, have}
 use Rattle.notation_rules.specs.Targets as U
 use Rattle.notation_rules.specs.Matchers as M
-use Rattle.notation_rules.specs.Places
-use Rattle.notation_rules.specs.RulesBack.{Fine}
 use Rattle.notation_rules.specs.KeptMachine.{OnStep, OnEnd, All, look_all, ranged_all, in_width}
 
 -- ---- Targets: no names.

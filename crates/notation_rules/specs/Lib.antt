@@ -1,4 +1,4 @@
--- Egison's notation for rules: its definitions, and what is proved of them. Main states the promises; Worked shows each clause at work. What to
+-- Egison's notation for rules: its definitions, and what is proved of them. Main in proofs/ states the promises; Worked shows each clause at work. What to
 -- believe: Tokens, Patterns, Targets, Matchers, Letters, Names, Places and Rules.
 pub mod Tokens
 pub mod Patterns
@@ -11,12 +11,8 @@ pub mod Names
 pub mod NamesBack
 pub mod Places
 pub mod Rules
-pub mod RulesBack
 pub mod KeptMachine
-pub mod KeptPatterns
 pub mod KeptUnits
-pub mod Kept
 pub mod Quoted
 pub mod Worked
 pub mod Published
-pub mod Main

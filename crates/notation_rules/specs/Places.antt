@@ -1,5 +1,5 @@
 -- Where in the characters a refusal is: tokens with the place where each begins, which without the places are the tokens of Letters.
-use Rattle.std.specs.Prelude.{ℕ, zero, suc, ◌-◌, ◌≤◌, ◌≡◌, refl, true, false, List, [], ◌∷◌, ◌++◌, length, eqb}
+use Rattle.std.specs.Prelude.{ℕ, zero, suc, ◌-◌, ◌≡◌, refl, true, false, List, [], ◌∷◌, ◌++◌, length, eqb}
 use Rattle.std.proofs.Common.{arith, sym, ap, ◌∙◌}
 use Rattle.std.proofs.Math.Option.{Option, none, some}
 use Rattle.notation_rules.specs.Tokens.{Cause, Outcome, done, refused, Raw, Token}
@@ -106,13 +106,3 @@ from_tokens {A} read cs a h = ap (λ rs. read (resolve [] rs)) (sym_bare cs) ∙
     go : (o : Outcome A) → told cs (spots (full []) (length cs) cs) o ≡ good a → o ≡ done a
     go (done b) e = let z : b ≡ a = cc in ap done z
     go (refused c r) e = let z : ◌≡◌ {A = ℕ} 0 1 = cc in absurd (omega arith)
-
--- A refusal is at a character of the text, or at its end.
-pub text_faulty : {A : Type 0} (read : List Token → Outcome A) (cs : List ℕ) (c : Cause) (l k : ℕ) → from_text read cs ≡ faulty c l k
-    → (i : ℕ) × i ≤ length cs × l ≡ line cs i × k ≡ column cs i
-unfolding from_text from_spots told
-text_faulty {A} read cs c l k h = go (read (resolve [] (bare (spots (full []) (length cs) cs)))) h
-  where
-    go : (o : Outcome A) → told cs (spots (full []) (length cs) cs) o ≡ faulty c l k → (i : ℕ) × i ≤ length cs × l ≡ line cs i × k ≡ column cs i
-    go (done b) e = let z : ◌≡◌ {A = ℕ} 0 1 = cc in absurd (omega arith)
-    go (refused d r) e = (length cs - left r (spots (full []) (length cs) cs), omega arith, cc, cc)

@@ -2,7 +2,7 @@
 -- (Source documents 000 and 003. The gate plays nine of them; seven were published in the order of No. 10.)
 use Prim.Native.String.{String}
 use Rattle.std.specs.Prelude.{◌≡◌, refl, List, [], ◌∷◌, ℤ, pos, negsuc}
-use Rattle.std.proofs.Math.Option.{none, some}
+use Rattle.std.proofs.Math.Option.{some}
 use Rattle.rules.specs.Forms.{Matcher, Pattern, Value}
 use Rattle.rules.specs.Reading as W
 use Rattle.rules.specs.Reading.{Verdict, ok, fault}

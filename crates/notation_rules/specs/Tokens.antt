@@ -1,5 +1,5 @@
 -- The tokens of the notation, and the one machine that reads them: a fold of a step, which ends at the first token that has none.
-use Rattle.std.specs.Prelude.{ℕ, zero, suc, ◌-◌, ◌≡◌, refl, Bool, true, false, length, eqb, T, ℤ, pos, negsuc}
+use Rattle.std.specs.Prelude.{ℕ, zero, suc, ◌≡◌, refl, Bool, true, false, length, eqb, T, ℤ, pos, negsuc}
 use Rattle.std.proofs.Math.Path.{ap}
 use mathlib.Core.List.{List, [], ◌∷◌}
 use Rattle.rules.specs.Numbers.{in_range}

@@ -1,7 +1,7 @@
 -- Document 02, No. 8: worked scripts, each line computed, under one claim.
 use Rattle.std.specs.Prelude.{ℕ, ◌+◌, ◌≡◌, refl, List, [], ◌∷◌, ◌++◌, map, length, take, drop, replicate, ℤ, pos}
 use Rattle.rules.specs.Tables.{held, nums, minus, braces}
-use Rattle.run_rules.specs.Lent.{Numbers, Lent, Opened, opened, Advanced, advanced}
+use Rattle.run_rules.specs.Lent.{Numbers, Lent, opened, advanced}
 
 -- A line of a script: an advance by some steps that lends the first words of the game's room, the numbers it must answer, where it must have written and
 -- what; or the game writes one word into the whole room.

@@ -25,8 +25,8 @@ use Rattle.tests.specs.declared.Judgement.TheVariants.{Accepted, Refused}
 use Rattle.tests.specs.declared.TargetJudgement.{TargetJudgement}
 use Rattle.tests.specs.declared.TargetJudgement.TheVariants as targets
 use Rattle.run_rules.specs.Lent.{Terms, Held, going, Opened, turned_away, begun as begins, opened}
-use Rattle.run_rules.specs.Matches.{rule_refusal, target_refusal}
-use Rattle.run_rules.specs.Main.{unknown_at_opening, unknown_dialect_at_opening, rule_refused_at_opening, target_refused_at_opening, begun_at_opening}
+use Rattle.run_rules.proofs.Matches.{rule_refusal, target_refusal}
+use Rattle.run_rules.proofs.Main.{unknown_at_opening, unknown_dialect_at_opening, rule_refused_at_opening, target_refused_at_opening, begun_at_opening}
 use Rattle.tables.specs.Slot.{no_slots, view_of}
 use Rattle.value_places.specs.Held.{put, part, whole_at}
 use Rattle.value_rows.specs.Row.{form_by, nothing}

@@ -20,7 +20,7 @@ use Rattle.tests.specs.declared.Judgement.TheVariants.{Accepted, Refused}
 use Rattle.tests.specs.declared.TargetJudgement.{TargetJudgement}
 use Rattle.tests.specs.declared.TargetJudgement.TheVariants as targets
 use Rattle.run_rules.specs.Lent.{Terms, Numbers, Held, ended, Lent, told as tells, held_after, room_after, Advanced, go_on, unlike as unlikes, advanced}
-use Rattle.run_rules.specs.Calls.{like, other}
+use Rattle.run_rules.proofs.Calls.{like, other}
 use Rattle.value_rows.specs.declared.Binding.{Binding}
 use Rattle.search_step.specs.declared.State.{State}
 use Rattle.search_atom.specs.Leaves.{when}

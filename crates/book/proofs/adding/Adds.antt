@@ -14,12 +14,12 @@ use Rattle.book_rules.specs.Sums.{word, and_also}
 use Rattle.book_rules.specs.Blocks.{Block, split, Entry, counts, laid, written, unless, or_else, known, taken}
 use Rattle.book_rules.specs.Books.{Book, Told, in_use, fault, unless_refused, changed, dialect_for, proper, is_some, slot, add_fault, add_at, add_in, add}
 use Rattle.book_rules.specs.Bytes.{words_from, block_at, blocks_from, book_of, bytes_of, holding}
-use Rattle.book_rules.specs.Kept.{Slot, lowest, grown, slot_is}
+use Rattle.book_rules.proofs.Kept.{Slot, lowest, grown, slot_is}
 use Rattle.book_rules.specs.Noticed.{Sized, good_number}
-use Rattle.book_rules.specs.Round.{Dialect, first, second, dialect_is, length_split, length_sealed}
+use Rattle.book_rules.proofs.Round.{Dialect, first, second, dialect_is, length_split, length_sealed}
 use Rattle.book_rules.specs.Views.{Bytes, length_bytes, length_blocks, block_sized, within_sets, words_back}
-use Rattle.book_rules.specs.Walks.{First, or_second, last_test, and_also_fst, and_also_snd}
-use Rattle.book_rules.specs.Walks as walks
+use Rattle.book_rules.proofs.Walks.{First, or_second, last_test, and_also_fst, and_also_snd}
+use Rattle.book_rules.proofs.Walks as walks
 use Rattle.book.specs.Testing.{found, Answered}
 use Rattle.book.specs.Changes.{Refusal, ChangeTold, written_at, added_at, own_refusal}
 use Rattle.book.specs.declared.testing.Found.{Found}

@@ -13,8 +13,8 @@ use borrow.Author.Tests.{lt-ltb, le-ltb, eq-eqb, ne_eqb}
 use Rattle.book_rules.specs.Blocks.{Block, Entry, badge_of, entry_of, live_formed, holds, taken, verdict}
 use Rattle.book_rules.specs.Books.{Book, Told, in_use, fault, unless_refused, place, read_at, read}
 use Rattle.book_rules.specs.Bytes.{block_at, blocks_from, book_of}
-use Rattle.book_rules.specs.Round.{none_taken}
-use Rattle.book_rules.specs.Walks.{untaken_place}
+use Rattle.book_rules.proofs.Round.{none_taken}
+use Rattle.book_rules.proofs.Walks.{untaken_place}
 use Rattle.book_blocks.specs.Heads.{ReadAs}
 use Rattle.book.specs.Testing.{bears, found, Answered}
 use Rattle.book.specs.Lookup.{Read, nothing, rule, NoRule, RuleTold, block_fault, badge_unless, rule_unless, NoBlock, BlockTold}

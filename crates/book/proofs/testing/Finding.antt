@@ -12,8 +12,8 @@ use Rattle.book_rules.specs.Sums.{and_also}
 use Rattle.book_rules.specs.Blocks.{Block, badge_of, holds, taken}
 use Rattle.book_rules.specs.Books.{place}
 use Rattle.book_rules.specs.Bytes.{block_at, blocks_from}
-use Rattle.book_rules.specs.Round.{none_taken}
-use Rattle.book_rules.specs.Walks.{taken_place, untaken_place}
+use Rattle.book_rules.proofs.Round.{none_taken}
+use Rattle.book_rules.proofs.Walks.{taken_place, untaken_place}
 use Rattle.book.specs.Testing.{bears, found, before}
 use Rattle.book.specs.declared.testing.Found.{Found}
 use Rattle.book.specs.declared.testing.Found.TheVariants.{At, Nothing}

@@ -12,11 +12,11 @@ use Rattle.book_rules.specs.Sums.{word}
 use Rattle.book_rules.specs.Blocks.{Block, Entry, emptied, unless, or_else, known, holds, taken, verdict}
 use Rattle.book_rules.specs.Books.{Book, Told, in_use, fault, unless_refused, changed, place, withdraw_at, withdraw_from, withdraw}
 use Rattle.book_rules.specs.Bytes.{block_at, blocks_from, book_of, bytes_of, holding}
-use Rattle.book_rules.specs.Main.{bytes_stay}
+use Rattle.book_rules.proofs.Main.{bytes_stay}
 use Rattle.book_rules.specs.Noticed.{Sized}
-use Rattle.book_rules.specs.Sizes.{emptied_sized}
+use Rattle.book_rules.proofs.Sizes.{emptied_sized}
 use Rattle.book_rules.specs.Views.{Bytes, holds_one}
-use Rattle.book_rules.specs.Walks.{taken_place, untaken_place, verdict_version}
+use Rattle.book_rules.proofs.Walks.{taken_place, untaken_place, verdict_version}
 use Rattle.book.specs.Testing.{found, Answered}
 use Rattle.book.specs.Changes.{Refusal, ChangeTold, written_at, withdrawn_at}
 use Rattle.book.specs.declared.testing.Found.{Found}

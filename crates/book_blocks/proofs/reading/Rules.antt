@@ -13,7 +13,7 @@ use borrow.Author.Tests.{leb-true, ne_eqb}
 use Rattle.book_rules.specs.Sums.{word, and_also}
 use Rattle.book_rules.specs.Blocks.{Block, joined, length_in, dialect_in, zeros, is_rule, Entry, entry_of, live_formed}
 use Rattle.book_rules.specs.Bytes.{word_at, words_from, block_at}
-use Rattle.book_rules.specs.Walks.{and_also_fst, and_also_snd}
+use Rattle.book_rules.proofs.Walks.{and_also_fst, and_also_snd}
 use Rattle.book_blocks.specs.Heads.{ReadAs}
 use Rattle.book_blocks.proofs.Seen.{word_seen, joined_seen, length_joined}
 

@@ -10,7 +10,7 @@ use borrow.Author.Rules.{rules}
 use Rattle.book_rules.specs.Sums.{word, placed, due}
 use Rattle.book_rules.specs.Blocks.{unsigned, split, Entry, counts, laid, sealed, written, emptied}
 use Rattle.book_rules.specs.Bytes.{word_at, words_from, block_at, bytes_of}
-use Rattle.book_rules.specs.Round.{length_split}
+use Rattle.book_rules.proofs.Round.{length_split}
 use Rattle.book_rules.specs.Views.{length_bytes, within_sets, words_back}
 use Rattle.book_blocks.specs.Heads.{entry}
 use Rattle.book_blocks.proofs.Seen.{word_seen}

@@ -1,19 +1,19 @@
 -- What is promised of the rule book, each in a line or two. The other modules hold the proofs.
-use Rattle.std.specs.Prelude.{ℕ, zero, suc, ◌+◌, ◌*◌, ◌/◌, ◌<◌, ◌≤◌, ◌≡◌, refl, ◌≢◌, List, [], length, get_or, set}
+use Rattle.std.specs.Prelude.{ℕ, ◌+◌, ◌/◌, ◌<◌, ◌≡◌, ◌≢◌, List, [], length, get_or, set}
 use native.Mathlib.Omega.{arith}
 use Rattle.std.proofs.Common.{sym, ◌∙◌, subst}
 use Rattle.std.proofs.Math.Path.{ap}
-use Rattle.std.proofs.Math.Option.{none, some}
+use Rattle.std.proofs.Math.Option.{some}
 use Rattle.book_rules.specs.Sums.{word, exchanged}
 use Rattle.book_rules.specs.Blocks.{Block, Entry}
-use Rattle.book_rules.specs.Books.{Book, in_use, fault, live, total, read, withdraw, add_fault, add}
+use Rattle.book_rules.specs.Books.{Book, fault, total, read, withdraw, add_fault, add}
 use Rattle.book_rules.specs.Noticed.{Sized, Refused}
-use Rattle.book_rules.specs.Round.{Ranged}
-use Rattle.book_rules.specs.Kept as kept
-use Rattle.book_rules.specs.Added as added
-use Rattle.book_rules.specs.Damaged as damage
-use Rattle.book_rules.specs.History as histories
-use Rattle.book_rules.specs.Bytes.{block_at, blocks_from, book_of, holding}
+use Rattle.book_rules.proofs.Round.{Ranged}
+use Rattle.book_rules.proofs.Kept as kept
+use Rattle.book_rules.proofs.Added as added
+use Rattle.book_rules.proofs.Damaged as damage
+use Rattle.book_rules.proofs.History as histories
+use Rattle.book_rules.specs.Bytes.{block_at, book_of, holding}
 use Rattle.book_rules.specs.Views as views
 
 -- "Reading back what was written": an add that is not refused is read back, word for word, and every other badge is read as before.

@@ -1,9 +1,9 @@
 -- Document 02, No. 7, "reading back what was written": a block that an add writes is good, and says what was added.
-use Prim.Native.Nat.{ℕ, zero, suc, ◌+◌, ◌-◌, ◌*◌, ◌/◌, ◌%◌, ◌<◌, ◌≤◌, ◌^◌}
+use Prim.Native.Nat.{ℕ, zero, suc, ◌+◌, ◌-◌, ◌*◌, ◌/◌, ◌%◌, ◌<◌, ◌≤◌}
 use native.Mathlib.Omega.{arith}
-use Rattle.std.specs.Prelude.{◌≡◌, Bool, not, ◌≢◌, get_or, leb, ltb, T, ℤ, pos, negsuc}
+use Rattle.std.specs.Prelude.{◌≡◌, Bool, ◌≢◌, leb, ltb, T, ℤ, pos, negsuc}
 use Rattle.std.proofs.Math.Path.{refl, sym, ap, ap₂}
-use Rattle.std.proofs.Common.{◌∙◌, subst, eqb→eq, lt→ltb, ltb→lt, leb→le, le→leb, nltb→le}
+use Rattle.std.proofs.Common.{◌∙◌, subst, eqb→eq, lt→ltb, ltb→lt, le→leb}
 use Rattle.std.proofs.Math.Bool.{true, false}
 use mathlib.Core.List.{List, [], ◌∷◌, ◌++◌, append_assoc}
 use Rattle.std.proofs.Math.ListN.{length, take, drop, replicate, length-append, length-replicate}

@@ -1,7 +1,7 @@
 -- What is promised of a run in portions, each in a few lines. The other modules hold the proofs. The words that the statements use are defined in Lent, in
 -- Calls (called: after some calls; given: their portions' sum) and in Matches (numbers_of, refusal; portioned, sum: portions one after the other).
 use Rattle.std.specs.Prelude.{ℕ, ◌+◌, min, ◌≡◌, refl, ◌≢◌, ◌↔◌, List, ◌++◌, length, take, drop, ℤ}
-use Rattle.std.proofs.Common.{arith, sym, ◌∙◌}
+use Rattle.std.proofs.Common.{sym, ◌∙◌}
 use Rattle.std.proofs.Math.Path.{ap}
 use Rattle.std.proofs.Math.Option.{none, some}
 use Rattle.rules.specs.Forms.{Value}
@@ -10,9 +10,10 @@ use Rattle.rules.specs.Rows.{Form, form_of}
 use Rattle.rules.specs.Services.{Rule, accepted, refused, rule_in, target_of, Matched, cause_in, match_picked}
 use Rattle.forms.specs.Faults.{Fault}
 use Rattle.run_rules.specs.Lent.{cut, Numbers, Lent, turned_away, begun, opened, go_on, unlike, Advanced, advanced}
-use Rattle.run_rules.specs.Calls.{like, other, held_zero, room_zero, Call, called, given}
-use Rattle.run_rules.specs.Matches.{numbers_of, matched_by, portioned, sum, as_one, calls_told, calls_room, calls_size, again, zero_again, refusal, refused_ended}
-use Rattle.run_rules.specs.Matches.{opening_unknown, opening_unknown_dialect, opening_rule_refused, opening_target_refused, opening_refused, opening_begins, match_never_19}
+use Rattle.run_rules.specs.Calls.{Call, called, given}
+use Rattle.run_rules.proofs.Calls.{like, other, held_zero, room_zero}
+use Rattle.run_rules.proofs.Matches.{numbers_of, matched_by, portioned, sum, as_one, calls_told, calls_room, calls_size, again, zero_again, refusal, refused_ended}
+use Rattle.run_rules.proofs.Matches.{opening_unknown, opening_unknown_dialect, opening_rule_refused, opening_target_refused, opening_refused, opening_begins, match_never_19}
 
 -- ---- "Opening makes the checks 1 to 6; a run refused there has ended." 20 and, after it, 22 come before them.
 
@@ -79,7 +80,7 @@ module _ (form dialect : ℕ) (ms ps ts : List ℤ) (size : ℕ) (calls : List C
   pub unlike_exactly : (n : ℕ) (room : List ℤ) → (advanced n room lent).numbers.answer ≡ 19 ↔ length room ≢ size
   unfolding numbers_of unlike
   unlike_exactly n room = (
-    λ a e. let k = ap (λ (x : Numbers). x.answer) (portions_add_up n room e) in
+    λ a e. let k = ap (λ (x : Numbers). x.answer) (calls_told form dialect ms ps ts size calls n room e) in
         match_never_19 form dialect ms ps ts (cut (given size calls + n)) room (sym k ∙ a),
     λ h. ap (λ (x : Advanced). x.numbers.answer) (other n room lent (λ e. h (e ∙ calls_size form dialect ms ps ts size calls))),
   )

@@ -1,5 +1,5 @@
 -- Document 02, No. 7, for whole calls: a refused call changes nothing; of a good book where an add goes, the total, and what is found.
-use Prim.Native.Nat.{ℕ, zero, suc, ◌-◌, ◌<◌, ◌≤◌, min}
+use Prim.Native.Nat.{ℕ, zero, suc, ◌<◌, ◌≤◌, min}
 use native.Mathlib.Omega.{arith}
 use Rattle.std.proofs.Math.Path.{◌≡◌, refl, sym, ap}
 use Rattle.std.proofs.Common.{◌∙◌, subst, length-take, eqb→eq, leb→le, le→leb, ltb→lt}
@@ -9,8 +9,8 @@ use Rattle.std.proofs.Math.Option.{Option, none, some}
 use Rattle.book_rules.specs.Sums.{and_also}
 use Rattle.book_rules.specs.Blocks.{Block, Entry, badge_of, unless, or_else, holds, taken}
 use Rattle.book_rules.specs.Books.{Book, in_use, walk, fault, Told, unless_refused, changed, place, withdrawn, live, total, read_at, read, withdraw_from, withdraw, growth, slot_or, slot, add_fault, add_in, add}
-use Rattle.book_rules.specs.Round.{is_true, is_false, holds_true}
-use Rattle.book_rules.specs.Walks.{holds_zero, held_is, First, place_some, place_none, or_first, or_second, or_both, last_test, and_also_fst, and_also_snd}
+use Rattle.book_rules.proofs.Round.{is_true, is_false, holds_true}
+use Rattle.book_rules.proofs.Walks.{holds_zero, held_is, First, place_some, place_none, or_first, or_second, or_both, last_test, and_also_fst, and_also_snd}
 
 -- ---- (e) A refused call changes no block.
 

@@ -3,17 +3,17 @@ use Rattle.std.specs.Prelude.{ℕ, zero, suc, ◌+◌, ◌<◌, ◌≤◌, max, 
 use Rattle.std.proofs.Math.Decide.{ℕ_discrete}
 use Rattle.std.proofs.Common.{arith, sym, ap, ◌∙◌, subst}
 use Rattle.std.proofs.Math.Dec.{leb-zero}
-use Rattle.book_rules.specs.Blocks.{Block, Entry, known, verdict, written, emptied, unless, or_else, taken}
-use Rattle.book_rules.specs.Books.{Book, in_use, walk, fault, live, unless_refused, total, withdraw, withdraw_from, place, add_fault, add_in, add, slot}
-use Rattle.book_rules.specs.Round.{Ranged}
-use Rattle.book_rules.specs.Walks.{First, verdict_version}
-use Rattle.book_rules.specs.Sizes.{written_sized, emptied_sized}
+use Rattle.book_rules.specs.Blocks.{Block, Entry, known, unless, or_else, taken}
+use Rattle.book_rules.specs.Books.{Book, in_use, walk, fault, live, total, withdraw, add_fault, add_in, add, slot}
+use Rattle.book_rules.proofs.Round.{Ranged}
+use Rattle.book_rules.proofs.Walks.{verdict_version}
+use Rattle.book_rules.proofs.Sizes.{written_sized, emptied_sized}
 use Rattle.book_rules.specs.Noticed.{Sized, Refused, good_number}
 use Rattle.book_rules.specs.Sums.{word, exchanged}
-use Rattle.book_rules.specs.Kept.{Slot, lowest, grown, in_use_long, good_lent, refused_kept, total_is}
-use Rattle.book_rules.specs.Added.{fit, at, add_where, add_writes, add_leaves, add_used, add_keeps_good, total_added}
-use Rattle.book_rules.specs.Withdrawn.{gone, gone_low, withdraw_writes, withdraw_leaves, withdraw_used, withdraw_keeps_good, total_withdrawn}
-use Rattle.book_rules.specs.Damaged.{own, own_good, damaged, change_told, exchange_told}
+use Rattle.book_rules.proofs.Kept.{Slot, lowest, grown, in_use_long, good_lent, refused_kept, total_is}
+use Rattle.book_rules.proofs.Added.{fit, at, add_where, add_writes, add_leaves, add_used, add_keeps_good, total_added}
+use Rattle.book_rules.proofs.Withdrawn.{gone, gone_low, withdraw_writes, withdraw_leaves, withdraw_used, withdraw_keeps_good, total_withdrawn}
+use Rattle.book_rules.proofs.Damaged.{own, own_good, damaged, change_told, exchange_told}
 
 pub data Call : Type 0 where
   adding : (e : Entry) → Ranged e.matcher → Ranged e.pattern → e.badge < 65536 → Call

@@ -11,10 +11,11 @@ use Rattle.notation_rules.specs.Targets as U
 use Rattle.notation_rules.specs.Matchers as M
 use Rattle.notation_rules.specs.PatternsBack as P
 use Rattle.notation_rules.specs.NamesBack.{Numbered, numbered}
-use Rattle.notation_rules.specs.Places.{Told, good, faulty, line, column, text_faulty}
+use Rattle.notation_rules.specs.Places.{Told, good, faulty, line, column}
+use Rattle.notation_rules.proofs.Places.{text_faulty}
 use Rattle.notation_rules.specs.Rules.{Rule, the_rule, write_text, read_text, matcher_text, read_matcher, pattern_text, read_pattern, target_text, read_target}
-use Rattle.notation_rules.specs.RulesBack as R
-use Rattle.notation_rules.specs.Kept.{read_fine}
+use Rattle.notation_rules.proofs.RulesBack as R
+use Rattle.notation_rules.proofs.Kept.{read_fine}
 
 -- ---- What is written is read back: a rule, a matcher, a pattern whose variables the library's test 3 accepts, a target.
 pub rule_read_back : (r : Rule) → R.Fine r → read_text (write_text r) ≡ good r

@@ -1,11 +1,11 @@
 -- Document 02, No. 7: a block that a call writes has 256 words of 16 bits. So (a) and (b) speak of every block of a book that calls have made.
-use Rattle.std.specs.Prelude.{ℕ, zero, suc, ◌+◌, ◌-◌, ◌*◌, ◌/◌, ◌%◌, ◌<◌, ◌≤◌, ◌≡◌, refl, Bool, true, false, List, [], ◌∷◌, ◌++◌, length, replicate, eqb, ltb, T, ℤ, pos, negsuc}
-use Rattle.std.proofs.Common.{arith, sym, ap, ◌∙◌, subst, eqb→eq, ltb→lt}
+use Rattle.std.specs.Prelude.{ℕ, zero, suc, ◌+◌, ◌-◌, ◌*◌, ◌/◌, ◌%◌, ◌<◌, ◌≤◌, ◌≡◌, refl, Bool, true, false, List, [], ◌∷◌, ◌++◌, length, replicate, eqb, T, ℤ, pos, negsuc}
+use Rattle.std.proofs.Common.{arith, sym, ◌∙◌, eqb→eq, ltb→lt}
 use Rattle.rules.specs.Numbers.{in_range}
 use Rattle.book_rules.specs.Sums.{word, placed, due}
-use Rattle.book_rules.specs.Blocks.{Block, unsigned, split, Entry, counts, laid, sealed, written, emptied, known}
+use Rattle.book_rules.specs.Blocks.{unsigned, split, Entry, counts, laid, sealed, written, emptied, known}
 use Rattle.book_rules.specs.Noticed.{Sized}
-use Rattle.book_rules.specs.Round.{holds_true, Ranged, ranged_append, Fit, Dialect, first, second, dialect_is, length_laid, length_sealed}
+use Rattle.book_rules.proofs.Round.{holds_true, Ranged, ranged_append, Fit, Dialect, first, second, dialect_is, length_laid, length_sealed}
 
 abbrev Small : List ℕ → Type 0
 Small [] = Unit {0}

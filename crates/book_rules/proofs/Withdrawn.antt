@@ -1,7 +1,7 @@
 -- Document 02, No. 7: a withdrawal that is not refused: the block is emptied, the badge is not live any more, every other is read as before.
-use Prim.Native.Nat.{ℕ, suc, ◌+◌, ◌-◌, ◌<◌, ◌≤◌, max}
+use Prim.Native.Nat.{ℕ, suc, ◌+◌, ◌<◌, ◌≤◌, max}
 use native.Mathlib.Omega.{arith}
-use Rattle.std.specs.Prelude.{◌≡◌, not, ◌≢◌, length, set}
+use Rattle.std.specs.Prelude.{◌≡◌, ◌≢◌, length, set}
 use Rattle.std.proofs.Math.Path.{refl, ap, subst}
 use Rattle.std.proofs.Common.{sym, ◌∙◌, length-set, eqb→eq}
 use Rattle.std.proofs.Math.Bool.{true, false}
@@ -13,9 +13,9 @@ use Rattle.std.proofs.Math.Dec.{eqb, T}
 use Rattle.book_rules.specs.Sums.{word}
 use Rattle.book_rules.specs.Blocks.{Block, emptied, badge_of, entry_of, unless, or_else, known, holds, taken, verdict}
 use Rattle.book_rules.specs.Books.{Book, in_use, walk, fault, Told, unless_refused, changed, place, withdrawn, live, total, read_at, read, withdraw_at, withdraw_from, withdraw}
-use Rattle.book_rules.specs.Round.{is_false, holds_true, emptied_badge, emptied_good, none_taken}
-use Rattle.book_rules.specs.Walks.{holds_zero, verdict_version, taken_out, taken_place, untaken_place, place_other, get_d_take, stored, take_stored, held_is, walk_stored, walk_at, First, place_some, live_withdrawn, or_first, or_second, last_test}
-use Rattle.book_rules.specs.Kept.{good_walk, good_lent, good_book, in_use_long, total_is, found_is, withdrawn_holds}
+use Rattle.book_rules.proofs.Round.{is_false, holds_true, emptied_badge, emptied_good, none_taken}
+use Rattle.book_rules.proofs.Walks.{holds_zero, verdict_version, taken_out, taken_place, untaken_place, place_other, get_d_take, stored, take_stored, held_is, walk_stored, walk_at, First, place_some, live_withdrawn, or_first, or_second, last_test}
+use Rattle.book_rules.proofs.Kept.{good_walk, good_lent, good_book, in_use_long, total_is, found_is, withdrawn_holds}
 
 module _ (x : ℕ) (b : Book) (ok : or_else (fault b) (unless (taken x (in_use b)) 23) ≡ 0) where
   was_good : fault b ≡ 0

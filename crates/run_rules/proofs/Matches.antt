@@ -1,6 +1,6 @@
 -- A run that was opened and called: what it tells and writes is what one match does.
 use Rattle.std.specs.Prelude.{ℕ, zero, suc, ◌+◌, ◌-◌, ◌≤◌, ◌≡◌, ◌≢◌, Bool, true, false, leb, ℤ}
-use Rattle.std.proofs.Common.{zero-add, add-zero, add_assoc, ◌∙◌, take-append-drop, drop-drop}
+use Rattle.std.proofs.Common.{zero-add, add-zero, add_assoc, ◌∙◌, drop-drop}
 use Rattle.std.proofs.Math.Nat.{sub-zero}
 use native.Mathlib.Omega.{arith}
 use Rattle.std.proofs.Math.Path.{refl, sym, ap, ap₂, subst}
@@ -19,10 +19,12 @@ use Rattle.rules.specs.Services.{Rule, Judged, accepted, refused, test, rule_in,
 use Rattle.rules.specs.Services
 use Rattle.forms.specs.Faults.{RuleFault, not_matcher, not_pattern, misnumbered, misfit, rule_accepted, rule_refused, target_refused, Fault, of_rule, of_target}
 use Rattle.run_rules.specs.Lent.{Terms, run, cut, Numbers, Held, ended, going, Lent, Opened, turned_away, begun, open_target, open_rule, opened_in, opened, allowed}
-use Rattle.run_rules.specs.Lent.{since, written_at, told, held_after, room_after, Advanced, go_on, unlike, advanced}
-use Rattle.run_rules.specs.Splits.{behind, Split, over, further, split, written_fits}
-use Rattle.run_rules.specs.Calls.{like, other, same_numbers, held_add, told_add, held_zero, held_ended, none_written, over_held, further_held, second_steps}
-use Rattle.run_rules.specs.Calls.{second_free, allowed_add, Call, called, given, called_held}
+use Rattle.run_rules.specs.Lent.{since, written_at, told, held_after, room_after, Advanced, go_on, advanced}
+use Rattle.run_rules.proofs.Splits.{behind, Split, over, further, split, written_fits}
+use Rattle.run_rules.specs.Calls.{none_written}
+use Rattle.run_rules.proofs.Calls.{like, same_numbers, held_add, told_add, held_zero, held_ended, over_held, further_held, second_steps}
+use Rattle.run_rules.specs.Calls.{Call, called, given}
+use Rattle.run_rules.proofs.Calls.{second_free, allowed_add, called_held}
 
 -- The numbers of a match; and a call's numbers with its room, as match gives them.
 unfoldable pub numbers_of : Matched → Numbers

@@ -1,5 +1,5 @@
 -- Document 02, No. 7: an add that is not refused: the lowest withdrawn block, reading back, the total.
-use Rattle.std.specs.Prelude.{ℕ, suc, ◌+◌, ◌-◌, ◌<◌, ◌≤◌, max, ◌≡◌, Bool, false, not, ◌≢◌, set, leb}
+use Rattle.std.specs.Prelude.{ℕ, suc, ◌+◌, ◌<◌, ◌≤◌, max, ◌≡◌, Bool, false, not, ◌≢◌, set, leb}
 use native.Mathlib.Omega.{arith}
 use Rattle.std.proofs.Math.Path.{refl, ap, subst}
 use Rattle.std.proofs.Common.{sym, ◌∙◌, length-set, leb→le}
@@ -11,9 +11,9 @@ use Rattle.std.proofs.Math.Seq.{get_or-set_same, get_or-set_other}
 use Rattle.std.proofs.Math.Dec.{eqb, T}
 use Rattle.book_rules.specs.Blocks.{Block, Entry, counts, written, badge_of, entry_of, unless, or_else, known, holds, taken, verdict}
 use Rattle.book_rules.specs.Books.{Book, in_use, walk, fault, Told, unless_refused, changed, place, withdrawn, live, total, read_at, read, dialect_for, proper, slot, is_some, add_fault, add_at, add_in, add}
-use Rattle.book_rules.specs.Round.{is_false, holds_true, eqb_other, Ranged, Fit, entry_back, written_badge, written_good}
-use Rattle.book_rules.specs.Walks.{place_other, stored, take_stored, holds_own, held_is, walk_stored, place_some, place_stored, live_added, or_first, or_second, last_test, and_also_fst, and_also_snd}
-use Rattle.book_rules.specs.Kept.{good_walk, good_lent, good_book, Slot, lowest, slot_is, Place, placed_by, total_is, found_is, withdrawn_holds}
+use Rattle.book_rules.proofs.Round.{is_false, holds_true, eqb_other, Ranged, Fit, entry_back, written_badge, written_good}
+use Rattle.book_rules.proofs.Walks.{place_other, stored, take_stored, holds_own, held_is, walk_stored, place_some, place_stored, live_added, or_first, or_second, last_test, and_also_fst, and_also_snd}
+use Rattle.book_rules.proofs.Kept.{good_walk, good_lent, good_book, Slot, slot_is, Place, placed_by, total_is, found_is, withdrawn_holds}
 
 some_is : (o : Option ℕ) → is_some o ≡ true → (i : ℕ) × (o ≡ some i)
 unfolding is_some

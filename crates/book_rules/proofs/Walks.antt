@@ -1,16 +1,16 @@
 -- Document 02, No. 7: what becomes of the tests, of the live rules and of the first place when one block of a book is replaced, or one more comes into use.
-use Prim.Native.Nat.{ℕ, zero, suc, ◌+◌, ◌-◌, ◌<◌, ◌≤◌, max}
+use Prim.Native.Nat.{ℕ, zero, suc, ◌+◌, ◌<◌, ◌≤◌, max}
 use native.Mathlib.Omega.{arith}
 use Rattle.std.proofs.Math.Path.{◌≡◌, refl, ap, subst}
 use Rattle.std.proofs.Common.{sym, ap₂, ◌∙◌, eqb→eq}
 use Rattle.std.specs.Prelude.{Bool, true, false, not, ◌≢◌, length, get_or, take, set, eqb}
 use Rattle.std.proofs.Math.Option.{Option, none, some}
-use mathlib.Core.List.{List, [], ◌∷◌, ◌++◌}
+use mathlib.Core.List.{List, [], ◌∷◌}
 use Rattle.std.proofs.Math.Dec.{T}
 use Rattle.book_rules.specs.Sums.{word, checked, and_also}
 use Rattle.book_rules.specs.Blocks.{Block, badge_of, unless, or_else, known, formed, holds, taken, verdict}
 use Rattle.book_rules.specs.Books.{walk, place, withdrawn, live}
-use Rattle.book_rules.specs.Round.{is_true, is_false, holds_true, eqb_self, eqb_other, none_taken}
+use Rattle.book_rules.proofs.Round.{is_true, is_false, holds_true, eqb_self, eqb_other, none_taken}
 
 -- Block i becomes b; where i is one past the end, b comes behind the rest.
 unfoldable pub stored : List Block → ℕ → Block → List Block

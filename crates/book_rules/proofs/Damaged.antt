@@ -1,5 +1,5 @@
 -- Document 02, No. 7: every call on a damaged book tells the damage.
-use Prim.Native.Nat.{ℕ, zero, suc, ◌+◌, ◌-◌, ◌<◌, ◌≤◌, max}
+use Prim.Native.Nat.{ℕ, zero, suc, ◌+◌, ◌<◌, ◌≤◌, max}
 use native.Mathlib.Omega.{arith}
 use Rattle.std.specs.Prelude.{◌≡◌, ◌≢◌, get_or, set}
 use Rattle.std.proofs.Common.{sym, ◌∙◌, subst}
@@ -9,9 +9,10 @@ use Rattle.std.proofs.Math.ListN.{length, take}
 use Rattle.book_rules.specs.Sums.{word, exchanged}
 use Rattle.book_rules.specs.Blocks.{Block, Entry, or_else, verdict}
 use Rattle.book_rules.specs.Books.{Book, in_use, walk, fault, unless_refused, total, read, withdraw, add_fault, add}
-use Rattle.book_rules.specs.Noticed.{Sized, Refused, by_check, by_number, change_refused, exchange_refused_anyhow, good_checked}
-use Rattle.book_rules.specs.Walks.{get_d_take, stored, take_stored, walk_at, walk_told}
-use Rattle.book_rules.specs.Kept.{good_walk, good_lent, in_use_long}
+use Rattle.book_rules.specs.Noticed.{Sized, Refused, by_check, by_number, good_checked}
+use Rattle.book_rules.proofs.Noticed.{change_refused, exchange_refused_anyhow}
+use Rattle.book_rules.proofs.Walks.{get_d_take, stored, take_stored, walk_at, walk_told}
+use Rattle.book_rules.proofs.Kept.{good_walk, good_lent, in_use_long}
 
 unfoldable pub damaged : Book → ℕ → Block → Book
 damaged b k c = record { lent = set b.lent k c; used = b.used }

@@ -4,13 +4,15 @@ use Rattle.std.specs.Prelude.{◌≡◌, true, false, List, [], ◌∷◌, T}
 use Rattle.std.proofs.Math.Option.{Option, none, some}
 use Rattle.rules.specs.Forms.{Matcher, Pattern, Value}
 use Rattle.notation_rules.specs.Tokens.{Outcome, done, matching, by, with', Token, mark, code, look, stopped, whole, run}
-use Rattle.notation_rules.specs.NamesBack.{events, Numbered, Good, good, good_mark, good_target, good_matcher, good_nothing}
+use Rattle.notation_rules.specs.NamesBack.{events, Numbered, Good, good_mark, good_target, good_matcher, good_nothing}
+use Rattle.notation_rules.proofs.NamesBack.{good}
 use Rattle.notation_rules.specs.Places.{from_text, text_back}
 use Rattle.notation_rules.specs.Places
 use Rattle.notation_rules.specs.Targets as U
 use Rattle.notation_rules.specs.Matchers as M
 use Rattle.notation_rules.specs.Patterns as P
 use Rattle.notation_rules.specs.PatternsBack as B
+use Rattle.notation_rules.proofs.PatternsBack as B_laws
 use Rattle.notation_rules.specs.Patterns.{want, ◌on◌}
 use Rattle.notation_rules.specs.Rules.{Rule, rule, units, write_rule, is_mark, expect, the_pattern, the_matcher, the_rule, text_of, write_text, read_text, matcher_text, read_matcher, pattern_text, read_pattern, target_text, read_target}
 
@@ -27,7 +29,7 @@ Fine (rule v m p) = FineUnits v × M.Fine m × B.Fine p × Numbered 0 (events p 
 -- ---- In tokens.
 pattern_tokens : (v : Option Value) (m : Matcher) (p : Pattern) → B.Fine p → the_pattern v m (mark with' ∷ P.write 1 p []) ≡ done (rule v m p)
 unfolding the_pattern expect is_mark code run stopped whole P.patterns P.ending P.collapse P.alone B.top B.follow
-pattern_tokens v m p h = B.back (λ q. whole (rule v m q)) p 1 h [] [] (omega arith) (omega arith)
+pattern_tokens v m p h = B_laws.back (λ q. whole (rule v m q)) p 1 h [] [] (omega arith) (omega arith)
 
 matcher_tokens : (v : Option Value) (m : Matcher) (p : Pattern) → M.Fine m → B.Fine p → the_matcher v (mark by ∷ M.write false m (mark with' ∷ P.write 1 p [])) ≡ done (rule v m p)
 unfolding the_matcher expect is_mark code run stopped look M.matchers M.take M.at_mark M.parted M.ending M.ended
@@ -62,7 +64,7 @@ matcher_back m h = text_of_lem (run M.matchers whole (M.want false [])) m (M.wri
 
 pub pattern_back : (p : Pattern) → B.Fine p → Numbered 0 (events p []) → read_pattern (pattern_text p) ≡ Places.good p
 unfolding read_pattern pattern_text run stopped whole P.patterns P.ending P.collapse P.alone B.top B.follow
-pattern_back p h n = text_of_lem (run P.patterns whole (want on [])) p (P.write 1 p []) (good_pattern p h n) (B.back whole p 1 h [] [] (omega arith) (omega arith))
+pattern_back p h n = text_of_lem (run P.patterns whole (want on [])) p (P.write 1 p []) (good_pattern p h n) (B_laws.back whole p 1 h [] [] (omega arith) (omega arith))
 
 pub target_back : (v : Value) → U.Fine v → read_target (target_text v) ≡ Places.good v
 unfolding read_target target_text run stopped whole U.targets U.ending

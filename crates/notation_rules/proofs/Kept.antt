@@ -5,9 +5,10 @@ use Rattle.std.proofs.Math.Option.{Option, none, some}
 use Rattle.rules.specs.Forms.{Matcher}
 use Rattle.rules.specs.Forms.{Pattern}
 use Rattle.rules.specs.Forms.{Value}
-use Rattle.notation_rules.specs.Tokens.{Outcome, done, refused, Mark, matching, by, with', right}
-use Rattle.notation_rules.specs.Tokens.{Token, mark, sign, binds, uses, number, wrong, blame, no, is, whole, run}
-use Rattle.notation_rules.specs.NamesBack.{events, Numbered, event, events_of, resolve_numbered}
+use Rattle.notation_rules.specs.Tokens.{Outcome, done, refused, Mark, matching, by, with'}
+use Rattle.notation_rules.specs.Tokens.{Token, mark, sign, binds, uses, number, wrong, blame, whole, run}
+use Rattle.notation_rules.specs.NamesBack.{events, Numbered, event, events_of}
+use Rattle.notation_rules.proofs.NamesBack.{resolve_numbered}
 use Rattle.notation_rules.specs.PatternsBack as B
 use Rattle.notation_rules.specs.Patterns.{want, ◌on◌}
 use Rattle.notation_rules.specs.Patterns as P
@@ -17,9 +18,9 @@ use Rattle.notation_rules.specs.Names.{resolve}
 use Rattle.notation_rules.specs.Letters.{tokens_of}
 use Rattle.notation_rules.specs.Places
 use Rattle.notation_rules.specs.Rules.{Rule, rule, is_mark, expect, the_pattern, the_matcher, the_rule, read_text}
-use Rattle.notation_rules.specs.RulesBack.{FineUnits, Fine}
+use Rattle.notation_rules.proofs.RulesBack.{FineUnits, Fine}
 use Rattle.notation_rules.specs.KeptMachine.{run_kept}
-use Rattle.notation_rules.specs.KeptPatterns.{SoundPlace, SoundFrames, Sound, of_frames, of_place, of_mode, stepping, ends}
+use Rattle.notation_rules.proofs.KeptPatterns.{SoundPlace, SoundFrames, Sound, of_frames, of_place, of_mode, stepping, ends}
 use Rattle.notation_rules.specs.KeptUnits.{nothing, Brackets, Target, value_step, value_ends, Words, Matched, matcher_step, matcher_ends}
 
 -- ---- The rule.

@@ -1,17 +1,15 @@
 -- The patterns that are read have numbers and widths in the limits, and the names of the text, from left to right.
 use Rattle.std.specs.Prelude.{ℕ, suc, ◌+◌, ◌≤◌, ◌≡◌, refl, true, List, [], ◌∷◌, length, T, ℤ, pos}
 use Rattle.std.proofs.Common.{arith, ap, ◌∙◌}
-use Rattle.rules.specs.Forms.{Pattern, constant, value, both, never, Patterns, no_patterns, ◌▸ᵖ◌, countᵖ}
+use Rattle.rules.specs.Forms.{Pattern, constant, value, never, Patterns, no_patterns, ◌▸ᵖ◌, countᵖ}
 use Rattle.rules.specs.Numbers.{in_range}
-use Rattle.notation_rules.specs.Tokens.{Sign, consing, joining, anding, oring, right}
+use Rattle.notation_rules.specs.Tokens.{Sign, consing, joining, anding, oring}
 use Rattle.notation_rules.specs.Tokens.{Token, mark, sign, binds, uses, number, wrong, numeral}
 use Rattle.notation_rules.specs.NamesBack.{Event, binding, citing, events, events_all, event}
 use Rattle.notation_rules.specs.PatternsBack.{test}
 use Rattle.notation_rules.specs.PatternsBack as B
 use Rattle.notation_rules.specs.Patterns.{level, build, Frame, waiting, denied, opened, Place, want, bracket, hashed, negative, inner, named, signed, shutting, Mode, ◌on◌, have}
 use Rattle.notation_rules.specs.Patterns as P
-use Rattle.notation_rules.specs.Places
-use Rattle.notation_rules.specs.RulesBack.{Fine}
 use Rattle.notation_rules.specs.KeptMachine.{OnStep, OnEnd, All, look_all, ranged_all, in_width}
 
 -- ---- Patterns.
