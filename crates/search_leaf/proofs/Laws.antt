@@ -1,5 +1,5 @@
 -- The laws that the choices of a leaf ask for. Assumes nothing.
-use Prim.Native.Nat.{ℕ, ◌+◌, ◌-◌, ◌^◌, ◌<◌, ◌≤◌}
+use Prim.Native.Nat.{ℕ, ◌+◌, ◌-◌, ◌<◌, ◌≤◌}
 use native.Mathlib.Omega.{arith}
 use mathlib.Core.Path.{◌≡◌, refl, sym, ap, subst, ◌∙◌}
 use mathlib.Core.Logic.{◌⊎◌, inl, inr}
@@ -8,16 +8,13 @@ use mathlib.Core.List.{List}
 use lib.ListN.{length, get_or, set, length-set}
 use lib.Count.{count_trailing_zeros}
 use lib.IntN.{ℤ, pos}
-use borrow.Author.Rules.{rules}
-use mir.Syntax.{w64}
-use mir.Val.{Fits}
 use Rattle.rules.specs.Numbers.{plus}
 use Rattle.words.specs.Words.{tag_at, same_to}
 use Rattle.words.specs.Marks.{clear}
 use Rattle.value_places.specs.Places.{Target, Tag, element_at}
 use Rattle.value_places.specs.Held.{Held, put}
 use Rattle.value_places.proofs.Elements.{second}
-use Rattle.value_places.proofs.Held.{held_clear, next_in, next_less, next_tag}
+use Rattle.value_places.proofs.Held.{held_clear, next_less, next_tag}
 use Rattle.value_rows.specs.Row.{Bound, nothing}
 use Rattle.value_rows.specs.declared.Binding.{Binding}
 use Rattle.tables.specs.declared.slot.Frame.{Frame}

@@ -1,22 +1,22 @@
 -- The rows of a leaf are those of its bindings; what is left of its choices are elements. Assumes nothing.
-use Prim.Native.Nat.{ℕ, zero, suc, ◌+◌, ◌-◌, ◌^◌, ◌%◌, ◌/◌, ◌<◌, ◌≤◌}
+use Prim.Native.Nat.{ℕ, zero, suc, ◌+◌, ◌^◌, ◌%◌, ◌/◌, ◌<◌, ◌≤◌}
 use native.Mathlib.Numerals.{add-one}
 use lib.Pow.{pow_pos}
 use native.Mathlib.Omega.{arith}
-use mathlib.Core.Path.{◌≡◌, refl, sym, ap, ap₂, subst, ◌∙◌}
+use mathlib.Core.Path.{◌≡◌, refl, sym, ap, ap₂, ◌∙◌}
 use mathlib.Core.Bool.{Bool, true, false}
 use mathlib.Core.List.{List, [], ◌∷◌, ◌++◌, map}
 use lib.ListN.{length, get_or, take, drop, set, length-take, length-set}
-use lib.Seq.{drop-cons, get_or-take, get_or-set_same, get_or-set_other, set-get_or, set-set}
+use lib.Seq.{drop-cons, get_or-take, get_or-set_other, set-get_or}
 use lib.Dec.{eqb}
 use lib.Count.{count_trailing_zeros}
 use lib.IntN.{ℤ, pos}
 use borrow.Author.Tests.{eq-eqb, ne_eqb, eqb-true, eqb-false}
 use Rattle.rules.specs.Forms.{words}
-use Rattle.rules.specs.Rows.{as_words, as_origins, bits, told, row}
+use Rattle.rules.specs.Rows.{bits, told, row}
 use Rattle.words.specs.Words.{tag_at}
 use Rattle.words.specs.Marks.{clear}
-use Rattle.value_places.specs.Places.{Target, Tag, element_at, marks_at}
+use Rattle.value_places.specs.Places.{Target, element_at, marks_at}
 use Rattle.value_places.specs.Held.{Held}
 use Rattle.value_places.proofs.Held.{held_int, held_clear, next_tag}
 use Rattle.value_places.proofs.Origins.{plain_origin, origin_index, origin_marks}
@@ -24,7 +24,7 @@ use Rattle.value_rows.specs.Row.{form_by, told_at, origin_of, bound, bound_from,
 use Rattle.value_rows.specs.declared.Binding.{Binding}
 use Rattle.search_atom.specs.Leaves.{when}
 use Rattle.search_seek.specs.Passed.{later}
-use Rattle.search_leaf.specs.Told.{word_of, entry_of, entries_of, row_of, Tells, but_of}
+use Rattle.search_leaf.specs.Told.{word_of, entry_of, row_of, Tells, but_of}
 use Rattle.search_leaf.specs.Leaf.{lowest_of, bound_to, passed_by, wrote_by, Leaf, stays, fails, sums, any, binds, Parts}
 use Rattle.search_leaf.specs.declared.Tally.{Tally}
 use Rattle.search_leaf.specs.declared.Part.{Part}

@@ -1,27 +1,24 @@
 -- The words of a row: what the code that writes them asks for, and that they are the row's. Assumes nothing.
-use Prim.Native.Nat.{ℕ, zero, suc, ◌+◌, ◌-◌, ◌*◌, ◌<◌, ◌≤◌, ◌^◌, ◌%◌, ◌/◌}
+use Prim.Native.Nat.{ℕ, zero, suc, ◌+◌, ◌*◌, ◌<◌, ◌≤◌}
 use native.Mathlib.Numerals.{add-one, add-two}
 use native.Mathlib.Omega.{arith}
-use mathlib.Core.Path.{◌≡◌, refl, sym, ap, ap₂, subst, ◌∙◌}
+use mathlib.Core.Path.{◌≡◌, refl, sym, ap, subst, ◌∙◌}
 use mathlib.Core.Bool.{Bool, true, false}
-use mathlib.Core.List.{List, [], ◌∷◌, ◌++◌, map}
+use mathlib.Core.List.{List, [], ◌∷◌, ◌++◌}
 use lib.ListN.{length, get_or, take, drop, set, length-append, length-take, length-set}
 use lib.Seq.{drop-cons, get_or-take, get_or-set_same, get_or-set_other}
 use lib.Dec.{eqb}
 use lib.IntN.{ℤ, pos}
 use borrow.Author.Rules.{rules}
 use borrow.Author.Tests.{eq-eqb, ne_eqb, eqb-true, eqb-false}
-use mir.Syntax.{w32, w64}
-use mir.Val.{Fits, SFits, to_z, of_z}
+use mir.Syntax.{w32}
+use mir.Val.{SFits, to_z, of_z}
 use mir.Facts.{to_z-of_z}
 use Rattle.words.specs.Words.{tag_at}
-use Rattle.value_places.specs.Places.{Target}
-use Rattle.value_places.specs.Held.{Held, put}
-use Rattle.value_places.proofs.Elements.{second, tag_small}
-use Rattle.value_rows.specs.Row.{Bound, nothing}
+use Rattle.value_places.specs.Held.{put}
+use Rattle.value_rows.specs.Row.{nothing}
 use Rattle.value_rows.specs.declared.Binding.{Binding}
-use Rattle.value_rows.proofs.Room.{length_put, put_append, put_none, two_rules}
-use Rattle.value_rows.proofs.Halves.{three_rules}
+use Rattle.value_rows.proofs.Room.{put_append, put_none}
 use Rattle.search_atom.specs.Leaves.{when}
 use Rattle.search_leaf.specs.Told.{word_of, entry_of, entries_of, row_of, size_of, Tells, but_of}
 

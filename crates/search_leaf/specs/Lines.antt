@@ -1,5 +1,5 @@
 -- The lines of a leaf: behind the line at which the first part is tested or bound only a wildcard for the rest is left.
-use Rattle.std.specs.Prelude.{ℕ, ◌+◌, ◌-◌, ◌<◌, ◌≡◌, ◌⊎◌, List, length, get_or}
+use Rattle.std.specs.Prelude.{ℕ, ◌+◌, ◌-◌, ◌<◌, ◌≡◌, ◌⊎◌, List, get_or}
 use Rattle.words.specs.Words.{entries}
 use Rattle.tables.specs.Slot.{Slotted}
 use Rattle.search_step.specs.declared.State.{State}

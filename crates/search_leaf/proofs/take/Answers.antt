@@ -1,6 +1,5 @@
-use mathlib.Core.Path.{refl, ap, ◌∙◌}
-use mathlib.Core.Logic.{⊎_elim, inl, inr}
-use lib.ListN.{length}
+use mathlib.Core.Path.{refl, ◌∙◌}
+use mathlib.Core.Logic.{inl, inr}
 use mir.Facts.{to_z-of_z}
 use Rattle.search_leaf.specs.Leaf.{tallied}
 use Rattle.search_leaf.proofs.Words.{tells_by}
@@ -8,6 +7,7 @@ use Rattle.search_leaf.proofs.Laws.{told_at_lem, by_not, take_part, take_counts,
 use borrow.Author.Rules.{rules}
 use mir.Syntax.{w32}
 use Rattle.search_leaf.proofs.take.Goals as goal
+use Rattle.search_leaf.proofs.take.Goals.{then-o-eq-SUM, else-o-eq-SUM}
 
 pub op_at-o-requires : goal.op_at-o-requires
 op_at-o-requires c = c.requires.fact_3.place
@@ -36,12 +36,15 @@ pub put_left-requires : goal.put_left-requires
 put_left-requires c = record { fact_1 = c.requires.fact_4; fact_2 = c.requires.fact_5 }
 
 pub shape_of-room : goal.shape_of-room
-shape_of-room c = ⊎_elim (λ w. ap length w.5 ∙ w.3.kept.1.1.1.1.1.1.1.0) (λ w. ap length w.6 ∙ w.2.kept.1.1.1.1.1.1.1.0) c.if-o-eq-SUM.branch
+shape_of-room c = c.if-o-eq-SUM.auto.room
 
 pub returns : goal.returns
 unfolding tallied
 returns c = let t = c.told_of-told.ensures.fact_2 (by_not _ c.if-not-told.false) in
     inr (took_is _ _ _ _ _ _ _ _ c.frame_at-f.ensures _ _ _ _ c.op_at-o.ensures c.arg_at-v.ensures (to_z-of_z {w = w32} (search rules) ∙ c.con_at.ensures) c.told_of-told.ensures.fact_1 _ _ _ _ _ _ _ _ _ _
     (tells_by _ _ _ _ _ _ _ c.but_of.ensures t)
-    (⊎_elim (λ w. told_at_lem _ _ _ _ _ _ _ _ _ _ _ _ _ _ w.6 w.7 w.5 w.3.ensures) (λ w. told_at_lem _ _ _ _ _ _ _ _ _ _ _ _ _ _ w.7 w.8 w.6 w.2.ensures) c.if-o-eq-SUM.branch)
+    (elim c.if-o-eq-SUM.branch [
+      | then-o-eq-SUM w ↦ told_at_lem _ _ _ _ _ _ _ _ _ _ _ _ _ _ w.t-is w.last-is w.room-is w.take_sums-t.ensures
+      | else-o-eq-SUM w ↦ told_at_lem _ _ _ _ _ _ _ _ _ _ _ _ _ _ w.t-is w.last-is w.room-is w.take_all-r.ensures
+    ])
     c.put_left.ensures)

@@ -1,7 +1,6 @@
 -- `search_leaf::take_all` meets its contract: at the loop's head the choices so far are taken up.
-use Prim.Native.Nat.{◌-◌, ◌≤◌}
+use Prim.Native.Nat.{◌≤◌}
 use mathlib.Core.Path.{◌≡◌, sym, ◌∙◌}
-use mathlib.Core.Logic.{⊎_elim}
 use native.Mathlib.Omega.{arith}
 use borrow.Author.Rules.{rules}
 use lib.ListN.{length}
@@ -15,6 +14,7 @@ use Rattle.search_leaf.proofs.Words.{row_size, set_long, same_long}
 use Rattle.search_leaf.proofs.Laws.{going_start, going_less, lowest_word, lowest_tag, going_any, going_binds, going_out, no_test}
 use mir.Syntax.{w32}
 use Rattle.search_leaf.proofs.take_all.Goals as goal
+use Rattle.search_leaf.proofs.take_all.Goals.{then-part-eq-BIND+else-tag-ne0, else-part-eq-BIND}
 
 -- Where the lowest choice stands.
 found_at : (c : goal.After-place_at-e) → c.place_at-e.result ≡ element_at c.args.s.now c.args.part.at c.lowest-k.result
@@ -97,7 +97,10 @@ pub put_row-words-requires : goal.put_row-words-requires
 put_row-words-requires c = let i = c.loop-next.invariant in
     let few = c.requires.fact_5.1 in
     let f = c.if-room-words.false in
-    let long : length c.if-part-eq-BIND.told ≡ 16 = ⊎_elim (λ w. set_long c.loop-next.told c.if-part-eq-BIND.told c.args.part.var _ w.7 i.words) (λ w. same_long c.loop-next.told c.if-part-eq-BIND.told w.1 i.words) c.if-part-eq-BIND.branch in
+    let long : length c.if-part-eq-BIND.told ≡ 16 = elim c.if-part-eq-BIND.branch [
+      | then-part-eq-BIND+else-tag-ne0 w ↦ set_long c.loop-next.told c.if-part-eq-BIND.told c.args.part.var _ w.told-is i.words
+      | else-part-eq-BIND w ↦ same_long c.loop-next.told c.if-part-eq-BIND.told w.told-is i.words
+    ] in
     let l : c.args.shape.vars ≤ length c.if-part-eq-BIND.told = omega (arith, few, long) in
     (few, long, omega (arith, i.counts.words, f, c.row_words-size.ensures, row_size c.args.shape.origins c.if-part-eq-BIND.told c.args.shape.vars l))
 
@@ -123,14 +126,15 @@ unfolding bound_to
 loop-next-preserved c = let i = c.loop-next.invariant in
     let h = c.loop-next-test.true in
     let b = c.if-budget-steps-lt5.false in
-    ⊎_elim
-    (λ w. going_binds _ _ _ _ _ _ _ _ _ _ _ _ _ i h c.requires.fact_1 _ _ w.1.ensures
-    (found_at (record { before = record { before = record { before = record { before = c.before.before.before.before.before.before; if3 = w.0 }; lowest = w.1 }; index = w.2 }; place_at = w.3 }))
-    w.0.taken (sym w.4.ensures ∙ w.5.left) _ _ _ (to_z-of_z {w = w32} (search rules) ∙ w.6.ensures) w.7 w.8 b _ c.rest-next-in-loop-next.ensures _ c.row_words-size.ensures c.requires.fact_5.1 c.if-room-words.false
-    _ _ c.put_row-words.ensures.0 c.put_row-words.ensures.1)
-    (λ w. going_any _ _ _ _ _ _ _ _ _ _ _ _ _ i h c.requires.fact_1 (no_test _ _ _ c.requires.fact_3 c.requires.fact_5.0 w.0.left) _ _ w.1 w.2 b _ c.rest-next-in-loop-next.ensures _ c.row_words-size.ensures
-    c.requires.fact_5.1 c.if-room-words.false _ _ c.put_row-words.ensures.0 c.put_row-words.ensures.1)
-    c.if-part-eq-BIND.branch
+    elim c.if-part-eq-BIND.branch [
+      | then-part-eq-BIND+else-tag-ne0 w ↦
+          let e : w.place_at-e.result ≡ element_at c.args.s.now c.args.part.at w.lowest-k.result = find_is _ _ _ _ _ _ c.requires.fact_1 c.requires.fact_2 i.held.tag (next_in _ _ _ _ c.requires.fact_1 i.held w.lowest-k.ensures i.some) c.base_at-base.ensures w.index.ensures _ w.place_at-e.ensures in
+          going_binds _ _ _ _ _ _ _ _ _ _ _ _ _ i h c.requires.fact_1 _ _ w.lowest-k.ensures e
+          w.if-part-eq-BIND.true (sym w.number_at-tag.ensures ∙ w.if-tag-ne0.false) _ _ _ (to_z-of_z {w = w32} (search rules) ∙ w.word_of.ensures) w.told-is w.last-is b _ c.rest-next-in-loop-next.ensures _ c.row_words-size.ensures c.requires.fact_5.1 c.if-room-words.false
+          _ _ c.put_row-words.ensures.0 c.put_row-words.ensures.1
+      | else-part-eq-BIND w ↦ going_any _ _ _ _ _ _ _ _ _ _ _ _ _ i h c.requires.fact_1 (no_test _ _ _ c.requires.fact_3 c.requires.fact_5.0 w.if-part-eq-BIND.false) _ _ w.told-is w.last-is b _ c.rest-next-in-loop-next.ensures _ c.row_words-size.ensures
+          c.requires.fact_5.1 c.if-room-words.false _ _ c.put_row-words.ensures.0 c.put_row-words.ensures.1
+    ]
 
 -- src/lib.rt:136:1
 pub shape_of-room : goal.shape_of-room

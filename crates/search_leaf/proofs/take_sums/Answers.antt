@@ -1,7 +1,6 @@
 -- `search_leaf::take_sums` meets its contract: at the loop's head the choices so far are taken up.
 use Prim.Native.Nat.{◌+◌, ◌-◌, ◌≤◌, ◌<◌}
 use mathlib.Core.Path.{◌≡◌, refl}
-use mathlib.Core.Logic.{⊎_elim}
 use native.Mathlib.Omega.{arith}
 use borrow.Author.Rules.{rules}
 use lib.ListN.{length}
@@ -11,6 +10,7 @@ use Rattle.value_places.proofs.Held.{next_in}
 use Rattle.search_leaf.proofs.Words.{row_size}
 use Rattle.search_leaf.proofs.Laws.{going_start, going_told, going_less, lowest_word, going_fails, going_sums, going_at, going_out}
 use Rattle.search_leaf.proofs.take_sums.Goals as goal
+use Rattle.search_leaf.proofs.take_sums.Goals.{then-found+else-room-words, else-found}
 
 -- Where the lowest choice stands, and that its number is there.
 found_at : (c : goal.After-place_at-e) → c.place_at-e.result ≡ element_at c.args.s.now c.args.part.at c.lowest-k.result
@@ -117,13 +117,14 @@ loop-more-preserved c = let i = c.loop-more.invariant in
     let few = c.if-end-steps.false in
     let enough = c.if-budget-lt4.false in
     let b : 4 ≤ c.args.budget - c.loop-more.steps = omega (arith, few, enough) in
-    ⊎_elim
-    (λ w. going_at _ _ _ _ _ _ _ _ _ _ _ _ _ _ _ _ _ _ _ _ w.6 w.7 w.8 w.5
-    (going_sums _ _ _ _ _ _ _ _ _ _ _ _ _ i h c.requires.fact_1 _ _ c.lowest-k.ensures (found_at c.before.before.before.before.before) _ (search rules) _ (search rules) _ (search rules) _ c.is_total-found.ensures c.requires.fact_5.0 b _ c.rest-more-in-loop-more.ensures w.0.taken
-    _ c.row_words-size.ensures c.requires.fact_5.1 w.1.left _ _ w.3.ensures.0 w.3.ensures.1))
-    (λ w. going_at _ _ _ _ _ _ _ _ _ _ _ _ _ _ _ _ _ _ _ _ w.2 w.3 w.4 w.1
-    (going_fails _ _ _ _ _ _ _ _ _ _ _ _ _ i h c.requires.fact_1 _ _ c.lowest-k.ensures (found_at c.before.before.before.before.before) _ (search rules) _ (search rules) _ (search rules) _ c.is_total-found.ensures c.requires.fact_5.0 b _ c.rest-more-in-loop-more.ensures w.0.left))
-    c.if-found.branch
+    let e : c.place_at-e.result ≡ element_at c.args.s.now c.args.part.at c.lowest-k.result = find_is _ _ _ _ _ _ c.requires.fact_1 c.requires.fact_2 i.held.tag (next_in _ _ _ _ c.requires.fact_1 i.held c.lowest-k.ensures i.some) c.base_at-base.ensures c.index.ensures _ c.place_at-e.ensures in
+    elim c.if-found.branch [
+      | then-found+else-room-words w ↦ going_at _ _ _ _ _ _ _ _ _ _ _ _ _ _ _ _ _ _ _ _ w.steps-is w.rows-is w.words-is w.room-is
+          (going_sums _ _ _ _ _ _ _ _ _ _ _ _ _ i h c.requires.fact_1 _ _ c.lowest-k.ensures e _ (search rules) _ (search rules) _ (search rules) _ c.is_total-found.ensures c.requires.fact_5.0 b _ c.rest-more-in-loop-more.ensures w.if-found.true
+          _ c.row_words-size.ensures c.requires.fact_5.1 w.if-room-words.false _ _ w.put_row-words.ensures.0 w.put_row-words.ensures.1)
+      | else-found w ↦ going_at _ _ _ _ _ _ _ _ _ _ _ _ _ _ _ _ _ _ _ _ w.steps-is w.rows-is w.words-is w.room-is
+          (going_fails _ _ _ _ _ _ _ _ _ _ _ _ _ i h c.requires.fact_1 _ _ c.lowest-k.ensures e _ (search rules) _ (search rules) _ (search rules) _ c.is_total-found.ensures c.requires.fact_5.0 b _ c.rest-more-in-loop-more.ensures w.if-found.false)
+    ]
 
 -- src/lib.rt:71:1
 pub shape_of-room : goal.shape_of-room

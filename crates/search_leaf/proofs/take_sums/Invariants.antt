@@ -1,4 +1,3 @@
-use Prim.Native.Nat.{◌-◌}
 use Rattle.search_leaf.specs.Leaf.{tally}
 use Rattle.search_leaf.proofs.Laws.{Going}
 use Rattle.search_leaf.proofs.take_sums.Given as goal

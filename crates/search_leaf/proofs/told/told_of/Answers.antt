@@ -1,7 +1,5 @@
 -- `search_leaf::told::told_of` meets its contract: the words of the variables so far are told.
-use Prim.Native.Nat.{◌-◌}
 use mathlib.Core.Path.{refl, sym, ◌∙◌}
-use mathlib.Core.Logic.{⊎_elim}
 use native.Mathlib.Omega.{arith}
 use borrow.Author.Rules.{rules}
 use mir.Facts.{to_z-of_z}
@@ -11,6 +9,7 @@ use Rattle.search_leaf.proofs.Words.{tells_none, tells_all, tells_but, tells_nex
 use Rattle.search_leaf.proofs.Ends.{no_answer}
 use mir.Syntax.{w32}
 use Rattle.search_leaf.proofs.told.told_of.Goals as goal
+use Rattle.search_leaf.proofs.told.told_of.Goals.{then-v-but+else-tag-ne0, else-v-but}
 
 -- src/told.rt:62:17
 pub offset_bounds-b-var : goal.offset_bounds-b-var
@@ -66,10 +65,10 @@ loop-v-preserved c = let h = c.loop-v-test.true in
     let l = c.requires.fact_2.most in
     let i = c.loop-v.invariant in (
       omega arith,
-      ⊎_elim
-          (λ w. tells_next _ _ _ _ _ _ i.1 _ (omega arith) (sym w.2.ensures ∙ w.3.left) (to_z-of_z {w = w32} (search rules) ∙ w.4.ensures) _ w.5)
-          (λ w. tells_but _ _ _ _ _ _ i.1 w.0.left _ w.1)
-          c.if-v-but.branch,
+      elim c.if-v-but.branch [
+        | then-v-but+else-tag-ne0 w ↦ tells_next _ _ _ _ _ _ i.1 _ (omega arith) (sym w.number_at-tag.ensures ∙ w.if-tag-ne0.false) (to_z-of_z {w = w32} (search rules) ∙ w.word_of.ensures) _ w.words-is
+        | else-v-but w ↦ tells_but _ _ _ _ _ _ i.1 w.if-v-but.false _ w.words-is
+      ],
     )
 
 -- src/told.rt:51:1
