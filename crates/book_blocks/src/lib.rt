@@ -1,4 +1,6 @@
 // Document 02, No. 7: one block of a book, tested, read and written.
+#![tactic(auto)]
+
 pub mod form;
 pub mod reading;
 pub mod writing;

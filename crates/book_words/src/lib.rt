@@ -1,4 +1,6 @@
 // Document 02, No. 7: 16-bit words in lent bytes, low byte first: read, summed up and written. The words of a block begin at a byte's index.
+#![tactic(auto)]
+
 ghost use Rattle.std.specs.Prelude.{◌≡◌, ◌∷◌, [], ◌+◌, ◌*◌, ◌/◌, ◌%◌, ◌<◌, ◌≤◌, length, replicate};
 ghost use Rattle.std.proofs.lemmas.List.Edits.{sets};
 ghost use Rattle.book_rules.specs.Sums.{due, checked};

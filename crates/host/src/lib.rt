@@ -1,4 +1,6 @@
 // Document 01, section 1: the border to C. Words cross as slices of i32; the answer's numbers go to a lent slice of bytes.
+#![tactic(auto)]
+
 pub mod books;
 pub mod rooms;
 

@@ -1,4 +1,6 @@
 // Document 01, section 1: the answer's numbers go to a lent slice of bytes, eight bytes each, low byte first.
+#![tactic(auto)]
+
 ghost use Rattle.std.specs.Prelude.{◌≡◌, ◌+◌, ◌≤◌, length, ◌∷◌, []};
 ghost use Rattle.host_numbers.specs.Numbers.{digits, put, bytes_of, over};
 

@@ -1,4 +1,6 @@
 // Document 02, No. 10: match by rounds at the border to C. The table of waiting states is a lent slice of words, as the room is.
+#![tactic(auto)]
+
 ghost use Rattle.std.specs.Prelude.{◌≡◌, ◌≤◌, length, ◌∷◌, []};
 ghost use Rattle.host_numbers.specs.Numbers.{bytes_of, over};
 ghost use Rattle.host.specs.Border.{called};

@@ -1,4 +1,6 @@
 // Document 02, No. 8: a run at the border to C. The game lends the run itself; a call reads it whole, works on it by value and stores it whole.
+#![tactic(auto)]
+
 ghost use Rattle.std.specs.Prelude.{◌≡◌};
 ghost use Rattle.host_runs.specs.Runs.{OpenCalls, AdvanceCalls, both};
 

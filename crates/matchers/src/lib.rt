@@ -1,4 +1,6 @@
 // Where the matchers stand in a matcher's words: each is known by the index of its tag. Total on any words.
+#![tactic(auto)]
+
 ghost use Rattle.std.specs.Prelude.{◌≡◌};
 ghost use Rattle.matchers.specs.Places.{width_at, parts_at, words_at, matcher_end};
 

@@ -1,4 +1,6 @@
 // A rule's tokens as characters, put one behind the other on a lent page. A page that is full takes no more.
+#![tactic(auto)]
+
 ghost use Rattle.std.specs.Prelude.{◌≡◌, ◌+◌, ◌<◌, []};
 ghost use Rattle.notation_print.specs.Pages.{page, letter as Pages·letter, letters};
 ghost use Rattle.notation_rules.specs.Letters.{decimal};

@@ -1,4 +1,6 @@
 // A rule in Egison's notation, read: its words, or the line, the column and the cause of what cannot be read.
+#![tactic(auto)]
+
 ghost use Rattle.std.specs.Prelude.{◌≡◌, ◌≤◌, ◌<◌, ◌^◌, length, replicate};
 ghost use Rattle.notation_rules.specs.Places.{line, column};
 ghost use Rattle.notation_read.specs.Read.{entry_of, put_of, name_of, found, bound_by, bound_later, binding_of, using_of, resolved, names, adding, ran_to, stopped, ran, next_line, next_column, told, reading};

@@ -1,5 +1,7 @@
 // The tokens of a text in Egison's notation, one by one, each with its place: the longest token that begins here, with free white space and
 // comments. What a character is, and what it does to a token that was begun, stands in two tables.
+#![tactic(auto)]
+
 ghost use Rattle.std.specs.Prelude.{◌≡◌, ◌<◌, length};
 ghost use Rattle.std.proofs.Math.Seq.{slice};
 ghost use Rattle.notation_rules.specs.Letters.{same_word};

@@ -1,5 +1,7 @@
 // The automaton that reads a rule's tokens: where it stands, what waits for its end, and the words so far. A tag is put before the words of its first
 // part once its sign or its bracket's end is read. What each place does with each token stands in one table.
+#![tactic(auto)]
+
 ghost use Rattle.std.specs.Prelude.{◌≡◌, ◌<◌, ◌≤◌, ◌^◌, ◌-◌};
 ghost use Rattle.std.specs.Int.{w32};
 ghost use Rattle.std.proofs.Common.{to_z};

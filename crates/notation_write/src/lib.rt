@@ -1,4 +1,6 @@
 // A matcher, a pattern or a target, written in Egison's notation from its words. What each tag is written as stands in one table.
+#![tactic(auto)]
+
 ghost use Rattle.std.specs.Prelude.{◌≡◌, ◌<◌};
 ghost use Rattle.notation_print.specs.Pages.{page};
 ghost use Rattle.notation_print.specs.Inks.{sheet};

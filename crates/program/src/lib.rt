@@ -1,5 +1,7 @@
 // The program of a rule, compiled once: a line for each state that a run can take up there, and the end, in the table of lines; the modules Lines, Slots
 // and Link of `program_rules` say what they are. 256 words make at most 641 lines.
+#![tactic(auto)]
+
 mod lay;
 mod link;
 mod number;

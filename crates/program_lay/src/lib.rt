@@ -1,4 +1,6 @@
 // Lines, written in their table.
+#![tactic(auto)]
+
 pub mod ends;
 
 ghost use Rattle.std.specs.Prelude.{◌≡◌, ◌∷◌, suc, ◌+◌, ◌<◌, ◌≤◌, length, drop, pos};

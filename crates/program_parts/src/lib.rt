@@ -1,4 +1,6 @@
 // The matchers of parts, and the parts that wait: three arrays up to a depth, one for each number of a part.
+#![tactic(auto)]
+
 pub mod tags;
 
 ghost use Rattle.std.specs.Prelude.{◌≡◌, cond, ◌+◌, ◌<◌, ◌≤◌, length, get_or, eqb};

@@ -1,1 +1,2 @@
 // The words of room that suffice for a rule, as definitions. No code.
+#![tactic(auto)]

@@ -1,4 +1,6 @@
 // Document 02, No. 10: the run by rounds of a program on a target, over a table that the game lends.
+#![tactic(auto)]
+
 pub mod rounds;
 pub mod size;
 

@@ -1,5 +1,7 @@
 // Document 02, No. 10: the waiting states, in a table of words that the game lends. A list of states that follow from one state is kept as its first state and
 // the choices left, at a fixed size: entries of three words, a place and the two halves of its marks.
+#![tactic(auto)]
+
 pub mod slots;
 
 ghost use Rattle.std.specs.Prelude.{◌≡◌, ◌+◌, ◌*◌, ◌<◌, ◌≤◌, length, set};

@@ -1,4 +1,6 @@
 // Document 01, section 4: "a run takes up states until none remain or the budget is used". The bindings are sixteen structs by value, beside the state.
+#![tactic(auto)]
+
 pub mod asking;
 pub mod narrowing;
 pub mod taking;

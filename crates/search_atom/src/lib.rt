@@ -1,4 +1,6 @@
 // Leaves of a step: what the first atom's test says, and the choices of a cons or a join.
+#![tactic(auto)]
+
 pub mod tuples;
 
 ghost use Rattle.std.specs.Prelude.{◌≡◌, ◌+◌, ◌^◌, ◌<◌, length, get_or, false, pos};

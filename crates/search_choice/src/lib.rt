@@ -1,4 +1,6 @@
 // The next choice of the last open frame, taken where no state stands.
+#![tactic(auto)]
+
 ghost use Rattle.std.specs.Prelude.{◌≡◌, get_or};
 ghost use Rattle.tables.specs.Line.{columns_of};
 ghost use Rattle.tables.specs.Slot.{view_of, Slotted, Alone};

@@ -1,4 +1,6 @@
 // Document 01, section 4: a multiset's cons behind whose first part only a wildcard for the rest is left, its choices taken up at once, each with its row.
+#![tactic(auto)]
+
 pub mod lines;
 pub mod told;
 

@@ -1,4 +1,6 @@
 // Document 01, section 4: choices of a multiset's cons that fail at the integer which its first part asks for, passed over at once, each for its step.
+#![tactic(auto)]
+
 pub mod asked;
 pub mod pairs;
 

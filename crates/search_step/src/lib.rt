@@ -1,4 +1,6 @@
 // Document 01, section 4: the search state, a struct of numbers by value, whose step hands the next state back. What waits stands in the lent slots.
+#![tactic(auto)]
+
 pub mod sides;
 
 ghost use Rattle.std.specs.Prelude.{◌≡◌, ◌-◌, ◌<◌, get_or};

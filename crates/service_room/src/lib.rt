@@ -1,4 +1,6 @@
 // The words of room that suffice for a rule: at most review's rows are written, each with a value for each variable, and no value has more words than the target, or in form 2 than three.
+#![tactic(auto)]
+
 ghost use Rattle.std.specs.Prelude.{◌≡◌, ◌*◌, ◌^◌, ◌<◌, ◌≤◌, min};
 ghost use Rattle.room_rules.specs.Rooms.{variables_in, room_by, room};
 ghost use Rattle.service_room.specs.Told.{roomed};

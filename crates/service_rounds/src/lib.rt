@@ -1,4 +1,6 @@
 // Document 02, No. 10: the service match in the other search order, by rounds, over a table of waiting states that the game lends.
+#![tactic(auto)]
+
 ghost use Rattle.std.specs.Prelude.{◌≡◌, length};
 ghost use Rattle.round_rules.specs.Rounds.{states_in, match_rounds, match_rounds_picked};
 ghost use Rattle.words.specs.Dialects.{dialect_by};

@@ -1,4 +1,6 @@
 // The tables that a run works over: each is one flat array of numbers, and only the functions here know what lies where in it.
+#![tactic(auto)]
+
 pub mod instruction;
 pub mod line;
 pub mod place;

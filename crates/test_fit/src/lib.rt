@@ -1,4 +1,6 @@
 // Test 4: a pattern fits a matcher. A matcher is kept as the index of its tag in the matcher's words.
+#![tactic(auto)]
+
 pub mod shapes;
 
 ghost use Rattle.std.specs.Prelude.{◌≡◌, ◌+◌, ◌≤◌, ◌<◌, ◌^◌, length, take};

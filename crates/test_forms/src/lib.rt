@@ -1,4 +1,6 @@
 // The tests 1 and 2 of document 01 on slices of words, one module a test, and section 2's tag table: the words are one whole form.
+#![tactic(auto)]
+
 pub mod matcher;
 pub mod pattern;
 pub mod table;

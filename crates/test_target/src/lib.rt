@@ -1,4 +1,6 @@
 // Test 5: the words are one whole target in the limits; a fault has a cause beside its place. Elements and parts are read by recursion, the remaining depth falling at each call.
+#![tactic(auto)]
+
 ghost use Rattle.std.specs.Prelude.{◌≡◌, ◌-◌, ◌/◌, ◌<◌, min, length};
 ghost use Rattle.rules.specs.Reading.{read_target};
 ghost use Rattle.rules.specs.Causes.{cause_of};

@@ -1,4 +1,6 @@
 // Test 6: a target fits a matcher, by recursion, the remaining depth falling at each call.
+#![tactic(auto)]
+
 ghost use Rattle.std.specs.Prelude.{◌≡◌, ◌+◌, ◌*◌, ◌<◌, ◌≤◌, ◌^◌, length};
 ghost use Rattle.test_unfit.specs.Unfit.{opens_at, members_of, next_member, number_fits, is_pair, pair_fits, plain_words, asks_pairs, plain_pair, pair_run, passed, fit_run, under_integer, fit_from};
 

@@ -1,4 +1,6 @@
 // Test 3: the variables of a pattern stand in order.
+#![tactic(auto)]
+
 ghost use Rattle.std.specs.Prelude.{◌≡◌, true, ◌+◌, ◌<◌, ◌^◌};
 ghost use Rattle.rules.specs.Reading.{◌then◌, read_pattern};
 ghost use Rattle.rules.specs.Variables.{variables};

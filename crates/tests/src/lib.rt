@@ -1,4 +1,6 @@
 // The tests in document 01's order: 1 to 4 over matcher and pattern, 5 and 6 over a target.
+#![tactic(auto)]
+
 ghost use Rattle.std.specs.Prelude.{◌≡◌};
 ghost use Rattle.rules.specs.Services.{rule_in, rule_of};
 ghost use Rattle.words.specs.Dialects.{dialect_by};

@@ -1,4 +1,6 @@
 // The trial program's text: from its input to what it prints.
+#![tactic(auto)]
+
 ghost use Rattle.std.specs.Prelude.{◌≡◌, ◌≤◌, length};
 ghost use Rattle.rules.specs.Services.{match};
 ghost use Rattle.text.specs.Printed.{variables_of, report, empty_report};

@@ -1,4 +1,6 @@
 // The trial program's input, read.
+#![tactic(auto)]
+
 mod line;
 pub mod question;
 

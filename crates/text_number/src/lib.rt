@@ -1,4 +1,6 @@
 // Decimal numbers, read from bytes.
+#![tactic(auto)]
+
 ghost use Rattle.std.specs.Prelude.{◌≡◌, ◌+◌, ◌≤◌, length, drop};
 ghost use Rattle.text_number.specs.Decimal.{◌then◌, natural as Decimal·natural, number as Decimal·number};
 ghost use Rattle.text_number.specs.Word.{word as Word·word, at_most};

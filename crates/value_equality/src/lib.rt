@@ -1,5 +1,7 @@
 // Document 01, section 4, tag 3: equality of two held values under a matcher. Nested collections and tuples are compared in one loop, which keeps its
 // place in a table of eight levels; multisets by marking off, tuples part by part.
+#![tactic(auto)]
+
 ghost use Rattle.std.specs.Prelude.{◌≡◌, ◌+◌, ◌^◌, ◌<◌, ◌≤◌, length, get_or, pos};
 ghost use Rattle.rules.specs.Numbers.{same};
 ghost use Rattle.value_places.specs.Places.{Target, Tag};

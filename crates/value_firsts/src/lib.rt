@@ -1,4 +1,6 @@
 // Document 02, No. 13: of the elements that are left of a collection, the first place of each value that differs.
+#![tactic(auto)]
+
 pub mod fresh;
 
 ghost use Rattle.std.specs.Prelude.{◌≡◌, ◌+◌, ◌-◌, ◌^◌, ◌<◌, ◌≤◌};

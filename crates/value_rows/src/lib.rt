@@ -1,5 +1,7 @@
 // Document 01, section 4, Row: the values of the variables, each in target form, elements in target order. The size is known before a word is
 // written, and no other word of the room is touched.
+#![tactic(auto)]
+
 pub mod origins;
 
 ghost use Rattle.std.specs.Prelude.{◌≡◌, ◌∷◌, [], ◌+◌, ◌-◌, ◌<◌, ◌≤◌, length, pos};

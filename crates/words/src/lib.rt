@@ -1,4 +1,6 @@
 // Leaves on words: a signed word as an unsigned tag, the sum of tag 3, and a word's bits. Above them all arithmetic is unsigned.
+#![tactic(auto)]
+
 pub mod casts;
 pub mod dialect;
 pub mod marks;
