@@ -3,10 +3,9 @@ use Prim.Native.Nat.{ℕ, ◌-◌, ◌<◌}
 use native.Mathlib.Omega.{arith}
 use mathlib.Core.Path.{◌≡◌, refl, sym, ap, ◌∙◌, subst}
 use mathlib.Core.List.{List}
-use lib.ListN.{length, get_or, replicate, length-replicate, get_or-replicate}
+use lib.ListN.{length, get_or, length-replicate, get_or-replicate}
 use lib.Pow.{pow_pos}
 use lib.IntN.{ℤ}
-use Rattle.rules.specs.Fit.{fits}
 use Rattle.words.specs.Words.{entries}
 use Rattle.tables.specs.declared.line.Line.{Line}
 use Rattle.program_rules.specs.Columns.{line_in}

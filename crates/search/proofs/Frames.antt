@@ -1,5 +1,5 @@
 -- What keeps a run valid and what is the same for a state taken up and a choice taken: cases, places and marks, frames.
-use Prim.Native.Nat.{ℕ, zero, suc, ◌+◌, ◌-◌, ◌^◌, ◌≤◌, ◌<◌}
+use Prim.Native.Nat.{ℕ, ◌+◌, ◌-◌, ◌^◌, ◌≤◌, ◌<◌}
 use native.Mathlib.Omega.{arith}
 use lib.Pow.{pow_pos}
 use mathlib.Core.Path.{◌≡◌, refl}

@@ -4,19 +4,18 @@ use native.Mathlib.Omega.{arith}
 use mathlib.Core.Path.{◌≡◌, refl, sym, ap, ◌∙◌}
 use mathlib.Core.Bool.{Bool, true, false}
 use mathlib.Core.List.{List}
-use lib.ListN.{length, get_or, set, length-set}
+use lib.ListN.{length, get_or, length-set}
 use lib.Seq.{get_or-set_same}
 use lib.Dec.{eqb}
 use lib.Count.{count_trailing_zeros}
 use lib.IntN.{ℤ}
 use lib.Pow.{pow_pos, pow-lt}
-use borrow.Author.Tests.{eq-eqb, ne_eqb, eqb-true, eqb-false}
+use borrow.Author.Tests.{ne_eqb, eqb-false}
 use Rattle.words.specs.Words.{entries}
-use Rattle.words.specs.Marks.{clear, positions}
+use Rattle.words.specs.Marks.{clear}
 use Rattle.words.proofs.marks.Places.{low_lt, low_digit, clear_add, positions_one, positions_low}
-use Rattle.tables.specs.Slot.{Tables, tables}
+use Rattle.tables.specs.Slot.{Tables}
 use Rattle.value_places.specs.Places.{element_at}
-use Rattle.value_places.specs.Held.{whole_at}
 use Rattle.value_rows.specs.declared.Binding.{Binding}
 use Rattle.search_atom.specs.Leaves.{when, none_of, now_left}
 use Rattle.search_step.specs.declared.State.{State}
@@ -24,7 +23,7 @@ use Rattle.search_step.specs.Steps.{Turned, turned, moved, lived, topped, pushed
 use Rattle.search_machine.specs.Operations.{opens_with}
 use Rattle.search.specs.Plain.{split_of}
 use Rattle.search_choice.specs.Choices.{top_left, cons_of, cons_by, choice_of, pick_of, Picks, PicksIf}
-use Rattle.search.specs.Run.{Env, Run, run, after_turn, settled}
+use Rattle.search.specs.Run.{Env, run, after_turn, settled}
 use Rattle.search.specs.Valid.{Long}
 
 -- One place marked.

@@ -1,16 +1,16 @@
 -- Choices of a leaf that are taken up at once: as so many turns. Assumes nothing.
 use Prim.Native.Nat.{ℕ, zero, suc, ◌+◌, ◌-◌, ◌<◌, ◌≤◌}
 use native.Mathlib.Omega.{arith}
-use mathlib.Core.Path.{◌≡◌, refl, sym, ap, subst, ◌∙◌}
+use mathlib.Core.Path.{◌≡◌, refl, sym, ap, ◌∙◌}
 use mathlib.Core.Logic.{◌⊎◌, inl, inr}
 use mathlib.Core.Bool.{Bool, true, false}
 use mathlib.Core.List.{List, [], ◌∷◌}
 use lib.ListN.{length, get_or, set, length-set}
 use lib.Seq.{get_or-set_same, get_or-set_other, set-get_or, set-set}
-use lib.Dec.{eqb, ltb}
+use lib.Dec.{eqb}
 use lib.Count.{count_trailing_zeros}
 use lib.IntN.{ℤ, pos}
-use borrow.Author.Tests.{eq-eqb, le-ltb, eqb-true, eqb-false}
+use borrow.Author.Tests.{le-ltb, eqb-true, eqb-false}
 use Rattle.rules.specs.Rows.{row}
 use Rattle.words.specs.Marks.{clear}
 use Rattle.value_places.specs.Held.{Held, whole_at, put}
@@ -20,17 +20,17 @@ use Rattle.value_equality.specs.Equality.{is_sum}
 use Rattle.tables.specs.Slot.{Tables, tables, put_left}
 use Rattle.search_atom.specs.Leaves.{when, passes_of}
 use Rattle.search_step.specs.declared.State.{State}
-use Rattle.search_step.specs.Steps.{counted, moved, lived, dropped}
-use Rattle.value_places.specs.Places.{Target, element_at, marks_at}
+use Rattle.search_step.specs.Steps.{counted, moved, dropped}
+use Rattle.value_places.specs.Places.{Target, marks_at}
 use Rattle.words.specs.Words.{tag_at}
 use Rattle.value_rows.specs.Row.{form_by, Bound}
 use Rattle.search_seek.specs.Passed.{later, is_lowest, timed}
 use Rattle.search_leaf.specs.Told.{word_of, row_of, Tells, but_of}
-use Rattle.search_leaf.specs.Leaf.{lowest_of, bound_to, passed_by, wrote_by, Leaf, stays, fails, sums, any, binds, tallied, first_of, part_of, Parts, Takes}
+use Rattle.search_leaf.specs.Leaf.{lowest_of, bound_to, passed_by, wrote_by, Leaf, stays, fails, sums, any, binds, tallied, first_of, part_of, Takes}
 use Rattle.search_leaf.specs.declared.Tally.{Tally}
 use Rattle.search_leaf.specs.declared.Part.{Part}
-use Rattle.search_leaf.specs.Lines.{Tested, Last, Leafs}
-use Rattle.search_leaf.proofs.Rows.{row_is, leaf_some, leaf_held, leaf_value, leaf_tells, tells_full, tells_bound}
+use Rattle.search_leaf.specs.Lines.{Last, Leafs}
+use Rattle.search_leaf.proofs.Rows.{row_is, leaf_value, leaf_tells, tells_full, tells_bound}
 use Rattle.search.specs.Plain.{step_by, step_of}
 use Rattle.search.specs.Run.{Env, Run, run, wrote, end_by, end_of, ask_of, bound_at, asked, after_turn, after_end, take_end, take_bind, take_step, take_of, settled, run_of}
 use Rattle.search.proofs.Counts.{run_more}

@@ -2,15 +2,14 @@
 use Prim.Native.Nat.{ℕ, zero, suc, ◌+◌, ◌-◌, ◌%◌, ◌^◌, ◌<◌, ◌≤◌}
 use native.Mathlib.Omega.{arith}
 use native.Mathlib.Nat.{mod-le}
-use mathlib.Core.Path.{◌≡◌, refl, sym, ap, subst, ◌∙◌}
+use mathlib.Core.Path.{◌≡◌, refl, sym, ap, ◌∙◌}
 use mathlib.Core.Bool.{Bool, true, false, not}
 use mathlib.Core.List.{List, [], ◌∷◌}
-use lib.ListN.{length, get_or, set}
+use lib.ListN.{length, get_or}
 use lib.Seq.{get_or-set_same, set-set}
 use lib.Dec.{eqb, ltb}
 use lib.IntN.{ℤ}
-use borrow.Author.Rules.{rules}
-use borrow.Author.Tests.{eq-eqb, ne_eqb, lt-ltb, le-ltb, eqb-true, eqb-false, ltb-true, ltb-false, not-true, not-false}
+use borrow.Author.Tests.{eq-eqb, ne_eqb, lt-ltb, le-ltb, eqb-true, eqb-false, ltb-true, not-true, not-false}
 use mir.Syntax.{w64}
 use mir.Val.{Fits}
 use Rattle.rules.specs.Dialects.{Dialect, every_place, first_places}
@@ -24,7 +23,7 @@ use Rattle.value_places.proofs.Held.{held_64, held_less}
 use Rattle.value_firsts.specs.Firsts.{firsts_of, firsts_at, Lower}
 use Rattle.value_firsts.proofs.Differing.{firsts_le}
 use Rattle.tables.specs.declared.slot.Frame.{Frame}
-use Rattle.tables.specs.Slot.{slot_count, Tables, tables, frame_in, put_left, view_of, Slotted, Alone}
+use Rattle.tables.specs.Slot.{slot_count, Tables, frame_in, put_left, view_of, Alone}
 use Rattle.search_atom.specs.Leaves.{when, none_of, opens_of}
 use Rattle.search_step.specs.declared.State.{State}
 use Rattle.search_step.specs.Steps as steps
@@ -33,7 +32,7 @@ use Rattle.search_machine.specs.Operations.{opens_with}
 use Rattle.search.specs.Plain.{split_of, divide_of, step_by, step_of}
 use Rattle.search.specs.Run.{choices_in}
 use Rattle.search.specs.Narrow.{narrowed, Opened, Above, Replaced}
-use Rattle.search.specs.Valid.{Given, Long}
+use Rattle.search.specs.Valid.{Long}
 
 firsts_few : (mt : List ℤ) (i : ℕ) (s : List ℤ) (at m : ℕ) → firsts_at mt i s at m ≤ m
 unfolding firsts_at firsts_of

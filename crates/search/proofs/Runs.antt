@@ -12,7 +12,6 @@ use lib.Seq.{drop-cons}
 use lib.Dec.{eqb, leb, ltb}
 use lib.IntN.{ℤ}
 use borrow.Author.Tests.{eqb-true, eqb-false, ltb-true, ltb-false, le-leb, lt-leb}
-use Rattle.rules.specs.Forms.{words}
 use Rattle.rules.specs.Dialects.{Dialect}
 use Rattle.rules.specs.Rows.{Form, told, row}
 use Rattle.program_rules.specs.Points.{Instr, bind, end}

@@ -16,7 +16,6 @@ use Rattle.words.specs.Words.{entries}
 use Rattle.search_machine.specs.Engine.{put, Slot, kept, framed, keeping, slot_after}
 use Rattle.value_places.specs.Places.{Target, element_at}
 use Rattle.search_step.specs.declared.State.{State}
-use Rattle.search_step.specs.Steps as numbers
 use Rattle.search_atom.specs.Leaves.{when, stored, part_marks, now_left}
 use Rattle.tables.specs.Slot.{Tables, tables}
 use Rattle.search_step.specs.Steps.{pushed_in, kept_in, framed_in}

@@ -34,7 +34,7 @@ use value_rows::{Binding, Bindings, VARIABLES};
 
 // What a run keeps to, beside its rule and its target: the most steps, how many variables there are, whether a row tells origins, whether a
 // cons under a multiset takes first places only, and places of the target that are known to be fresh.
-#[derive(Drop)]
+#[derive(Clone, Copy)]
 pub struct Terms {
     pub budget: u64,
     pub vars: usize,
