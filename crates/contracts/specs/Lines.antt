@@ -19,9 +19,9 @@ use Rattle.rules.specs.Services.{accepted, Rule, rule_of, target_of, Matched, ma
 use Rattle.forms.specs.Written.{variable_tags}
 use Rattle.forms.specs.Faults.{rule_accepted}
 use Rattle.promises.specs.Matching.{ways, rows_of_ways}
-use Rattle.promises.specs.Main.Ways.{ways_listed}
-use Rattle.promises.specs.Main.Runs.{room_holds, rows_whole}
-use Rattle.promises.specs.Main.Bounds.{variables_counted}
+use Rattle.promises.proofs.Main.Ways.{ways_listed}
+use Rattle.promises.proofs.Main.Runs.{room_holds, rows_whole}
+use Rattle.promises.proofs.Main.Bounds.{variables_counted}
 use Rattle.text_print.specs.Rows.{cut_rows, lines}
 use Rattle.text_print.specs.Cut.{written, Each, cut_written}
 use Rattle.text.specs.Printed.{or_zero, variables_of, first_line, report}

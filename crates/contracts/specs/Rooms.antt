@@ -19,7 +19,7 @@ use Rattle.forms.specs.Written.{largest, variable_tags}
 use Rattle.forms.specs.Faults.{rule_accepted, sane_exactly}
 use Rattle.forms.proofs.ReadTarget.{target_read}
 use Rattle.promises.specs.Room.{widest}
-use Rattle.promises.specs.Main.Bounds.{variables_counted, enough_reviewed}
+use Rattle.promises.proofs.Main.Bounds.{variables_counted, enough_reviewed}
 use Rattle.room_rules.specs.Rooms.{rows_counted, rows_capped, rows_unless_always, rows_reviewed, or_none, variables_in, width_of, Roomed, room_by, room}
 
 no : {A : Type 0} (n : ℕ) → suc n ≡ 0 → A

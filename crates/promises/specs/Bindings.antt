@@ -1,5 +1,5 @@
 -- Document 02, No. 9: every value that a good way binds comes from the target, and so points back to it.
-use Rattle.std.specs.Prelude.{ℕ, ◌≡◌, refl, List, [], ◌∷◌, ◌++◌, drop, ℤ}
+use Rattle.std.specs.Prelude.{◌≡◌, refl, List, [], ◌∷◌, ◌++◌, ℤ}
 use Rattle.std.proofs.Common.{sym, subst, inl, inr, ⊎_elim, append-nil}
 use mathlib.Core.List.Memᴰ
 use Rattle.rules.specs.Forms.{Matcher, Matchers, no_matchers, ◌▸ᵐ◌, Value, words}

@@ -1,6 +1,6 @@
 -- Lines in the form of the tables of rules, for clauses of the definitions that those tables do not hold. They stand here, where no code rests on them.
 use Rattle.std.specs.Prelude.{ℕ, ◌≡◌, refl, List, [], ◌∷◌, ◌++◌, map, ℤ, pos}
-use Rattle.rules.specs.Tables.{Case, matching, reviewing, ◌⇒◌writing◌, computed, stated, nums, minus, ints, braces}
+use Rattle.rules.specs.Tables.{Case, matching, reviewing, ◌⇒◌writing◌, computed, stated, nums, minus, braces}
 
 -- A call that is refused with an answer at a place.
 abbrev refuses : (matcher pattern target : List ℕ) (answer place : ℕ) → Case

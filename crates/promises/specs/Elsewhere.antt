@@ -3,7 +3,7 @@
 use Rattle.std.specs.Prelude.{◌≡◌, refl, Bool, false, List, [], T, ℤ}
 use Rattle.std.proofs.Common.{ap}
 use Rattle.std.proofs.Math.Option.{none, some}
-use Rattle.rules.specs.Forms.{Matcher, something, integer, list, multiset, tuple_of, Value, int, collection, tupled, Values, empty, ◌▸◌}
+use Rattle.rules.specs.Forms.{Matcher, something, integer, list, multiset, tuple_of, Value, int, collection, tupled, empty, ◌▸◌}
 use Rattle.rules.specs.Origins.{Origin, intᵒ, tupledᵒ, Valuesᵒ}
 use Rattle.rules.specs.Reading.{entry}
 use Rattle.rules.specs.Fit.{takes, alike}

@@ -1,6 +1,6 @@
 -- A pattern that is always true has a good way on every value that fits its matcher.
 use Rattle.std.specs.Prelude.{ℕ, ◌+◌, ◌≡◌, refl, Bool, true, false, not, ◌&&◌, List, [], ◌∷◌, ◌++◌, T, eqb}
-use Rattle.std.proofs.Common.{zero-le, sym, ap, ◌∙◌, subst, inl}
+use Rattle.std.proofs.Common.{zero-le, subst, inl}
 use Rattle.rules.specs.Dialects.{Dialect}
 use Rattle.rules.specs.Forms.{Matcher, something, integer, list, multiset, tuple_of, Matchers, no_matchers, ◌▸ᵐ◌, countᵐ}
 use Rattle.rules.specs.Forms.{Pattern, wildcard, nil, variable, constant, value, cons, join, tuple, both, either, never, Patterns, no_patterns, ◌▸ᵖ◌, countᵖ, span}
@@ -10,7 +10,7 @@ use Rattle.rules.specs.Variables.{demand}
 use Rattle.rules.specs.Fit.{among, takes, members, told_apart, fits, fits_in, fits_parts, fits_parts_in}
 use Rattle.rules.specs.Origins.{Bindings}
 use Rattle.rules.specs.Ways.{Way, Parts, JoinBy, Follows, FollowsAll}
-use Rattle.rules.specs.Always.{tags, tags_all, failing, none_fails, always_true}
+use Rattle.rules.specs.Always.{tags, tags_all, failing, none_fails}
 use Rattle.forms.specs.Tests.{and_split}
 use Rattle.forms.specs.Readers.{then_ok}
 use Rattle.forms.specs.Numbering.{demand_ok}

@@ -1,13 +1,12 @@
 -- Some of what is met, in its order; and that the choices which dialect 2 leaves out at a cons can be left out of it.
 use Rattle.std.proofs.Common.{arith, sym, ap, ◌∙◌, inl}
-use Rattle.std.specs.Prelude.{◌≡◌, ◌⊎◌, Bool, true, false, not, ◌||◌, T}
+use Rattle.std.specs.Prelude.{◌≡◌, Bool, true, false, ◌||◌, T}
 use Rattle.std.proofs.Math.Path.{refl, subst}
 use Rattle.std.proofs.Math.Logic.{⊎_elim}
 use mathlib.Core.List.Memᴰ
 use mathlib.Core.List.{List, [], ◌∷◌, ◌++◌, flat_map}
 use Rattle.rules.specs.Forms.{Matcher, something, integer, list, multiset, tuple_of, Matchers, no_matchers, ◌▸ᵐ◌, countᵐ}
 use Rattle.rules.specs.Forms.{Value, int, collection, tupled, Values, empty, ◌▸◌, count}
-use Rattle.rules.specs.Forms.{value, both}
 use Rattle.rules.specs.Origins.{Valueᵒ, intᵒ, collectionᵒ, tupledᵒ, plain, plain_all}
 use Rattle.rules.specs.Dialects.{every_place, first_places}
 use Rattle.rules.specs.Fit.{element, without_something, all_without_something, told_apart}
@@ -17,7 +16,7 @@ use Rattle.forms.specs.Tests.{and_split, and_join}
 use Rattle.forms.specs.Lists.{Mem}
 use Rattle.forms.specs.Paired.{Paired, exchange}
 use Rattle.forms.specs.Pairing.{equal_equiv, same_refl, paired_off_true, true_paired_off}
-use Rattle.promises.specs.Trace.{Taken, Met, taken, ended, pass, only_if, inside, close, met}
+use Rattle.promises.specs.Trace.{Taken, Met, taken, ended, pass, only_if, close}
 use Rattle.promises.specs.Suited.{Every, Suits, SuitsEach, cons_suits}
 use Rattle.promises.specs.FirstPlaces.{Some, nothing, kept, left, firsts}
 use Rattle.promises.specs.Alike.{ends, taking_ins}
@@ -50,13 +49,6 @@ unfolding ends
 fewer_without [] e g = g
 fewer_without (taken t ∷ ys) e g = skip (fewer_without ys e g)
 fewer_without (ended ∷ ys) e g = absurd (subst T e tt)
-
-pub fewer_inside : {xs ys us vs : List Met} → Fewer xs ys → Fewer us vs → Fewer (inside xs us) (inside ys vs)
-unfolding inside
-fewer_inside none g = g
-fewer_inside (stay f) g = stay (fewer_inside f g)
-fewer_inside (skip f) g = skip (fewer_inside f g)
-fewer_inside end g = stay none
 
 pub fewer_only : (b : Bool) {xs ys : List Met} → Fewer xs ys → Fewer (only_if b xs) (only_if b ys)
 unfolding only_if

@@ -1,5 +1,5 @@
 -- The choices of a cons in dialect 2: some of those in dialect 1, in their order, and which.
-use Rattle.std.specs.Prelude.{ℕ, suc, ◌≤◌, ◌≡◌, refl, Bool, true, false, List, [], ◌∷◌, ◌++◌, map, length}
+use Rattle.std.specs.Prelude.{◌≤◌, ◌≡◌, refl, Bool, true, false, List, [], ◌∷◌, ◌++◌, map, length}
 use Rattle.std.proofs.Common.{zero-le, suc-le-suc, arith, sym, ap, ◌∙◌, append-nil, append_assoc, ⊎_elim}
 use mathlib.Core.List.Memᴰ
 use Rattle.rules.specs.Forms.{Matcher, multiset, Value}

@@ -1,10 +1,9 @@
--- What the definitions promise: the theorems of the three demands. Read Main; the others hold the proofs.
+-- What the definitions promise: its words, and laws of them. The theorems of the three demands stand in proofs/: read Main there.
 pub mod Choices
 pub mod FirstPlaces
 pub mod Twin
 pub mod Trace
 pub mod Solve
-pub mod Nots
 pub mod Order
 pub mod Listing
 pub mod Sums
@@ -23,7 +22,6 @@ pub mod Alike
 pub mod Fewer
 pub mod Matching
 pub mod Dialects
-pub mod Reaching
 pub mod Found
 pub mod Causes
 pub mod Origins
@@ -31,4 +29,3 @@ pub mod Bindings
 pub mod Telling
 pub mod Elsewhere
 pub mod Clauses
-pub mod Main

@@ -1,16 +1,16 @@
 -- Document 02, No. 9: an origin points back. What is bound is part of the target: the value whose tag stands at its index, of which those elements are left
 -- that its marks name.
-use Rattle.std.specs.Prelude.{ℕ, zero, suc, ◌+◌, ◌*◌, ◌/◌, ◌%◌, ◌^◌, ◌<◌, ◌≡◌, ◌⊎◌, length, drop, ℤ}
+use Rattle.std.specs.Prelude.{ℕ, zero, suc, ◌+◌, ◌*◌, ◌/◌, ◌%◌, ◌^◌, ◌≡◌, ◌⊎◌, length, drop, ℤ}
 use native.Mathlib.Omega.{arith}
-use Rattle.std.proofs.Common.{pow-suc, sym, ap₂, ◌∙◌, length-append, drop-drop}
+use Rattle.std.proofs.Common.{pow-suc, sym, ap₂, ◌∙◌, drop-drop}
 use Rattle.std.proofs.Math.Path.{refl, ap, subst}
 use Rattle.std.proofs.Math.Logic.{inl, inr}
-use mathlib.Core.List.{List, [], ◌∷◌, ◌++◌, append_assoc, append-nil}
+use mathlib.Core.List.{List, [], ◌∷◌, ◌++◌, append_assoc}
 use Rattle.std.proofs.Math.Seq.{drop-append_seam}
 use Rattle.std.proofs.Math.IntN.{pos}
-use Rattle.rules.specs.Forms.{Value, int, collection, tupled, Values, empty, ◌▸◌, count, words, words_all, size, size_all}
+use Rattle.rules.specs.Forms.{Value, int, collection, tupled, Values, empty, ◌▸◌, count, words, words_all, size}
 use Rattle.rules.specs.Origins.{Origin, Valueᵒ, intᵒ, collectionᵒ, tupledᵒ, Valuesᵒ, emptyᵒ, ◌▸ᵒ◌, plain, plain_all, placed, placed_all, origin, marks, marks_all}
-use Rattle.forms.specs.Origins.{plain_placed, plain_placed_all}
+use Rattle.forms.specs.Origins.{plain_placed}
 use Rattle.forms.specs.Written.{length_words}
 use Rattle.promises.specs.Parts.{Among, none, kept, left, Part, element, elements}
 

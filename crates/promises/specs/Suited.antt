@@ -7,7 +7,7 @@ use Rattle.rules.specs.Forms.{Value, int, collection, tupled, Values, empty, ◌
 use Rattle.rules.specs.Reading.{Verdict, ok, fault}
 use Rattle.rules.specs.Variables.{demand}
 use Rattle.rules.specs.Fit.{element, members, fits_all, fits_value, fits_each}
-use Rattle.rules.specs.Origins.{Valueᵒ, intᵒ, collectionᵒ, tupledᵒ, Valuesᵒ, emptyᵒ, ◌▸ᵒ◌, Origin, plain, plain_all}
+use Rattle.rules.specs.Origins.{Valueᵒ, intᵒ, collectionᵒ, tupledᵒ, Valuesᵒ, emptyᵒ, ◌▸ᵒ◌, plain, plain_all}
 use Rattle.rules.specs.Search.{takings, cuts, Halves, cons_halves, join_halves}
 use Rattle.forms.specs.Lists.{Mem}
 use Rattle.forms.specs.Readers.{then_ok}

@@ -1,4 +1,4 @@
--- What the other search order promises. Main has the statements; the other modules hold the proofs.
+-- What the other search order promises: its words, and laws of them. Main in proofs/ has the statements.
 pub mod Listed
 pub mod Tree
 pub mod Told
@@ -6,7 +6,5 @@ pub mod Permutations
 pub mod Order
 pub mod Passage
 pub mod Runs
-pub mod Answers
 pub mod Whole
-pub mod Main
 pub mod Siblings

@@ -11,7 +11,7 @@ use Rattle.rules.specs.Search.{Atom, atom, end_of_not, State, state, drop_if, af
 use Rattle.rules.specs.Following.{no_solution, solve}
 use Rattle.round_rules.specs.Rounds.{Branch, branch, remainders, waiting}
 use Rattle.promises.specs.Trace.{Taken, passed, found, trace}
-use Rattle.promises.specs.Nots.{inner}
+use Rattle.promises.proofs.Nots.{inner}
 
 -- ---- One state is taken up.
 

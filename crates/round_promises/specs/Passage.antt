@@ -2,8 +2,8 @@
 -- on with what is left.
 use Prim.Native.Nat.{ℕ, zero, suc, ◌+◌, ◌-◌, ◌≤◌, ◌<◌, zero-le, suc-le-suc}
 use Rattle.std.proofs.Math.Nat.{sub-zero}
-use Rattle.std.proofs.Common.{zero-add, suc-add, add_assoc, arith, ◌∙◌, subst, inl, inr, leb→le, le→leb}
-use Rattle.std.specs.Prelude.{◌≡◌, ◌⊎◌, Bool, T, leb, ℤ}
+use Rattle.std.proofs.Common.{zero-add, suc-add, arith, ◌∙◌, inl, inr, leb→le, le→leb}
+use Rattle.std.specs.Prelude.{◌≡◌, ◌⊎◌, Bool, T, leb}
 use Rattle.std.proofs.Math.Path.{refl, sym, ap, ap₂}
 use Rattle.std.proofs.Math.Bool.{true, false}
 use mathlib.Core.List.{List, [], ◌∷◌, ◌++◌, append_assoc}
@@ -12,8 +12,10 @@ use Rattle.rules.specs.Origins.{Bindings}
 use Rattle.rules.specs.Rows.{Form, row}
 use Rattle.rules.specs.Search.{Run, stopped, step, row_step}
 use Rattle.promises.specs.Trace.{Taken, passed, found, walk}
-use Rattle.promises.specs.Solve.{founds, founds_append}
-use Rattle.promises.specs.Budget.{rows_of, report, rows_append}
+use Rattle.promises.specs.Solve.{founds}
+use Rattle.promises.proofs.Solve.{founds_append}
+use Rattle.promises.specs.Budget.{rows_of, report}
+use Rattle.promises.proofs.Budget.{rows_append}
 use Rattle.round_promises.specs.Listed.{through}
 
 -- Everything here is of rows in one form.

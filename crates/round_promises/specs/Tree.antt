@@ -1,6 +1,6 @@
 -- All that comes from a state, in depth-first order, is what is taken up with it and then all that comes from the states that follow.
-use Rattle.std.specs.Prelude.{ℕ, suc, ◌≤◌, ◌≡◌, refl, Bool, true, false, length}
-use Rattle.std.proofs.Common.{arith, sym, ap, ap₂, ◌∙◌}
+use Rattle.std.specs.Prelude.{◌≤◌, ◌≡◌, refl, Bool, true, false, length}
+use Rattle.std.proofs.Common.{arith, sym, ap, ◌∙◌}
 use mathlib.Core.List.{List, [], ◌∷◌, ◌++◌, map, flat_map, append-nil, append_assoc}
 use Rattle.rules.specs.Dialects.{Dialect}
 use Rattle.rules.specs.Forms.{Matcher, Value, Patterns, Matchers}
@@ -10,9 +10,10 @@ use Rattle.rules.specs.Origins.{Valueᵒ, intᵒ, collectionᵒ, tupledᵒ, Bind
 use Rattle.rules.specs.Equality.{is_constant, is_value, is_empty}
 use Rattle.rules.specs.Search.{Halves, cons_halves_in, join_halves, Atom, atom, end_of_not, State, state, drop_if, apart, after_in, start}
 use Rattle.rules.specs.Following.{Solution, no_solution, solve}
-use Rattle.promises.specs.Trace.{Taken, passed, found, Met, taken, ended, pass, inside, visit, visit_all, met, close, trace, tree}
-use Rattle.promises.specs.Solve.{stops, stops_visit, no_cons, not_ended}
-use Rattle.promises.specs.Nots.{inner}
+use Rattle.promises.specs.Trace.{Taken, passed, found, Met, taken, ended, inside, visit, visit_all, met, close, trace}
+use Rattle.promises.proofs.Trace.{tree}
+use Rattle.promises.specs.Solve.{stops, no_cons, not_ended}
+use Rattle.promises.proofs.Solve.{stops_visit}
 use Rattle.round_promises.specs.Listed.{Step, one, whole, up_atom, up}
 
 -- The states that are taken up of what is met; where a search inside a not has ended only inside that not, this is `close`.

@@ -4,7 +4,7 @@ use Rattle.std.proofs.Math.Path.{ap, ap₂}
 use Rattle.std.proofs.Math.Option.{Option, none, some}
 use Rattle.rules.specs.Forms.{Matcher, multiset, Pattern, cons, Value}
 use Rattle.rules.specs.Origins.{Valueᵒ, Bindings, plain}
-use Rattle.rules.specs.Reading.{fault, ◌then◌}
+use Rattle.rules.specs.Reading.{fault}
 use Rattle.rules.specs.Variables.{demand}
 use Rattle.rules.specs.Dialects.{Dialect, every_place, first_places, dialect_of}
 use Rattle.rules.specs.Fit.{takes, without_something, told_apart, fits_in}
@@ -13,11 +13,11 @@ use Rattle.rules.specs.Rows.{Form, form_of}
 use Rattle.rules.specs.Search.{Halves, cons_halves, cons_halves_in, any_equal, differing}
 use Rattle.rules.specs.Ways.{Way, Follows, Good}
 use Rattle.rules.specs.Services.{accepted, Rule, rule_in, target_of, Matched, turned_away, match_of, match_with, match_picked, Reviewed, declined, review, review_of, review_picked}
-use Rattle.rules.specs.Following.{Solution}
 use Rattle.promises.specs.Matching.{states, ways}
 use Rattle.promises.specs.Suited.{Suits}
 use Rattle.promises.specs.Told.{Told}
-use Rattle.promises.specs.Dialects.{NoMore, rule_states, rule_rows_lem, rule_way, rule_done, not_alike}
+use Rattle.promises.specs.Dialects.{NoMore}
+use Rattle.promises.proofs.Dialects.{rule_states, rule_rows_lem, rule_way, rule_done, not_alike}
 use Rattle.promises.specs.FirstPlaces.{Some, halves_some, firsts, unless, choice_exactly}
 
 -- ---- "Dialect 1 runs on."

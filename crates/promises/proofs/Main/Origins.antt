@@ -13,7 +13,8 @@ use Rattle.forms.specs.Faults.{sane_exactly}
 use Rattle.forms.proofs.ReadTarget.{target_read}
 use Rattle.promises.specs.Origins.{PointsBack}
 use Rattle.promises.specs.Bindings.{bindings_point_back}
-use Rattle.promises.specs.Telling.{Tells, ways_told}
+use Rattle.promises.specs.Telling.{Tells}
+use Rattle.promises.proofs.Telling.{ways_told}
 
 module _ (ms ps ts : List ℤ) (r : Rule) (v : Value) (rule : rule_of ms ps ≡ accepted r) (target : target_of r.matcher ts ≡ accepted v) where
   -- Each value that a row tells points back: at its index stands a value of the target, of which its marks leave this one. (Form 1 tells the value's words,

@@ -6,11 +6,14 @@ use Rattle.rules.specs.Origins.{Valueᵒ, Bindings}
 use Rattle.rules.specs.Search.{Atom, atom, State, state, start}
 use Rattle.rules.specs.Ways.{Way, Follows, Good}
 use Rattle.rules.specs.Services.{Rule}
-use Rattle.promises.specs.Trace.{passed, trace, order, seen, trace_order}
+use Rattle.promises.specs.Trace.{passed, trace, order, seen}
+use Rattle.promises.proofs.Trace.{trace_order}
 use Rattle.rules.specs.Following.{Solution}
-use Rattle.promises.specs.Solve.{founds, founds_start}
-use Rattle.promises.specs.Nots.{inner, inner_writes_nothing, not_holds, not_fails}
-use Rattle.promises.specs.Listing.{Listing, solve_listing, listing_unique, way_ends}
+use Rattle.promises.specs.Solve.{founds}
+use Rattle.promises.proofs.Solve.{founds_start}
+use Rattle.promises.proofs.Nots.{inner, inner_writes_nothing, not_holds, not_fails}
+use Rattle.promises.specs.Listing.{Listing}
+use Rattle.promises.proofs.Listing.{solve_listing, listing_unique, way_ends}
 use Rattle.promises.specs.Matching.{states, ways}
 
 -- ---- Exactly the good ways.
@@ -23,7 +26,8 @@ module _ (dialect : Dialect) (r : Rule) (v : Value) where
 
   -- No other list is so.
   pub ways_only : (ss : List Solution) → Listing dialect r.matcher r.pattern v ss → ss ≡ ways dialect r v
-  ways_only ss l = listing_unique dialect r.matcher r.pattern v ss (ways dialect r v) l ways_listed
+  unfolding ways
+  ways_only ss l = listing_unique dialect r.matcher r.pattern v ss (ways dialect r v) l (solve_listing dialect r.matcher r.pattern v)
 
   -- No good way is the beginning of another, and a way has one row.
   pub no_way_begins_another : (u x : Way) (d e : Bindings) → Good dialect r.matcher r.pattern v u d → Good dialect r.matcher r.pattern v (u ++ x) e

@@ -8,11 +8,13 @@ use Rattle.rules.specs.Origins.{Bindings}
 use Rattle.rules.specs.Ways.{Way, Good}
 use Rattle.rules.specs.Services.{accepted, Rule, rule_in, rule_of, target_of, match_of, review}
 use Rattle.rules.specs.Rows.{Form}
-use Rattle.forms.specs.Faults.{sane_exactly, rule_accepted}
-use Rattle.promises.specs.Reviewing.{Review, TooBig, AlwaysTrue, count_of, review_judged, count_is, answer_10, answer_11, everybody}
-use Rattle.promises.specs.Matching.{some_row}
+use Rattle.forms.specs.Faults.{rule_accepted}
+use Rattle.promises.specs.Reviewing.{Review, TooBig, AlwaysTrue, count_of}
+use Rattle.promises.proofs.Reviewing.{review_judged, count_is, answer_10, answer_11, everybody}
+use Rattle.promises.proofs.Answers.{some_row}
 use Rattle.rules.specs.Always.{always_true}
-use Rattle.promises.specs.Reviewing.{Outside, review_counts, answer_9, answer_1_to_4}
+use Rattle.promises.specs.Reviewing.{Outside}
+use Rattle.promises.proofs.Reviewing.{review_counts, answer_9, answer_1_to_4}
 use Rattle.forms.specs.Faults.{RuleFault}
 
 -- ---- Review: one of a refusal, always true, a cap outside 0 to 64, too big, or the formula.

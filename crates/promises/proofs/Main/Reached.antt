@@ -7,10 +7,11 @@ use Rattle.rules.specs.Review.{factor, formula}
 use Rattle.rules.specs.Services.{accepted, Rule, rule_of, match_in, review}
 use Rattle.rules.specs.Rows.{Form}
 use Rattle.forms.specs.Written.{variable_tags}
-use Rattle.promises.specs.OldFigure.{old_formula, figure_less}
+use Rattle.promises.specs.OldFigure.{old_formula}
+use Rattle.promises.proofs.OldFigure.{figure_less}
 use Rattle.promises.specs.Exact.{Chain}
 use Rattle.promises.specs.Room.{widest}
-use Rattle.promises.specs.Reaching.{equals, reached_with_room}
+use Rattle.promises.proofs.Reaching.{equals, reached_with_room}
 
 pub never_above_the_old : (cap : ℕ) (p : Pattern) (m : Matcher) → formula cap p m ≤ old_formula cap p m
 never_above_the_old = figure_less

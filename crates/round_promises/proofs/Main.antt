@@ -22,14 +22,18 @@ use Rattle.promises.specs.Reviewing.{count_of}
 use Rattle.promises.specs.Matching.{states, ways}
 use Rattle.round_rules.specs.Rounds.{Branch, spent, left, inside, by_rounds, limit_of, states_in, match_rounds, match_rounds_picked}
 use Rattle.round_promises.specs.Listed.{onward, by_lists}
-use Rattle.round_promises.specs.Told.{run_told}
+use Rattle.round_promises.proofs.Told.{run_told}
 use Rattle.round_promises.specs.Permutations.{Rearranged}
-use Rattle.round_promises.specs.Order.{later, first_rounds, all, round_less}
+use Rattle.round_promises.specs.Order.{later, first_rounds, all}
+use Rattle.round_promises.proofs.Order.{round_less}
 use Rattle.round_promises.specs.Runs.{Overfull}
-use Rattle.round_promises.specs.Answers.{Ran, outcome}
-use Rattle.round_promises.specs.Whole.{search_of, short_of, none_follows, one_follows, beginning, in_rounds, states_rearranged, rows_rearranged, steps_same}
-use Rattle.round_promises.specs.Whole.{rounds_end, rule_alike, target_alike, limit_over, table_over, table_stands, full_stands, defined, answer_0, answer_7, answer_8}
-use Rattle.round_promises.specs.Whole.{answer_21, first_found, steps_bounded, rows_bounded, only_table, Alike, alike}
+use Rattle.round_promises.proofs.Answers.{Ran, outcome}
+use Rattle.round_promises.specs.Whole.{search_of, short_of, none_follows, one_follows, beginning, in_rounds}
+use Rattle.round_promises.proofs.Whole.{states_rearranged, rows_rearranged, steps_same}
+use Rattle.round_promises.specs.Whole.{table_over}
+use Rattle.round_promises.proofs.Whole.{rounds_end, rule_alike, target_alike, table_stands, full_stands, defined, answer_0, answer_7, answer_8}
+use Rattle.round_promises.proofs.Whole.{steps_bounded, rows_bounded, only_table}
+use Rattle.round_promises.proofs.Whole.{answer_21, first_found, Alike, alike}
 
 -- ---- Determined: two results that the definition allows agree in every number and every word of the room.
 

@@ -12,10 +12,12 @@ use Rattle.forms.specs.Written.{largest, variable_tags, pair_largest}
 use Rattle.forms.specs.Faults.{rule_accepted}
 use Rattle.forms.specs.Also.{well_formed_also}
 use Rattle.promises.specs.Reviewing.{count_of}
-use Rattle.promises.specs.Matching.{steps_bounded, rows_bounded, room_enough, tags_counted}
+use Rattle.promises.proofs.Reviewing.{count_is}
+use Rattle.promises.specs.Matching.{tags_counted}
+use Rattle.promises.proofs.Matching.{steps_bounded, rows_bounded}
+use Rattle.promises.proofs.Answers.{room_enough}
 use Rattle.promises.specs.Room.{widest}
 use Rattle.rules.specs.Dialects.{Dialect}
-use Rattle.promises.specs.Main.Reviews.{count_is_formula}
 
 -- The variables are those that the test of section 2 counts, at most 16.
 pub variables_counted : (ms ps : List ℤ) (r : Rule) → rule_of ms ps ≡ accepted r
@@ -55,12 +57,12 @@ module _ (dialect : Dialect) (form : Form) (ms ps ts : List ℤ) (budget : ℕ) 
   same_review = ap (review_rule (pos cap)) rule ∙ sym (ap (review_rule (pos cap)) one)
 
   figure_is : (review_of dialect ms ps (pos cap)).answer ≡ 0 → figure ≡ count_of cap r
-  figure_is a = ap (λ (x : Reviewed). x.count) same_review ∙ count_is_formula ms ps cap r one (sym (ap (λ (x : Reviewed). x.answer) same_review) ∙ a)
+  figure_is a = ap (λ (x : Reviewed). x.count) same_review ∙ (count_is ms ps cap r ((rule_accepted ms ps r).0 one) (sym (ap (λ (x : Reviewed). x.answer) same_review) ∙ a)).0
 
   pub steps_reviewed : (review_of dialect ms ps (pos cap)).answer ≡ 0 → (match_of dialect form ms ps ts budget room).steps ≤ figure
-  steps_reviewed a = subst (λ n. (match_of dialect form ms ps ts budget room).steps ≤ n) (sym (figure_is a)) steps_at_most
+  steps_reviewed a = subst (λ n. (match_of dialect form ms ps ts budget room).steps ≤ n) (sym (figure_is a)) (steps_bounded dialect form ms ps ts budget room r v rule target cap small)
 
   pub enough_reviewed : (review_of dialect ms ps (pos cap)).answer ≡ 0 → figure ≤ budget
       → factor cap 0 r.pattern r.matcher * variable_tags r.pattern * widest form (length ts) ≤ length room
       → (match_of dialect form ms ps ts budget room).answer ≡ 0
-  enough_reviewed a b = enough (subst (λ n. n ≤ budget) (figure_is a) b)
+  enough_reviewed a b = room_enough dialect form ms ps ts budget room r v rule target cap small (subst (λ n. n ≤ budget) (figure_is a) b)

@@ -1,6 +1,6 @@
 -- Document 02, No. 3: a not in the order of the states. Its own state is taken up; then those of the search inside it, up to its first row, which write
 -- nothing; and then one state follows if p has no way from the bindings held, else none.
-use Rattle.std.specs.Prelude.{ℕ, ◌≡◌, refl, Bool, false}
+use Rattle.std.specs.Prelude.{◌≡◌, refl, Bool, false}
 use Rattle.std.proofs.Common.{sym, ◌∙◌}
 use Rattle.std.proofs.Math.Path.{ap}
 use mathlib.Core.List.Memᴰ
@@ -13,8 +13,10 @@ use Rattle.rules.specs.Ways.{Way, Follows}
 use Rattle.rules.specs.Following.{Solution, solve}
 use Rattle.forms.specs.Lists.{Mem}
 use Rattle.promises.specs.Twin.{sound, complete}
-use Rattle.promises.specs.Trace.{Taken, passed, found, Met, taken, ended, pass, inside, visit, visit_all, met, close, trace, met_cons, met_first}
-use Rattle.promises.specs.Solve.{founds, stops, stops_visit, no_cons, not_ended}
+use Rattle.promises.specs.Trace.{Taken, passed, found, Met, taken, ended, inside, visit, visit_all, met, close, trace, met_first}
+use Rattle.promises.proofs.Trace.{met_cons}
+use Rattle.promises.specs.Solve.{founds, stops, no_cons, not_ended}
+use Rattle.promises.proofs.Solve.{stops_visit}
 
 -- ---- What is met inside, without an end and with one.
 

@@ -20,10 +20,14 @@ use Rattle.promises.specs.Trace.{trace}
 use Rattle.promises.specs.Budget.{report, Full, Outcome, done, spent, full}
 use Rattle.forms.proofs.ReadTarget.{target_read}
 use Rattle.forms.specs.Faults.{Sane, sane_exactly, rule_accepted, target_accepted}
-use Rattle.promises.specs.Reviewing.{count_of, count_is}
-use Rattle.promises.specs.Matching.{states, outcome, result, answer_0, answer_7, answer_8, room_enough}
+use Rattle.promises.specs.Reviewing.{count_of}
+use Rattle.promises.proofs.Reviewing.{count_is}
+use Rattle.promises.specs.Matching.{states}
+use Rattle.promises.proofs.Matching.{outcome, result}
+use Rattle.promises.proofs.Answers.{answer_0, answer_7, answer_8, room_enough}
 use Rattle.promises.specs.Room.{widest}
-use Rattle.promises.specs.Exact.{wild, ends, link, Chain, copies, states_exact}
+use Rattle.promises.specs.Exact.{wild, ends, link, Chain, copies}
+use Rattle.promises.proofs.Exact.{states_exact}
 
 -- A collection of so many equal integers: its words are read as it, it fits, and no collection in it has more elements.
 module _ (x : ℤ) where

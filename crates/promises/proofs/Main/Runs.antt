@@ -1,7 +1,7 @@
 -- Document 01, section 3, answers 0, 7 and 8, at every budget and in every room: for an input that is not refused, what a run takes up, writes and answers.
 use Rattle.std.specs.Prelude.{ℕ, suc, ◌≤◌, ◌<◌, ◌≡◌, ◌↔◌, List, [], ◌∷◌, ◌++◌, length, take, drop, ℤ}
 use Rattle.rules.specs.Dialects.{Dialect}
-use Rattle.rules.specs.Forms.{Value, words}
+use Rattle.rules.specs.Forms.{Value}
 use Rattle.rules.specs.Origins.{Bindings}
 use Rattle.rules.specs.Rows.{Form}
 use Rattle.rules.specs.Search.{run_in, start}
@@ -9,7 +9,9 @@ use Rattle.rules.specs.Ways.{Way, Good}
 use Rattle.rules.specs.Services.{accepted, Rule, rule_in, target_of, Matched, carried_out, match_of}
 use Rattle.forms.specs.Written.{variable_tags}
 use Rattle.promises.specs.Budget.{report, Full, Outcome}
-use Rattle.promises.specs.Matching.{states, ways, rows_of_ways, outcome, result, answer_0, answer_7, answer_8, full_stands, first_ways, all_ways, no_row, way_binds}
+use Rattle.promises.specs.Matching.{states, ways, rows_of_ways}
+use Rattle.promises.proofs.Matching.{outcome, result, full_stands, first_ways, all_ways, way_binds}
+use Rattle.promises.proofs.Answers.{answer_0, answer_7, answer_8, no_row}
 
 -- For an input that is not refused, read as the rule r and the value v; `it` is what match gives.
 module _ (dialect : Dialect) (form : Form) (ms ps ts : List ℤ) (budget : ℕ) (room : List ℤ) (r : Rule) (v : Value)

@@ -4,19 +4,23 @@ use native.Mathlib.Omega.{arith}
 use Rattle.std.specs.Prelude.{◌≡◌, ◌⊎◌, ◌↔◌, Bool, true, false, take, T, leb}
 use Rattle.std.proofs.Math.Path.{refl, sym, ap, subst}
 use Rattle.std.proofs.Common.{◌∙◌, inl, inr, leb→le, le→leb}
-use mathlib.Core.List.{List, [], ◌∷◌, ◌++◌, flat_map, append_assoc}
+use mathlib.Core.List.{List, [], ◌++◌, flat_map, append_assoc}
 use Rattle.std.proofs.Math.ListN.{length, length-append}
 use Rattle.std.proofs.Math.Seq.{take-append_seam}
 use Rattle.rules.specs.Dialects.{Dialect}
 use Rattle.rules.specs.Rows.{Form, row}
 use Rattle.rules.specs.Search.{Run}
 use Rattle.promises.specs.Trace.{Taken, walk}
-use Rattle.promises.specs.Solve.{founds, founds_append}
-use Rattle.promises.specs.Budget.{rows_of, report, Full, Outcome, done, spent, full, walk_outcome, walk_full, full_rows, answers_0, answers_7, answers_8, steps_most, first_rows}
+use Rattle.promises.specs.Solve.{founds}
+use Rattle.promises.proofs.Solve.{founds_append}
+use Rattle.promises.specs.Budget.{rows_of, report, Full, Outcome, done, spent, full}
+use Rattle.promises.proofs.Budget.{walk_outcome, walk_full, full_rows, answers_0, answers_7, answers_8, steps_most, first_rows}
 use Rattle.round_rules.specs.Rounds.{Branch}
 use Rattle.round_promises.specs.Listed.{round, onward, by_lists}
-use Rattle.round_promises.specs.Order.{later, first_rounds, all, order, none_taken, ends}
-use Rattle.round_promises.specs.Runs.{Overfull, ByRounds, walks, table, by_rounds_lem}
+use Rattle.round_promises.specs.Order.{later, first_rounds, all, order, none_taken}
+use Rattle.round_promises.proofs.Order.{ends}
+use Rattle.round_promises.specs.Runs.{Overfull, ByRounds, walks, table}
+use Rattle.round_promises.proofs.Runs.{by_rounds_lem}
 
 -- Everything here is of rows in one form.
 module _ (dialect : Dialect) (form : Form) where

@@ -1,0 +1,19 @@
+-- The theorems of the three demands, and what they rest on. Read Main; the others hold the proofs.
+pub mod Trace
+pub mod Solve
+pub mod Nots
+pub mod Listing
+pub mod Budget
+pub mod Bound
+pub mod OldFigure
+pub mod Exact
+pub mod Room
+pub mod Reviewing
+pub mod Alike
+pub mod Fewer
+pub mod Matching
+pub mod Answers
+pub mod Dialects
+pub mod Reaching
+pub mod Telling
+pub mod Main
