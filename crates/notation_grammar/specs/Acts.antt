@@ -1,5 +1,5 @@
 -- What each act of the automaton does to what waits, and to the words.
-use Rattle.std.specs.Prelude.{ℕ, zero, suc, ◌+◌, ◌-◌, ◌/◌, ◌%◌, ◌≤◌, ◌<◌, ◌≡◌, refl, Bool, cond, eqb, ltb, leb, T, pos}
+use Rattle.std.specs.Prelude.{ℕ, suc, ◌+◌, ◌/◌, ◌%◌, ◌≤◌, ◌<◌, ◌≡◌, refl, Bool, cond, eqb, T}
 use Rattle.std.proofs.Common.{arith, ◌∙◌}
 use Rattle.std.proofs.Math.Numerals.{add-one}
 use Rattle.std.proofs.Math.Path.{sym, ap, subst}
@@ -9,10 +9,10 @@ use Rattle.std.proofs.Math.ListN.{length, length-append}
 use Rattle.std.proofs.Math.IntN.{ℤ}
 use mir.Syntax.{w32}
 use mir.Val.{to_z}
-use Rattle.notation_step.specs.Stepped.{inserted, Puts, puts, putting_some, heading, bits_of, entry_at, put_at, Pile, piled, pushed, start_of, headed_of, View, view, next_place, tag_bits, mode_bits, tag_word, appended, signing, closing, comma_stand, comma_stack, crowded, crowded_by}
+use Rattle.notation_step.specs.Stepped.{inserted, Puts, puts, putting_some, bits_of, Pile, piled, pushed, start_of, View, view, next_place, tag_bits, mode_bits, tag_word, appended, signing}
 use Rattle.notation_step.specs.declared.Stand.{Stand}
 use Rattle.notation_grammar.specs.Over.{over, put_between, put_behind, nothing_behind}
-use Rattle.notation_grammar.specs.Waits.{Wait, wait, under, Held, held_more, held_taller, taller, taller_size, put_size, held_counted}
+use Rattle.notation_grammar.specs.Waits.{Wait, wait, under, Held, held_more, held_taller, taller, taller_size}
 
 -- Where the code stands, by the words so far.
 abbrev pub stood : (place m p top start : ℕ) → List ℤ → Stand

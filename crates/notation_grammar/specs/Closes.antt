@@ -1,19 +1,19 @@
 -- What waits last is closed, has a part more, or is ended by what reaches over it.
-use Prim.Native.Nat.{ℕ, zero, suc, ◌+◌, ◌-◌, ◌/◌, ◌%◌, ◌≤◌, ◌<◌}
+use Prim.Native.Nat.{ℕ, zero, suc, ◌+◌, ◌-◌, ◌%◌, ◌≤◌, ◌<◌}
 use Rattle.std.proofs.Common.{arith, ap, ◌∙◌, le-leb, ne_eqb, length-append, to_z}
 use Rattle.std.proofs.Math.Numerals.{add-one}
 use Rattle.std.proofs.Math.Nat.{mod-eq_of_lt, mod-lt}
-use Rattle.std.specs.Prelude.{◌≡◌, Bool, cond, length, eqb, ltb, leb, T, pos}
+use Rattle.std.specs.Prelude.{◌≡◌, Bool, cond, length, eqb, leb}
 use Rattle.std.proofs.Math.Path.{refl, sym, subst}
 use Rattle.std.proofs.Math.Bool.{true, false}
 use mathlib.Core.List.{List, [], ◌∷◌, ◌++◌, append_assoc}
 use Rattle.std.proofs.Math.IntN.{ℤ}
 use Rattle.std.specs.Int.{w32}
-use Rattle.notation_step.specs.Stepped.{inserted, puts, heading, bits_of, entry_at, put_at, headed_of, View, view, next_place, tag_word, closing, comma_stand, comma_stack, crowded, crowded_by, placed, settling, settled, shade_of, refused}
+use Rattle.notation_step.specs.Stepped.{inserted, puts, heading, bits_of, entry_at, put_at, headed_of, view, next_place, tag_word, closing, comma_stand, comma_stack, crowded, crowded_by, placed, settling, settled, shade_of, refused}
 use Rattle.notation_step.specs.declared.Stand.{Stand}
 use Rattle.notation_grammar.specs.Over.{over, put_between, nothing_behind}
 use Rattle.notation_grammar.specs.Waits.{Wait, wait, under, Held, held_more, held_counted, put_size}
-use Rattle.notation_grammar.specs.Acts.{stood, standing, At, at}
+use Rattle.notation_grammar.specs.Acts.{standing, At, at}
 
 -- A tag and a number before words, where there are any.
 abbrev pub head_by : Bool → (tag parts : ℕ) → List ℤ → List ℤ

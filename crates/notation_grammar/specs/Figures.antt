@@ -1,11 +1,11 @@
 -- Numbers in a word, plain and behind a minus, and when they are too large.
-use Rattle.std.specs.Prelude.{ℕ, zero, suc, ◌+◌, ◌-◌, ◌%◌, ◌≤◌, ◌<◌, ◌^◌, ◌≡◌, refl, Bool, true, false, not, cond, eqb, ltb, leb, T, ℤ, pos, negsuc}
-use Rattle.std.proofs.Common.{arith, mod-eq_of_lt, sym, ap, ◌∙◌, lt-ltb, le-ltb, le-leb, ltb-true, ltb-false, ltb→lt}
+use Rattle.std.specs.Prelude.{ℕ, zero, suc, ◌-◌, ◌%◌, ◌<◌, ◌^◌, ◌≡◌, refl, Bool, true, false, not, cond, eqb, ltb, leb, T, pos, negsuc}
+use Rattle.std.proofs.Common.{arith, mod-eq_of_lt, ap, ◌∙◌, lt-ltb, le-ltb, le-leb, ltb-true, ltb-false, ltb→lt}
 use Rattle.std.proofs.lemmas.Bool.{lt-leb}
 use Rattle.std.specs.Int.{w32}
 use mir.Val.{to_z, sel}
 use Rattle.rules.specs.Numbers.{in_range}
-use Rattle.notation_rules.specs.Tokens.{minus', numeral}
+use Rattle.notation_rules.specs.Tokens.{minus'}
 use Rattle.notation_step.specs.Stepped.{bits_of, too_large}
 
 pub large_plain : (n : ℕ) → too_large 1 n ≡ not (in_range (pos n))

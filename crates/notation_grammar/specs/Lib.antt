@@ -1,4 +1,4 @@
--- That the reader's code takes up the tokens as the notation's grammar does. Main states it.
+-- That the reader's code takes up the tokens as the notation's grammar does. Main in proofs/ states it.
 pub mod Over
 pub mod Waits
 pub mod Acts
@@ -10,13 +10,8 @@ pub mod Steps
 pub mod UnitSteps
 pub mod MatcherSteps
 pub mod PatternSteps
-pub mod PatternReads
-pub mod PatternHas
-pub mod Endings
-pub mod Simulates
 pub mod Ranges
 pub mod Names
 pub mod Resolves
-pub mod Reads
 pub mod Written
 pub mod Main

@@ -1,5 +1,5 @@
 -- A step in the matcher of a rule.
-use Rattle.std.specs.Prelude.{ℕ, zero, suc, ◌+◌, ◌-◌, ◌≤◌, ◌<◌, ◌≡◌, Bool, length, ltb, leb, T, pos}
+use Rattle.std.specs.Prelude.{ℕ, suc, ◌+◌, ◌-◌, ◌≤◌, ◌<◌, ◌≡◌, Bool, length, ltb, pos}
 use native.Mathlib.Omega.{arith}
 use Rattle.std.proofs.Math.Path.{refl, ap, subst}
 use Rattle.std.proofs.Common.{sym, ◌∙◌, ne_eqb}
@@ -9,7 +9,7 @@ use mathlib.Core.List.{List, [], ◌∷◌, ◌++◌, append_assoc}
 use Rattle.std.proofs.lemmas.Bool.{lt-leb}
 use Rattle.std.proofs.Math.Dec.{eqb}
 use Rattle.std.proofs.Math.IntN.{ℤ}
-use Rattle.rules.specs.Forms.{Value, Matcher, something, integer, list, multiset, tuple_of, no_matchers, ◌▸ᵐ◌}
+use Rattle.rules.specs.Forms.{Value, Matcher, something, integer, list, multiset}
 use Rattle.forms.specs.Written.{matcher_words}
 use Rattle.notation_rules.specs.Tokens.{misplaced, Mark, comma, closing, underscore, hash, bang, plus, minus, opening, left, right, anything, integers, list_of, multiset_of, matching, by, with', code, look, blame}
 use Rattle.notation_rules.specs.Matchers as M
@@ -18,12 +18,12 @@ use Rattle.notation_rules.specs.Rules.{is_mark}
 use Rattle.notation_step.specs.Stepped.{View, view, bits_of, too_large, appending, taking, action_of, action_at, row_of, reach_of, settled, refused, headed_of, sectioned, crowded_by, stepped}
 use Rattle.notation_same.specs.Chars.{token_of}
 use Rattle.notation_grammar.specs.Over.{over}
-use Rattle.notation_grammar.specs.Waits.{wait, under, Held}
+use Rattle.notation_grammar.specs.Waits.{under, Held}
 use Rattle.notation_grammar.specs.Acts.{standing, At, new}
 use Rattle.notation_grammar.specs.Acts as A
 use Rattle.notation_grammar.specs.Closes as C
 use Rattle.notation_grammar.specs.Closes.{shade_by, shade_is}
-use Rattle.notation_grammar.specs.One.{in_matcher, in_pattern, stops, handed, after_part, on_step, step_of}
+use Rattle.notation_grammar.specs.One.{in_matcher, stops, handed, after_part, on_step, step_of}
 use Rattle.notation_grammar.specs.Shapes.{cause_of, listed, matchers_closed, all, matcher_wait, units_words, both_words, AtMatcher, InMatcher, wants, has, InPattern, Stands, Follows}
 use Rattle.notation_grammar.specs.Steps.{tok, by_kind, any_row, from_place, parts, misses, roomy}
 

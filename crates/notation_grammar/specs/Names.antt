@@ -1,13 +1,13 @@
 -- The names that the code finds are those that the notation finds, and its tokens with variables for names are the notation's.
 use Prim.Native.Nat.{ℕ, zero, suc, ◌+◌, ◌-◌, ◌≤◌, ◌<◌}
-use Rattle.std.proofs.Common.{arith, add-one, sym, ◌∙◌, length-drop, drop_of_length-le, get_or-set_same, get_or-set_other}
-use Rattle.std.specs.Prelude.{◌≡◌, Bool, true, false, cond, ◌||◌, List, [], ◌∷◌, length, get_or, set, drop, eqb, ltb, leb, ℤ, pos}
+use Rattle.std.proofs.Common.{arith, add-one, ◌∙◌, length-drop, drop_of_length-le, get_or-set_same, get_or-set_other}
+use Rattle.std.specs.Prelude.{◌≡◌, Bool, true, false, cond, ◌||◌, List, [], ◌∷◌, length, drop, eqb, ltb, ℤ, pos}
 use Rattle.std.proofs.Math.Path.{refl, ap}
 use Rattle.std.proofs.Math.Option.{Option, none, some}
-use borrow.Author.Tests.{lt-ltb, le-ltb, leb-true, leb-false, eqb-true, eqb-false}
+use borrow.Author.Tests.{lt-ltb}
 use Rattle.std.proofs.Math.Seq.{slice}
 use Rattle.rules.specs.Limits.{variables_limit}
-use Rattle.notation_rules.specs.Tokens.{Cause, unknown_name, bound_twice, used_before, over_limit, Raw, TokenOf, mark, sign, binds, uses, number, wrong}
+use Rattle.notation_rules.specs.Tokens.{bound_twice, over_limit, Raw, binds, uses, wrong}
 use Rattle.notation_rules.specs.Tokens.{Token as Resolved}
 use Rattle.notation_rules.specs.Letters.{same_word, full}
 use Rattle.notation_rules.specs.Names.{find, bound_in, missing, resolve}
@@ -15,10 +15,11 @@ use Rattle.notation_rules.specs.Places.{◌from◌, spots, bare}
 use Rattle.notation_scan.specs.Scanned.{whole_at, advanced, token, scan_from, nothing, scanned}
 use Rattle.notation_scan.specs.declared.Begun.{Begun as Code}
 use Rattle.notation_scan.specs.declared.Token.{Token}
-use Rattle.notation_read.specs.Read.{entry_of, put_of, name_of, found, bound_by, bound_later, binding_of, using_of, resolved, Names, names, adding}
+use Rattle.notation_read.specs.Read.{entry_of, put_of, name_of, found, bound_by, bound_later}
 use Rattle.notation_same.specs.Chars.{token_of, All, pick}
 use Rattle.notation_grammar.specs.Ranges.{in_text}
-use Rattle.notation_same.specs.Scans.{Bytes, raw_of, spotted, from_index}
+use Rattle.notation_same.specs.Scans.{Bytes, raw_of, spotted}
+use Rattle.notation_same.proofs.Scans.{from_index}
 
 -- The names of a table, the last one first.
 unfoldable pub names_of : List ℕ → (froms tos : List ℕ) → ℕ → List (List ℕ)

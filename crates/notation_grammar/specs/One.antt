@@ -1,6 +1,5 @@
 -- The notation's reader of a rule, three machines one behind the other, as one machine.
-use Rattle.std.specs.Prelude.{ℕ, suc, ◌≡◌, refl, Bool, true, false, List, [], ◌∷◌, length}
-use Rattle.std.proofs.Common.{ap, ◌∙◌}
+use Rattle.std.specs.Prelude.{suc, ◌≡◌, refl, Bool, true, false, List, [], ◌∷◌, length}
 use Rattle.std.proofs.Math.Option.{Option, none, some}
 use Rattle.rules.specs.Forms.{Matcher, Pattern, Value}
 use Rattle.notation_rules.specs.Tokens.{Cause, cut_short, Outcome, done, refused, Mark, matching, by, with', Token, Step, next, no, bad, Ended, is, lacks, blame, stopped, whole, run}

@@ -1,6 +1,6 @@
 -- A step in the pattern of a rule, where no pattern is whole.
-use Rattle.std.specs.Prelude.{ℕ, zero, suc, ◌+◌, ◌-◌, ◌≤◌, ◌<◌, ◌≡◌, Bool, cond, length, T, ℤ, pos}
-use Rattle.std.proofs.Common.{arith, sym, ap, ◌∙◌}
+use Rattle.std.specs.Prelude.{ℕ, suc, ◌≤◌, ◌<◌, ◌≡◌, Bool, cond, length, T, ℤ, pos}
+use Rattle.std.proofs.Common.{arith, sym}
 use Rattle.std.proofs.Math.Path.{refl, subst}
 use Rattle.std.proofs.Math.Bool.{true, false}
 use Rattle.std.proofs.Math.Option.{Option}
@@ -16,7 +16,7 @@ use Rattle.notation_grammar.specs.Over.{over}
 use Rattle.notation_grammar.specs.Waits.{under, Held}
 use Rattle.notation_grammar.specs.Acts.{standing, At, new}
 use Rattle.notation_grammar.specs.Acts as A
-use Rattle.notation_grammar.specs.One.{in_pattern, stops, on_step, step_of}
+use Rattle.notation_grammar.specs.One.{in_pattern, on_step, step_of}
 use Rattle.notation_grammar.specs.Figures.{large_plain, large_minus, word_plain, word_minus, in_range_lem}
 use Rattle.notation_grammar.specs.Shapes.{cause_of, listed, all, pattern_wait, units_words, both_words, AtPattern, InPattern, Stands, Follows}
 use Rattle.notation_grammar.specs.Steps.{tok, Small, by_named, any_row, from_place, ranges}

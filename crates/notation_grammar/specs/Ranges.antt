@@ -1,5 +1,5 @@
 -- The scanner's tokens: of which kinds they are, and that they begin in the text.
-use Rattle.std.specs.Prelude.{ℕ, zero, suc, ◌+◌, ◌*◌, ◌/◌, ◌%◌, ◌≤◌, ◌<◌, ◌≡◌, refl, Bool, true, false, cond, ◌&&◌, List, [], ◌∷◌, length, get_or, drop, eqb, ltb, T}
+use Rattle.std.specs.Prelude.{ℕ, zero, suc, ◌+◌, ◌/◌, ◌%◌, ◌≤◌, ◌<◌, ◌≡◌, Bool, true, false, cond, ◌&&◌, List, [], ◌∷◌, length, get_or, drop, eqb, ltb, T}
 use Rattle.std.proofs.Common.{arith, length-drop, ltb→lt}
 use Rattle.std.proofs.Math.Seq.{slice}
 use Rattle.notation_rules.specs.Tokens.{anything, integers, list_of, multiset_of, matching, by, with'}

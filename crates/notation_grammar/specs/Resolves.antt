@@ -2,10 +2,9 @@
 use Prim.Native.Nat.{ℕ, zero, suc, ◌+◌, ◌-◌, ◌≤◌, ◌<◌}
 use native.Mathlib.Omega.{arith}
 use Rattle.std.proofs.Math.Path.{◌≡◌, refl, ap, subst}
-use Rattle.std.proofs.Common.{sym, ◌∙◌, lt-ltb, le-ltb, le-leb, eqb-true, ltb-true, ltb-false, length-set}
-use Rattle.std.specs.Prelude.{Bool, length, drop, set, eqb, leb, T, pos}
+use Rattle.std.proofs.Common.{sym, ◌∙◌, lt-ltb, ltb-true, length-set}
+use Rattle.std.specs.Prelude.{Bool, length, drop, set, eqb, leb, pos}
 use Rattle.std.proofs.Math.Bool.{true, false, cond}
-use Rattle.std.proofs.Math.Option.{Option, none, some}
 use mathlib.Core.List.{List, [], ◌∷◌}
 use Rattle.std.proofs.lemmas.Bool.{lt-leb, eqb-false}
 use Rattle.std.proofs.Math.Seq.{slice}
@@ -16,7 +15,7 @@ use Rattle.notation_rules.specs.Letters.{same_word, full}
 use Rattle.notation_rules.specs.Names.{find, bound_in, missing, resolve}
 use Rattle.notation_rules.specs.Places.{spots, bare}
 use Rattle.notation_scan.specs.declared.Token.{Token}
-use Rattle.notation_read.specs.Read.{name_of, put_of, found, bound_later, plain, binding_of, using_of, resolved, Names, names, adding, added}
+use Rattle.notation_read.specs.Read.{name_of, put_of, found, bound_later, plain, binding_of, using_of, resolved, Names, names, adding}
 use Rattle.notation_read.specs.declared.Named.{Named}
 use Rattle.notation_same.specs.Chars.{token_of}
 use Rattle.notation_same.specs.Scans.{Bytes, raw_of}

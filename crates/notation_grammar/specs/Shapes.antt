@@ -1,12 +1,12 @@
 -- What the notation's reader has at each of its modes is what the code has: the place, what waits, and the words of all of it.
-use Rattle.std.specs.Prelude.{ℕ, zero, suc, ◌+◌, ◌≤◌, ◌<◌, ◌≡◌, refl, Bool, cond, length, ℤ, pos}
+use Rattle.std.specs.Prelude.{ℕ, suc, ◌+◌, ◌<◌, ◌≡◌, refl, Bool, cond, length, ℤ, pos}
 use Rattle.std.proofs.Common.{arith, ◌∙◌, to_z}
 use Rattle.std.proofs.Math.Path.{sym, ap}
 use Rattle.std.proofs.Math.Bool.{true, false}
 use Rattle.std.proofs.Math.Option.{Option, none, some}
 use mathlib.Core.List.{List, [], ◌∷◌, ◌++◌, append_assoc}
 use Rattle.std.specs.Int.{w32}
-use Rattle.rules.specs.Forms.{Matcher, Matchers, no_matchers, ◌▸ᵐ◌, countᵐ, Pattern, Patterns, no_patterns, ◌▸ᵖ◌, countᵖ, Value, Values, empty, ◌▸◌, count, words, words_all}
+use Rattle.rules.specs.Forms.{Matcher, no_matchers, ◌▸ᵐ◌, countᵐ, Pattern, no_patterns, ◌▸ᵖ◌, countᵖ, Value, empty, ◌▸◌, count, words, words_all}
 use Rattle.forms.specs.Written.{matcher_words, matcher_words_all, pattern_words, pattern_words_all}
 use Rattle.notation_rules.specs.Tokens.{Cause, unknown_sign, misplaced, cut_short, bracket_open, unknown_name, bound_twice, used_before, out_of_range, over_limit, Sign, consing, joining, anding, oring}
 use Rattle.notation_rules.specs.Targets as U

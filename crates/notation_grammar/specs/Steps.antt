@@ -1,20 +1,19 @@
 -- A step of the code from what it stands for, by the kind of the token.
-use Rattle.std.specs.Prelude.{ℕ, zero, suc, ◌+◌, ◌-◌, ◌%◌, ◌≤◌, ◌<◌, Bool, List, [], ◌∷◌, ◌++◌, length, eqb, ltb, leb, T, ℤ, pos}
+use Rattle.std.specs.Prelude.{ℕ, suc, ◌-◌, ◌<◌, Bool, List, [], ◌∷◌, eqb, ltb, T, ℤ, pos}
 use Rattle.std.proofs.Common.{arith, sym, ◌∙◌, le-leb, ltb-true, ltb-false}
 use Rattle.std.proofs.Math.Path.{◌≡◌, refl, ap, subst}
 use Rattle.std.proofs.Math.Bool.{true, false, not, cond}
 use Rattle.std.proofs.lemmas.Bool.{lt-leb}
 use Rattle.rules.specs.Forms.{Matcher, Pattern, Value}
 use Rattle.rules.specs.Numbers.{in_range}
-use Rattle.notation_rules.specs.Tokens.{Cause, unknown_sign, misplaced, cut_short, bracket_open, unknown_name, bound_twice, used_before, out_of_range, over_limit, Ended, is, lacks, Mark, comma, closing, Token, mark, sign, binds, uses, number, wrong, code, Step, next, no, bad, Entry, ◌⇒◌, ◌refuses◌, look, ranged}
+use Rattle.notation_rules.specs.Tokens.{Cause, out_of_range, over_limit, Ended, is, lacks, Mark, comma, closing, Token, wrong, code, Step, next, no, bad, Entry, ◌⇒◌, ◌refuses◌, look, ranged}
 use Rattle.notation_rules.specs.Targets as U
 use Rattle.notation_rules.specs.Matchers as M
 use Rattle.notation_rules.specs.Patterns as P
 use Rattle.notation_rules.specs.Patterns.{want, bracket, hashed, negative, inner, named, signed, shutting, ◌on◌, have}
-use Rattle.notation_step.specs.Stepped.{View, view, stepped, taking, action_of, action_at, row_of, reach_of, shade_of, settled, refused, too_large, crowded_by}
-use Rattle.notation_step.specs.declared.Stand.{Stand}
+use Rattle.notation_step.specs.Stepped.{View, view, stepped, taking, action_of, action_at, row_of, reach_of, settled, refused, crowded_by}
 use Rattle.notation_same.specs.Chars.{token_of, All, pick}
-use Rattle.notation_grammar.specs.Waits.{Wait, wait, under, Held}
+use Rattle.notation_grammar.specs.Waits.{Wait, wait, Held}
 use Rattle.notation_grammar.specs.Acts.{standing}
 use Rattle.notation_grammar.specs.Closes.{shade_by, shade_is, none_ends}
 use Rattle.notation_grammar.specs.One.{Mode, begins, in_units, in_matcher, in_pattern, Next, goes, stops, after_part, on_step, step_of}
@@ -92,37 +91,6 @@ wrong_stops (in_matcher u x) c = go (M.ending x)
     go (lacks d) = refl
 wrong_stops (in_pattern u m (x on fs)) c = refl
 wrong_stops (in_pattern u m (have p fs)) c = ap (on_step (in_pattern u m) (stops c)) (collapse_no 0 p fs)
-
--- The causes by their numbers.
-causes : (k value : ℕ) → All (λ j. (c : Cause) × tok j value ≡ wrong c × j - 24 ≡ cause_of c) 25 9
-unfolding All token_of cause_of
-causes k value = (
-  (unknown_sign, refl, refl),
-  (
-    (misplaced, refl, refl),
-    (
-      (cut_short, refl, refl),
-      (
-        (bracket_open, refl, refl),
-        (
-          (unknown_name, refl, refl),
-          (
-            (bound_twice, refl, refl),
-            ((used_before, refl, refl), ((out_of_range, refl, refl), ((over_limit, refl, refl), tt))),
-          ),
-        ),
-      ),
-    ),
-  ),
-)
-
-pub from_wrong : (ws₀ : List ℤ) (n : ℕ) (x : Mode) (stack : List ℕ) (ws : List ℤ) (s : Stand) (k value : ℕ) → 25 ≤ k → k < 34 → Follows ws₀ n (step_of x (tok k value)) (stepped stack ws s k value)
-unfolding stepped refused view Follows
-from_wrong ws₀ n x stack ws s k value l h =
-    let t = pick (λ j. (c : Cause) × tok j value ≡ wrong c × j - 24 ≡ cause_of c) 9 25 k (causes k value) l h in
-    subst (λ o. Follows ws₀ n o (stepped stack ws s k value)) (sym (ap (step_of x) t.1 ∙ wrong_stops x t.0))
-    (subst (λ b. (cond b (view (refused s (k - 24)) stack ws) (taking stack ws (settled stack s (reach_of s.place k)) (action_at stack (settled stack s (reach_of s.place k)) k) value)).stand.cause ≡ cause_of t.0)
-    (sym (le-leb 24 k (omega arith))) t.2)
 
 -- ---- Numbers, and parts of a bracket.
 module _ (ws₀ : List ℤ) (n : ℕ) {A : Type 0} (f : A → Mode) (o : Next) where

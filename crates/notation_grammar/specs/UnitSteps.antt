@@ -1,27 +1,25 @@
 -- A step in the units of a rule, and before it.
-use Rattle.std.specs.Prelude.{ℕ, zero, suc, ◌+◌, ◌≤◌, ◌<◌, ◌≡◌, Bool, not, cond, length, ltb, T, ℤ, pos}
-use Rattle.std.proofs.Common.{arith, sym, ap, ◌∙◌, ne_eqb, to_z}
+use Rattle.std.specs.Prelude.{ℕ, suc, ◌+◌, ◌≤◌, ◌<◌, ◌≡◌, Bool, cond, length, ltb, ℤ, pos}
+use Rattle.std.proofs.Common.{arith, sym, ap, ◌∙◌, ne_eqb}
 use Rattle.std.proofs.Math.Path.{refl, subst}
 use Rattle.std.proofs.Math.Bool.{true, false}
 use Rattle.std.proofs.Math.Option.{some}
 use mathlib.Core.List.{List, [], ◌∷◌, ◌++◌}
 use Rattle.std.proofs.Math.Dec.{eqb}
-use Rattle.std.specs.Int.{w32}
-use Rattle.rules.specs.Forms.{Value, int, collection, tupled, empty, ◌▸◌, words}
-use Rattle.rules.specs.Numbers.{in_range}
+use Rattle.rules.specs.Forms.{Value, int, collection, empty, ◌▸◌, words}
 use Rattle.notation_rules.specs.Tokens.{misplaced, Mark, comma, closing, underscore, hash, bang, plus, minus, opening, left, right, anything, integers, list_of, multiset_of, matching, by, with', code, look, minus', numeral, blame}
 use Rattle.notation_rules.specs.Targets as U
 use Rattle.notation_rules.specs.Matchers as M
 use Rattle.notation_rules.specs.Rules.{is_mark}
 use Rattle.notation_step.specs.Stepped.{View, view, puts, putting_some, pushed, piled, start_of, bits_of, too_large, appended, appending, taking, action_of, row_of, reach_of, refused, headed_of, sectioned, crowded_by, stepped}
 use Rattle.notation_same.specs.Chars.{token_of}
-use Rattle.notation_grammar.specs.Over.{over, nothing_behind}
-use Rattle.notation_grammar.specs.Waits.{Wait, wait, under, Held, held_more}
+use Rattle.notation_grammar.specs.Over.{over}
+use Rattle.notation_grammar.specs.Waits.{under, Held}
 use Rattle.notation_grammar.specs.Acts.{standing, At, at, new}
 use Rattle.notation_grammar.specs.Acts as A
 use Rattle.notation_grammar.specs.Closes as C
 use Rattle.notation_grammar.specs.Closes.{shade_by}
-use Rattle.notation_grammar.specs.One.{Mode, begins, in_units, in_matcher, goes, stops, handed, after_part, on_step, step_of}
+use Rattle.notation_grammar.specs.One.{begins, in_units, stops, handed, after_part, on_step, step_of}
 use Rattle.notation_grammar.specs.Figures.{large_plain, large_minus, word_plain, word_minus, in_range_lem}
 use Rattle.notation_grammar.specs.Shapes.{cause_of, listed, units_closed, all, unit_wait, units_words, InMatcher, wants, InUnits, Stands, Follows}
 use Rattle.notation_grammar.specs.Steps.{tok, by_kind, any_row, from_place, ranges, parts, misses, roomy}

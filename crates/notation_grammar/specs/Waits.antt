@@ -1,10 +1,10 @@
 -- What waits, as the code's table holds it: how tight it is, how many of its parts are read, and its words so far.
-use Prim.Native.Nat.{ℕ, zero, suc, ◌+◌, ◌-◌, ◌%◌, ◌≤◌, ◌<◌}
+use Prim.Native.Nat.{ℕ, suc, ◌+◌, ◌≤◌, ◌<◌}
 use native.Mathlib.Omega.{arith}
-use Rattle.std.specs.Prelude.{◌≡◌, refl, Bool, true, false, cond, length, get_or, set, eqb, ltb, leb, T, ℤ}
-use Rattle.std.proofs.Common.{sym, ap, subst, ◌∙◌, lt-ltb, ne_eqb, length-set, get_or-set_same, get_or-set_other}
+use Rattle.std.specs.Prelude.{◌≡◌, refl, Bool, true, false, cond, length, get_or, set, ltb, T, ℤ}
+use Rattle.std.proofs.Common.{◌∙◌, lt-ltb, length-set, get_or-set_same, get_or-set_other}
 use mathlib.Core.List.{List, [], ◌∷◌, ◌++◌}
-use Rattle.notation_step.specs.Stepped.{entry_at, put_at, Pile, piled, pushed, shade_of}
+use Rattle.notation_step.specs.Stepped.{entry_at, put_at}
 
 pub data Wait : Type 0 where
   wait : (tight parts : ℕ) → List ℤ → Wait

@@ -5,4 +5,3 @@ pub mod Numbers
 pub mod Patterns
 pub mod Units
 pub mod Main
-pub mod Accepted

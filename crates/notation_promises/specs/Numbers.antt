@@ -3,7 +3,7 @@ use Rattle.std.specs.Prelude.{ℕ, zero, suc, ◌+◌, ◌-◌, ◌^◌, ◌≤�
 use Rattle.std.proofs.Common.{arith, ap, ◌∙◌, lt-ltb, le-ltb, ne_eqb, ltb→lt, of_z}
 use Rattle.std.specs.Int.{w32}
 use Rattle.rules.specs.Numbers.{in_range}
-use Rattle.notation_rules.specs.Tokens.{Token, number, code}
+use Rattle.notation_rules.specs.Tokens.{Token, code}
 use Rattle.notation_rules.specs.Patterns as P
 use Rattle.notation_rules.specs.Targets as U
 use Rattle.notation_write.specs.Written.{ink, signed, plus, valued}

@@ -2,10 +2,10 @@
 use Rattle.std.specs.Prelude.{ℕ, zero, suc, ◌+◌, ◌/◌, ◌%◌, ◌≤◌, ◌<◌, ◌≡◌, refl, Bool, true, false, cond, List, [], ◌∷◌, get_or, eqb, ltb, T}
 use Rattle.std.proofs.Common.{arith, subst, eqb-true}
 use Rattle.std.proofs.lemmas.Bool.{eqb-false}
-use Rattle.notation_rules.specs.Tokens.{Cause, unknown_sign, misplaced, cut_short, bracket_open, unknown_name, bound_twice, used_before, out_of_range, over_limit, Sign, consing, joining, anding, oring}
+use Rattle.notation_rules.specs.Tokens.{unknown_sign, misplaced, cut_short, bracket_open, unknown_name, bound_twice, used_before, out_of_range, over_limit, consing, joining, anding, oring}
 use Rattle.notation_rules.specs.Tokens.{underscore, hash, bang, plus, minus, comma, opening, closing, left, right, anything, integers, list_of, multiset_of, matching, by, with'}
 use Rattle.notation_rules.specs.Tokens.{TokenOf, mark, sign, binds, uses, number, wrong}
-use Rattle.notation_rules.specs.Letters.{Twin, pluses, colons, dashes, Kind, gap, dollar, low, digit, letter, twin, symbol, kind, find, symbols, is_letter, is_digit}
+use Rattle.notation_rules.specs.Letters.{pluses, colons, dashes, Kind, gap, dollar, low, digit, letter, twin, symbol, kind, find, symbols, is_letter, is_digit}
 use Rattle.notation_scan.specs.Scanned.{char_of}
 
 -- A token by the code's number, with its value, and its name where it binds one or uses one.

@@ -1,11 +1,11 @@
 -- One character more: what was begun by the code's table is what was begun by the notation.
-use Rattle.std.specs.Prelude.{ℕ, zero, suc, ◌+◌, ◌*◌, ◌/◌, ◌%◌, ◌≤◌, ◌<◌, ◌≡◌, Bool, cond, get_or, eqb, ltb, leb, T}
+use Rattle.std.specs.Prelude.{ℕ, zero, suc, ◌+◌, ◌*◌, ◌%◌, ◌≤◌, ◌≡◌, Bool, cond, get_or, eqb, ltb, leb, T}
 use Rattle.std.proofs.Common.{arith, sym, ◌∙◌, lt-ltb, le-ltb, leb-true, leb-false, ltb→lt}
 use Rattle.std.proofs.Math.Path.{refl, ap, subst}
 use Rattle.std.proofs.Math.Bool.{true, false}
 use Rattle.std.proofs.Math.Option.{Option, none, some}
 use mathlib.Core.List.{List, [], ◌∷◌, ◌++◌}
-use Rattle.notation_rules.specs.Letters.{pluses, colons, dashes, Kind, kind, Begun, full, digits, huge, word, binder, first, comment, number_limit, in_name, by_digit, by_letter, by_low, second, by_twin, is_comment, takes, in_comment, goes_on, begin}
+use Rattle.notation_rules.specs.Letters.{pluses, colons, dashes, kind, Begun, full, digits, huge, word, binder, first, comment, in_name, by_digit, by_letter, by_low, second, by_twin, is_comment, takes, in_comment, goes_on, begin}
 use Rattle.notation_scan.specs.Scanned.{nexts, begins, more_of}
 use Rattle.notation_same.specs.Chars.{token_of, kind_by, made, Plain, Told}
 

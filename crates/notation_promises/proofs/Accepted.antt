@@ -22,7 +22,8 @@ use Rattle.notation_rules.proofs.RulesBack as R
 use Rattle.notation_print.specs.Pages.{page, letters}
 use Rattle.notation_print.specs.Inks.{sheet}
 use Rattle.notation_write.specs.Written.{draws, rule_inks}
-use Rattle.notation_promises.specs.Main.{units_words, Limited, page_is_text}
+use Rattle.notation_promises.specs.Main.{units_words, Limited}
+use Rattle.notation_promises.proofs.Main.{page_is_text}
 
 -- Words are signed 32-bit numbers.
 unfoldable pub Words : List ℤ → Type 0

@@ -5,7 +5,8 @@ use Rattle.std.specs.Prelude.{ℕ, ◌≤◌, ◌≡◌, List, [], length, drop}
 use Rattle.notation_rules.specs.Letters.{full}
 use Rattle.notation_rules.specs.Places.{spots}
 use Rattle.notation_scan.specs.Scanned.{scanned}
-use Rattle.notation_same.specs.Scans.{Bytes, spotted, from_index}
+use Rattle.notation_same.specs.Scans.{Bytes, spotted}
+use Rattle.notation_same.proofs.Scans.{from_index}
 
 pub tokens_same : (text : List ℕ) → Bytes text → (g at : ℕ) → at ≤ length text → spots (full []) g (drop at text) ≡ spotted text (scanned text at)
 tokens_same = from_index

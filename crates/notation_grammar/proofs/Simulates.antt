@@ -1,5 +1,5 @@
 -- A step of the code from what it stands for is a step of the notation's reader.
-use Rattle.std.specs.Prelude.{ℕ, zero, suc, ◌≤◌, ◌<◌, ◌≡◌, refl, Bool, List, [], ◌++◌, ltb, T, ℤ}
+use Rattle.std.specs.Prelude.{ℕ, suc, ◌<◌, ◌≡◌, refl, Bool, List, ◌++◌, ltb, ℤ}
 use Rattle.std.proofs.Common.{arith, sym, ap, ltb-true, ltb-false}
 use Rattle.std.proofs.Math.Path.{subst}
 use Rattle.std.proofs.Math.Bool.{true, false}
@@ -15,11 +15,12 @@ use Rattle.notation_grammar.specs.Over.{over}
 use Rattle.notation_grammar.specs.Waits.{Wait, under}
 use Rattle.notation_grammar.specs.One.{Mode, begins, in_units, in_matcher, in_pattern, Next, step_of}
 use Rattle.notation_grammar.specs.Shapes.{InMatcher, wants, has, InUnits, InPattern, Stands, Follows}
-use Rattle.notation_grammar.specs.Steps.{tok, Small, from_wrong}
+use Rattle.notation_grammar.specs.Steps.{tok, Small}
+use Rattle.notation_grammar.proofs.Steps.{from_wrong}
 use Rattle.notation_grammar.specs.UnitSteps as Units
 use Rattle.notation_grammar.specs.MatcherSteps as Matchers
 use Rattle.notation_grammar.specs.PatternSteps as Patterns
-use Rattle.notation_grammar.specs.PatternHas as Has
+use Rattle.notation_grammar.proofs.PatternHas as Has
 
 module _ (lent : List ℤ) (n : ℕ) (more : n < 16384) (k value : ℕ) where
   abbrev after : View → View

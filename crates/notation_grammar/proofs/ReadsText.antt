@@ -1,7 +1,7 @@
 -- The code's run over a text is the notation's reading of its tokens.
 use Prim.Native.Nat.{ℕ, zero, suc, ◌+◌, ◌-◌, ◌≤◌, ◌<◌}
 use native.Mathlib.Omega.{arith}
-use Rattle.std.specs.Prelude.{◌≡◌, Bool, drop, ltb, T, ℤ, pos}
+use Rattle.std.specs.Prelude.{◌≡◌, Bool, drop, ltb, ℤ, pos}
 use Rattle.std.proofs.Math.Path.{refl, sym, ap, subst}
 use Rattle.std.proofs.Common.{◌∙◌, eq-eqb, ne_eqb, le-ltb, lt-ltb, drop_of_length-le}
 use Rattle.std.proofs.Math.Bool.{true, false, cond}
@@ -9,7 +9,6 @@ use Rattle.std.proofs.Math.Option.{Option, none, some}
 use mathlib.Core.List.{List, [], ◌∷◌, ◌++◌}
 use Rattle.std.proofs.Math.ListN.{length, replicate, length-replicate}
 use Rattle.std.proofs.Math.Dec.{eqb}
-use Rattle.rules.specs.Forms.{Value, Matcher, Pattern}
 use Rattle.forms.specs.Written.{pattern_words}
 use Rattle.notation_rules.specs.Tokens.{Cause, unknown_sign, misplaced, cut_short, bracket_open, unknown_name, bound_twice, used_before, out_of_range, over_limit, Outcome, done, refused, Raw, Token, mark, sign, binds, uses, number, wrong}
 use Rattle.notation_rules.specs.Letters.{full, tokens}
@@ -18,22 +17,21 @@ use Rattle.notation_rules.specs.Places.{Spot, ◌from◌, put, spots, bare, left
 use Rattle.notation_rules.specs.Rules.{Rule, rule}
 use Rattle.notation_scan.specs.Scanned.{scanned}
 use Rattle.notation_scan.specs.declared.Token.{Token as Token'}
-use Rattle.notation_step.specs.Stepped.{View, view, stepped}
-use Rattle.notation_step.specs.Stepped as Code
-use Rattle.notation_read.specs.Read.{resolved, Names, names, adding, ran_to, Stopped, stopped, ended, going, taken, added, ran_from, first, ran}
+use Rattle.notation_step.specs.Stepped.{View, view}
+use Rattle.notation_read.specs.Read.{resolved, Names, names, ran_to, Stopped, stopped, ended, going, taken, added, ran_from, first, ran}
 use Rattle.notation_read.specs.declared.Ran.{Ran}
-use Rattle.notation_same.specs.Scans.{Bytes, raw_of, spotted, from_index}
+use Rattle.notation_same.specs.Scans.{Bytes, raw_of, spotted}
+use Rattle.notation_same.proofs.Scans.{from_index}
 use Rattle.notation_grammar.specs.Over.{over}
 use Rattle.notation_grammar.specs.Waits.{under, Held}
-use Rattle.notation_grammar.specs.Acts.{At}
 use Rattle.notation_grammar.specs.One.{Mode, begins, Next, goes, stops, step_of, end_of, run_all}
 use Rattle.notation_grammar.specs.Shapes.{cause_of, all, units_words, both_words, Stands, Follows}
 use Rattle.notation_grammar.specs.Steps.{tok}
-use Rattle.notation_grammar.specs.Endings.{Finished, finished}
-use Rattle.notation_grammar.specs.Simulates.{simulates, no_cause}
+use Rattle.notation_grammar.proofs.Endings.{Finished, finished}
+use Rattle.notation_grammar.proofs.Simulates.{simulates, no_cause}
 use Rattle.notation_grammar.specs.Ranges.{in_text}
 use Rattle.notation_grammar.specs.Names.{names_of, binds_to, uses_to, binds_to_lem, uses_to_lem, goes_on_lem}
-use Rattle.notation_grammar.specs.Resolves.{Named', names_in, Same, resolves}
+use Rattle.notation_grammar.specs.Resolves.{Named', names_in, resolves}
 
 -- A cause has a number.
 pub some_cause : (c : Cause) → 0 < cause_of c

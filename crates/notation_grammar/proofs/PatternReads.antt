@@ -1,6 +1,6 @@
 -- A step in the pattern of a rule, after a pattern.
-use Rattle.std.specs.Prelude.{ℕ, zero, suc, ◌+◌, ◌-◌, ◌%◌, ◌≤◌, ◌<◌, ◌≡◌, Bool, cond, length, eqb, ltb, leb, T, ℤ, pos}
-use Rattle.std.proofs.Common.{arith, mod-eq_of_lt, sym, ◌∙◌, ne_eqb, le-leb, le-ltb, ltb-true, ltb-false}
+use Rattle.std.specs.Prelude.{ℕ, ◌%◌, ◌≤◌, ◌<◌, ◌≡◌, Bool, cond, length, ltb, leb, T, ℤ, pos}
+use Rattle.std.proofs.Common.{arith, mod-eq_of_lt, sym, ◌∙◌, le-leb, le-ltb, ltb-true, ltb-false}
 use Rattle.std.proofs.Math.Path.{refl, ap, subst}
 use Rattle.std.proofs.Math.Bool.{true, false}
 use Rattle.std.proofs.Math.Option.{Option}
@@ -8,21 +8,16 @@ use mathlib.Core.List.{List, [], ◌∷◌, ◌++◌, append_assoc}
 use Rattle.std.proofs.lemmas.Bool.{lt-leb}
 use Rattle.rules.specs.Forms.{Value, Matcher, Pattern, never}
 use Rattle.forms.specs.Written.{pattern_words}
-use Rattle.notation_rules.specs.Tokens.{misplaced, Sign, consing, joining, anding, oring, Mark, comma, closing, underscore, hash, bang, plus, minus, opening, left, right, anything, integers, list_of, multiset_of, matching, by, with', code, look, blame}
+use Rattle.notation_rules.specs.Tokens.{Sign, consing, joining, anding, oring}
 use Rattle.notation_rules.specs.Patterns as P
 use Rattle.notation_rules.specs.Patterns.{want, ◌on◌, have}
-use Rattle.notation_step.specs.Stepped.{View, view, bits_of, taking, action_of, action_at, row_of, reach_of, settled, refused, headed_of, crowded_by, stepped}
+use Rattle.notation_step.specs.Stepped.{settled}
 use Rattle.notation_step.specs.declared.Stand.{Stand}
-use Rattle.notation_same.specs.Chars.{token_of}
-use Rattle.notation_grammar.specs.Over.{over}
-use Rattle.notation_grammar.specs.Waits.{Wait, wait, under, Held}
-use Rattle.notation_grammar.specs.Acts.{standing, At}
-use Rattle.notation_grammar.specs.Acts as A
+use Rattle.notation_grammar.specs.Waits.{wait, under, Held}
+use Rattle.notation_grammar.specs.Acts.{standing}
 use Rattle.notation_grammar.specs.Closes as C
 use Rattle.notation_grammar.specs.Closes.{shade_by, shade_is}
-use Rattle.notation_grammar.specs.One.{in_pattern, Next, stops, on_step, step_of}
-use Rattle.notation_grammar.specs.Shapes.{cause_of, listed, patterns_closed, all, sign_tag, pattern_wait, units_words, both_words, AtPattern, InPattern, Stands, Follows}
-use Rattle.notation_grammar.specs.Steps.{tok, by_kind, parts, misses, roomy}
+use Rattle.notation_grammar.specs.Shapes.{listed, all, sign_tag, pattern_wait, units_words, both_words}
 
 -- Nothing waits that is tighter; with nothing tighter than a bracket, a bracket or nothing.
 unfoldable pub Loose : ℕ → List P.Frame → Type 0

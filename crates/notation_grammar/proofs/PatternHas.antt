@@ -1,20 +1,19 @@
 -- A step in the pattern of a rule, after a pattern: a sign, a comma, a bracket's end.
-use Rattle.std.specs.Prelude.{ℕ, zero, suc, ◌+◌, ◌-◌, ◌%◌, ◌≤◌, ◌<◌, ◌≡◌, Bool, length, ltb, leb, T, pos}
-use Rattle.std.proofs.Common.{arith, mod-eq_of_lt, sym, ◌∙◌, ne_eqb, le-leb, le-ltb, ltb-true, ltb-false}
+use Rattle.std.specs.Prelude.{ℕ, suc, ◌+◌, ◌-◌, ◌≤◌, ◌<◌, ◌≡◌, Bool, length, ltb}
+use Rattle.std.proofs.Common.{arith, sym, ◌∙◌, ne_eqb}
 use Rattle.std.proofs.Math.Path.{refl, ap, subst}
 use Rattle.std.proofs.Math.Bool.{true, false, cond}
 use Rattle.std.proofs.Math.Option.{Option}
-use mathlib.Core.List.{List, [], ◌∷◌, ◌++◌, append_assoc}
+use mathlib.Core.List.{List, [], ◌∷◌, ◌++◌}
 use Rattle.std.proofs.lemmas.Bool.{lt-leb}
 use Rattle.std.proofs.Math.Dec.{eqb}
 use Rattle.std.proofs.Math.IntN.{ℤ}
-use Rattle.rules.specs.Forms.{Value, Matcher, Pattern, never}
+use Rattle.rules.specs.Forms.{Value, Matcher, Pattern}
 use Rattle.forms.specs.Written.{pattern_words}
-use Rattle.notation_rules.specs.Tokens.{misplaced, Sign, consing, joining, anding, oring, Mark, comma, closing, underscore, hash, bang, plus, minus, opening, left, right, anything, integers, list_of, multiset_of, matching, by, with', code, look, blame}
+use Rattle.notation_rules.specs.Tokens.{misplaced, consing, joining, anding, oring, Mark, comma, closing, underscore, hash, bang, plus, minus, opening, left, right, anything, integers, list_of, multiset_of, matching, by, with', code, look, blame}
 use Rattle.notation_rules.specs.Patterns as P
 use Rattle.notation_rules.specs.Patterns.{want, ◌on◌, have}
 use Rattle.notation_step.specs.Stepped.{View, view, bits_of, taking, action_of, action_at, row_of, reach_of, settled, refused, headed_of, crowded_by, stepped}
-use Rattle.notation_step.specs.declared.Stand.{Stand}
 use Rattle.notation_same.specs.Chars.{token_of}
 use Rattle.notation_grammar.specs.Over.{over}
 use Rattle.notation_grammar.specs.Waits.{Wait, wait, under, Held}
@@ -25,7 +24,7 @@ use Rattle.notation_grammar.specs.Closes.{shade_by, shade_is}
 use Rattle.notation_grammar.specs.One.{in_pattern, Next, stops, on_step, step_of}
 use Rattle.notation_grammar.specs.Shapes.{cause_of, listed, patterns_closed, all, sign_tag, pattern_wait, units_words, both_words, AtPattern, InPattern, Stands, Follows}
 use Rattle.notation_grammar.specs.Steps.{tok, by_kind, parts, misses, roomy}
-use Rattle.notation_grammar.specs.PatternReads.{Open, nothing, one, is_open, Rest, rest, stood}
+use Rattle.notation_grammar.proofs.PatternReads.{Open, nothing, one, is_open, Rest, rest, stood}
 
 -- The row after a pattern, with a bracket that waits last or without, does the same with a sign.
 any_action : (k a : ℕ) (gs : List Wait) → action_of 20 k ≡ a → action_of 21 k ≡ a → action_of (row_of 20 (shade_by gs)) k ≡ a

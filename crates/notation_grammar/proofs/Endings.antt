@@ -1,5 +1,5 @@
 -- Where the text ends, the code says what the notation says: a rule, or why it may not end there.
-use Rattle.std.specs.Prelude.{ℕ, zero, suc, ◌+◌, ◌%◌, ◌≤◌, ◌<◌, Bool, get_or, ltb, leb, T, ℤ, pos}
+use Rattle.std.specs.Prelude.{ℕ, suc, ◌%◌, Bool, get_or, ltb, leb, ℤ}
 use Rattle.std.proofs.Common.{arith, sym, ◌∙◌, lt-ltb}
 use Rattle.std.proofs.Math.Path.{◌≡◌, refl, ap, subst}
 use Rattle.std.proofs.Math.Bool.{true, false, cond}
@@ -7,8 +7,8 @@ use Rattle.std.proofs.Math.Option.{Option}
 use mathlib.Core.List.{List, [], ◌∷◌, ◌++◌}
 use Rattle.std.proofs.Math.ListN.{length}
 use Rattle.rules.specs.Forms.{Value, Matcher, list, multiset, Pattern}
-use Rattle.forms.specs.Written.{matcher_words, pattern_words}
-use Rattle.notation_rules.specs.Tokens.{Cause, cut_short, bracket_open, Sign, consing, joining, anding, oring, Outcome, done, refused, Ended, is, lacks}
+use Rattle.forms.specs.Written.{pattern_words}
+use Rattle.notation_rules.specs.Tokens.{consing, joining, anding, oring, Outcome, done, refused}
 use Rattle.notation_rules.specs.Targets as U
 use Rattle.notation_rules.specs.Matchers as M
 use Rattle.notation_rules.specs.Patterns as P
@@ -16,13 +16,13 @@ use Rattle.notation_rules.specs.Patterns.{want, bracket, hashed, negative, inner
 use Rattle.notation_rules.specs.Rules.{Rule, rule}
 use Rattle.notation_step.specs.Stepped.{View, view, settled, ends}
 use Rattle.notation_step.specs.Stepped as Code
-use Rattle.notation_grammar.specs.Over.{over, nothing_behind}
+use Rattle.notation_grammar.specs.Over.{over}
 use Rattle.notation_grammar.specs.Waits.{Wait, wait, under, Held}
 use Rattle.notation_grammar.specs.Acts.{standing, At}
 use Rattle.notation_grammar.specs.Closes as C
 use Rattle.notation_grammar.specs.One.{Mode, begins, in_units, in_matcher, in_pattern, lacking, ruled, end_of}
 use Rattle.notation_grammar.specs.Shapes.{cause_of, all, unit_wait, matcher_wait, pattern_wait, units_words, both_words, InMatcher, wants, has, InUnits, InPattern, Stands}
-use Rattle.notation_grammar.specs.PatternReads.{Open, nothing, one, is_open, Rest, rest}
+use Rattle.notation_grammar.proofs.PatternReads.{Open, nothing, one, is_open, Rest, rest}
 
 -- Whether a bracket waits.
 unfoldable pub bracket_in : List Wait → Bool
