@@ -19,7 +19,11 @@ wide-requires c = search rules
 
 pub search-r-requires : goal.search-r-requires
 unfolding told matched
-search-r-requires c = record { fact_1 = search (ready_target, rules); fact_2 = search (ready_some, rules); fact_3 = search (ready_fine, rules) }
+search-r-requires c = record {
+  fact_1 = ready_target _ _ _ c.requires.ready;
+  fact_2 = ready_some _ _ _ c.requires.ready;
+  fact_3 = ready_fine _ _ _ _ _ _ _ _ c.requires.ready c.no_lines-lines.ensures c.compile-n.ensures.fact_1 c.compile-n.ensures.fact_2;
+}
 
 pub shape_of-room : goal.shape_of-room
 unfolding told matched

@@ -1,5 +1,6 @@
 -- `services::review::of_rule` meets its contract: test 11 over the compiled lines, and then 9 and 10.
 use borrow.Author.Rules.{rules}
+use mir.Syntax.{w32}
 use mir.Facts.{to_z-of_z}
 use Rattle.rules.specs.Services.{declined}
 use Rattle.services.specs.Reviews.{reviewed}
@@ -28,4 +29,9 @@ counted-requires c = search rules
 
 pub returns : goal.returns
 unfolding reviewed declined
-returns c = let k = to_z-of_z c.ranges.cap in search (counted_given, counted_rows, k, rules)
+returns c =
+    let k = to_z-of_z {w = w32} c.ranges.cap in
+    record {
+      result_value = counted_given _ _ _ _ c.requires c.no_lines-lines.ensures c.compile.ensures.fact_2 _ _ _ _ c.always_true.ensures c.if-always_true.false c.counted.ensures.result_value k;
+      rows_value = counted_rows _ _ _ _ c.requires c.no_lines-lines.ensures c.compile.ensures.fact_2 _ _ _ _ c.always_true.ensures c.if-always_true.false c.counted.ensures.rows_value k;
+    }
