@@ -57,7 +57,7 @@ module _ (cap : ℕ) (r : Rule) where
 
 module _ (ms ps ts : List ℤ) (budget : ℕ) (given : List ℤ) (r : Rule) (v : Value)
     (rule : rule_of ms ps ≡ accepted r) (target : target_of r.matcher ts ≡ accepted v)
-    (cap : ℕ) (small : largest v ≤ cap) (longest : ℕ) (short : length ts ≤ longest)
+    (cap : ℕ) (small : largest v ≤ cap) (longest : ℕ) (fits : length ts ≤ longest)
     (steps : (review ms ps (pos cap)).count ≤ budget) where
   rows_are : (review ms ps (pos cap)).answer ≡ 0 → rows_reviewed (pos cap) (rule_of ms ps) ≡ factor cap 0 r.pattern r.matcher
   unfolding review
@@ -82,6 +82,10 @@ module _ (ms ps ts : List ℤ) (budget : ℕ) (given : List ℤ) (r : Rule) (v :
       let k : rows * width_of form longest ≤ length given = rw (rows_are a, variables_are) at h in
       enough_reviewed every_place form ms ps ts budget given r v rule target cap small a steps (le_trans (mul-le-mul_left rows (wide_enough form)) k)
 
+module _ (ms ps ts : List ℤ) (budget : ℕ) (given : List ℤ) (r : Rule) (v : Value)
+    (rule : rule_of ms ps ≡ accepted r) (target : target_of r.matcher ts ≡ accepted v)
+    (cap : ℕ) (small : largest v ≤ cap) (longest : ℕ) (short : length ts ≤ longest)
+    (steps : (review ms ps (pos cap)).count ≤ budget) where
   pub room_suffices : (form : ℕ) → (room form ms ps (pos cap) longest).answer ≡ 0 → (room form ms ps (pos cap) longest).words ≤ length given
       → (match_with form ms ps ts budget given).answer ≡ 0
   unfolding room match_with turned_away
@@ -92,4 +96,4 @@ module _ (ms ps ts : List ℤ) (budget : ℕ) (given : List ℤ) (r : Rule) (v :
           → (elim x as (λ _. Roomed) [ none ↦ record { answer = 20; place = 0; words = 0 } | some f ↦ room_by (width_of f longest) ms ps (pos cap) ]).words ≤ length given
           → (elim x as (λ _. Matched) [ none ↦ turned_away 20 0 0 given | some f ↦ match_in f ms ps ts budget given ]).answer ≡ 0
       go none a h = no 19 a
-      go (some f) a h = in_form f a h
+      go (some f) a h = in_form ms ps ts budget given r v rule target cap small longest short steps f a h

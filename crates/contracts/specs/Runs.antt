@@ -32,7 +32,7 @@ open_called_once r form dialect ms ps ts size numbers a b m n p q = go (ltb (len
     go false e =
         let s = p.starts (ltb-false _ _ e) in
         let t = q.starts (ltb-false _ _ e) in
-        let z = opened_once form dialect ms ps ts size s.start t.start s.opens t.opens in
+        let z : s.start ≡ t.start = s.opens.fixed ∙ sym t.opens.fixed in
         (s.is ∙ ap (λ (y : Start). both y.run y.answer) z ∙ sym t.is, s.written ∙ ap (λ (y : Start). over (bytes_of (start_numbers y)) numbers) z ∙ sym t.written)
 
 -- ---- An advance of a run that is lent as the last call left it.
