@@ -231,11 +231,14 @@ module _ (e : Env) (g : Target e.words) (fine : Fine e) (m : Matcher) (p : Patte
     abbrev next : Run
     next = run_of e (allowed n x.steps) (run x t b room)
 
-    pub advance_told : (h : Held) → Stood size x t b h → numbers_of next.state ≡ told n size h
+    tells : (h : Held) → Stood size x t b h → numbers_of next.state ≡ told n size h
     unfolding told
-    advance_told h (over f q) = ap (λ (y : Run). numbers_of y.state) (run_over e (allowed n x.steps) (run x t b room) f) ∙ ap (told n size) (sym q)
-    advance_told h (goes_on_lem s ss q w) = numbers₁ size x t b s ss w room l (allowed n x.steps)
+    tells h (over f q) = ap (λ (y : Run). numbers_of y.state) (run_over e (allowed n x.steps) (run x t b room) f) ∙ ap (told n size) (sym q)
+    tells h (goes_on_lem s ss q w) = numbers₁ size x t b s ss w room l (allowed n x.steps)
         ∙ ap (λ (i : ℕ). since x.rows x.steps x.words (paper.run_in e.dialect e.form (allowed n x.steps) (s ∷ ss) (i - x.words))) l ∙ ap (told n size) (sym q)
+
+    pub advance_told : (h : Held) → Stood size x t b h → numbers_of next.state ≡ told n size h
+    advance_told = tells
 
     pub advance_room : (h : Held) → Stood size x t b h → next.room ≡ room_after n size h room
     unfolding room_after
@@ -251,7 +254,7 @@ module _ (e : Env) (g : Target e.words) (fine : Fine e) (m : Matcher) (p : Patte
     advance_held h (goes_on_lem s ss q w) =
         subst (λ y. Stood size next.state next.tables next.binds y)
         (ap₂ (λ k i. holding (terms_of e) k (remaining (terms_of e) (allowed n x.steps) (s ∷ ss) (i - x.words)))
-        (advance_told h (goes_on_lem s ss q w) ∙ ap (told n size) q) l ∙ ap (held_after n size) (sym q))
+        (tells h (goes_on_lem s ss q w) ∙ ap (told n size) q) l ∙ ap (held_after n size) (sym q))
         (held₁ size x t b s ss w room l (allowed n x.steps))
 
   -- A run before its first state, whatever its tables and bindings hold.
