@@ -121,7 +121,7 @@ fn go_on(
 }
 
 // How many words of matcher, pattern and target a run keeps.
-#[derive(Drop)]
+#[derive(Clone, Copy)]
 pub struct Counts {
     pub matcher: usize,
     pub pattern: usize,
