@@ -17,7 +17,7 @@ use tables::slot::Slots;
 use value_rows::Bindings;
 
 // How far a round is: how many new lists there are, how many remainders, and how many states wait. `answer` is 0 while the run goes on.
-#[derive(Drop)]
+#[derive(Clone, Copy)]
 pub struct Sweep {
     pub state: State,
     pub binds: Bindings,

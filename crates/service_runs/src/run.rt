@@ -19,7 +19,7 @@ use words::dialect::FIRST_PLACES;
 
 // Matcher, pattern and target are kept in full arrays, with their lengths; `answer` is a refusal at the opening, or 0.
 #[repr(C)]
-#[derive(Drop)]
+#[derive(Clone, Copy)]
 pub struct Run {
     pub state: State,
     pub binds: [Binding; 16],

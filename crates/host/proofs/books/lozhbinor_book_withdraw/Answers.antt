@@ -1,0 +1,10 @@
+-- `host::books::lozhbinor_book_withdraw` meets its contract: 24 where the slices are too short, else what crate `book` gives, every byte.
+use borrow.Author.Rules.{rules}
+use Rattle.host.proofs.books.Calls.{withdraw_number, change_short, change_told}
+use Rattle.host.proofs.books.lozhbinor_book_withdraw.Goals as goal
+
+pub returns-then-numbers-lt-BOOK_BYTES : goal.returns-then-numbers-lt-BOOK_BYTES
+returns-then-numbers-lt-BOOK_BYTES c = search (change_short, rules)
+
+pub returns : goal.returns
+returns c = search (withdraw_number, change_told, rules)
