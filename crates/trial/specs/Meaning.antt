@@ -2,7 +2,6 @@
 use Rattle.std.specs.Prelude.{ℕ, ◌≡◌, List, ◌++◌, take, replicate}
 use Rattle.text_number.specs.Decimal.{newline}
 use Rattle.trial.specs.declared.Sent.{Sent}
-use Rattle.trial.specs.declared.Sent.TheVariants as Sent
 
 -- All of so many bytes and so many empty lines was sent, unless the system took no more.
 unfoldable pub Told : (bytes lines : ℕ) → Sent → Type 0
