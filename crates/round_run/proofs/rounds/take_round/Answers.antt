@@ -1,0 +1,35 @@
+use native.Mathlib.Omega.{arith}
+use mathlib.Core.Path.{◌∙◌}
+use Rattle.round_run.proofs.Courses.{begins_sweeps, begins_fresh, begins_there, begins_few, begins_room, round_halts, round_goes}
+use Rattle.round_run.proofs.rounds.take_round.Goals as goal
+
+pub sweep-w-requires : goal.sweep-w-requires
+sweep-w-requires c = record { fact_1 = c.requires.fact_1; fact_2 = begins_sweeps c.requires.fact_2; fact_3 = c.requires.fact_3 }
+
+pub shape_of-table-then-w-ne0 : goal.shape_of-table-then-w-ne0
+shape_of-table-then-w-ne0 c = c.sweep-w.ensures.long
+
+pub shape_of-room-then-w-ne0 : goal.shape_of-room-then-w-ne0
+shape_of-room-then-w-ne0 c = begins_room c.requires.fact_2 c.sweep-w.ensures
+
+pub returns-then-w-ne0 : goal.returns-then-w-ne0
+returns-then-w-ne0 c = let P = c.requires.fact_2 in round_halts P.going P.some P.steps c.sweep-w.ensures c.if-w-ne0.true _ c.halt.ensures
+
+pub pull-requires : goal.pull-requires
+pull-requires c = let P = c.requires.fact_2 in record { fact_1 = begins_fresh P c.sweep-w.ensures c.if-w-ne0.false; fact_2 = P.journey.uses.most; fact_3 = begins_there P c.sweep-w.ensures c.if-w-ne0.false }
+
+pub overflow_add-result : goal.overflow_add-result
+overflow_add-result c = let P = c.requires.fact_2 in
+    let a = begins_fresh P c.sweep-w.ensures c.if-w-ne0.false in
+    let b = begins_few P c.sweep-w.ensures c.if-w-ne0.false in
+    omega arith
+
+pub shape_of-table : goal.shape_of-table
+shape_of-table c = c.pull.ensures.long ∙ c.sweep-w.ensures.long
+
+pub shape_of-room : goal.shape_of-room
+shape_of-room c = begins_room c.requires.fact_2 c.sweep-w.ensures
+
+pub returns : goal.returns
+returns c = let P = c.requires.fact_2 in
+    round_goes P.going P.some P.steps P.journey P.onward P.waits c.sweep-w.ensures c.if-w-ne0.false _ c.pull.ensures

@@ -1,0 +1,10 @@
+use Prim.Native.Nat.{◌-◌}
+use Rattle.tables.specs.Line.{columns_of}
+use Rattle.round_run.specs.Sizes.{Numbered}
+use Rattle.round_run.proofs.size.slots_used.Given as goal
+
+abbrev pub invariant-loop-pc : goal.invariant-loop-pc
+invariant-loop-pc l = Numbered (columns_of l.lines).arg l.pc l.u
+
+abbrev pub decreases-loop-pc : goal.decreases-loop-pc
+decreases-loop-pc l = 650 - l.pc
