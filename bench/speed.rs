@@ -25,7 +25,7 @@ pub enum Per {
 pub const STACK_BAR: usize = 29_440;
 
 /// The same of an advance.
-pub const ADVANCE_STACK_BAR: usize = 65_024;
+pub const ADVANCE_STACK_BAR: usize = 89_600;
 
 /// The most that dialect 2 may take of dialect 1's instructions, in tenths; and the most instructions of a state by rounds.
 pub const DIALECT_BAR: u64 = 20;

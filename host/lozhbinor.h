@@ -24,7 +24,7 @@
  * Nothing is allocated, nothing is kept between calls but in a run that the game
  * lends, and two threads may call at the same time on slices of their own. The
  * deepest stack of a match, measured over rules that nest as far as the limits
- * allow, is at most 29,440 bytes, that of an advance 65,024 bytes. A call is not
+ * allow, is at most 29,440 bytes, that of an advance 89,600 bytes. A call is not
  * interrupted from outside: it ends by itself, a match after at most `budget`
  * steps; a search that must not stall a frame goes on by lozhbinor_advance, which
  * ends after `steps`.
