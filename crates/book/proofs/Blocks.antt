@@ -1,38 +1,58 @@
 -- What is known of a block that was found in a good book. Assumes nothing.
-use Prim.Native.Nat.{ℕ, zero, suc, ◌+◌, ◌-◌, ◌*◌, ◌/◌, ◌≤◌, ◌<◌}
+use Prim.Native.Nat.{ℕ, ◌+◌, ◌*◌, ◌/◌, ◌≤◌, ◌<◌}
 use native.Mathlib.Omega.{arith}
 use mathlib.Core.Path.{◌≡◌, refl, sym, ap, ap₂, ◌∙◌, subst}
-use mathlib.Core.Bool.{Bool, true, false, not}
+use mathlib.Core.Bool.{Bool, true, not}
 use mathlib.Core.Option.{Option, none, some}
-use mathlib.Core.List.{List, [], ◌∷◌}
+use mathlib.Core.List.{List, []}
 use lib.ListN.{length, get_or}
 use lib.Dec.{eqb, T}
 use borrow.Author.Tests.{ne_eqb}
 use Rattle.book_rules.specs.Sums.{word, checked, and_also}
-use Rattle.book_rules.specs.Blocks.{Block, badge_of, unless, or_else, known, formed, live_formed, holds, taken, verdict}
-use Rattle.book_rules.specs.Books.{in_use, fault, walk, place}
+use Rattle.book_rules.specs.Blocks.{Block, badge_of, unless, known, formed, live_formed, holds, taken, verdict}
+use Rattle.book_rules.specs.Books.{fault, walk, place}
 use Rattle.book_rules.specs.Bytes.{block_at, blocks_from, book_of}
 use Rattle.book_rules.proofs.Round.{holds_true}
 use Rattle.book_rules.specs.Noticed.{good_number}
 use Rattle.book_rules.specs.Views.{Bytes, block_of, block_sized, length_blocks}
-use Rattle.book_rules.proofs.Walks.{First, place_some, walk_at, or_second, last_test, and_also_fst, held_is, holds_zero}
+use Rattle.book_rules.proofs.Walks.{place_some, walk_at, or_second, last_test, and_also_fst, held_is, holds_zero}
 use Rattle.book_rules.proofs.Kept.{good_walk}
 use Rattle.book.specs.Testing.{found}
-use Rattle.book.specs.declared.testing.Found.{Found}
-use Rattle.book.specs.declared.testing.Found.TheVariants.{At, Nothing}
+use Rattle.std.specs.Prelude.{Some, None, Err}
+use Rattle.std.specs.Option.{ok_or}
+use Rattle.std.specs.Prelude as code
+use Rattle.book_blocks.specs.declared.fault.Fault.{Fault}
+use Rattle.book_blocks.specs.declared.fault.Fault.TheVariants.{Check, Number, Version, Form, Live, NoBlock, TooLong, NotLive}
+use Rattle.book_blocks.specs.Faults.{number_of}
 use Rattle.book.proofs.Views.{good_fits, good_in_use}
 
 -- ---- What an answer stands for.
 
-pub found_some : (o : Option ℕ) (f : Found) (k : ℕ) → f ≡ found o → f ≡ At k → o ≡ some k
+pub found_some : (o : Option ℕ) (f : code.Option ℕ) (k : ℕ) → f ≡ found o → f ≡ Some k → o ≡ some k
 unfolding found
 found_some none f k p q = let z : ◌≡◌ {A = ℕ} 0 1 = cc in absurd (omega arith)
 found_some (some i) f k p q = let e : i ≡ k = cc in ap some e
 
-pub found_none : (o : Option ℕ) (f : Found) → f ≡ found o → f ≡ Nothing → o ≡ none
+pub found_none : (o : Option ℕ) (f : code.Option ℕ) → f ≡ found o → f ≡ None → o ≡ none
 unfolding found
 found_none none f p q = refl
 found_none (some i) f p q = let z : ◌≡◌ {A = ℕ} 0 1 = cc in absurd (omega arith)
+
+-- No refusal has the number 0.
+pub refused : (f : Fault) → number_of f ≡ 0 → ⊥
+refused Check e = omega arith
+refused Number e = omega arith
+refused Version e = omega arith
+refused Form e = omega arith
+refused Live e = omega arith
+refused NoBlock e = omega arith
+refused TooLong e = omega arith
+refused NotLive e = omega arith
+
+-- The refusal of a place that is not there.
+pub refusal_is : (o : code.Option ℕ) (d f : Fault) → o ≡ None → Err f ≡ ok_or o d → f ≡ d
+refusal_is None d f n e = cc
+refusal_is (Some i) d f n e = let z : ◌≡◌ {A = ℕ} 0 1 = cc in absurd (omega arith)
 
 -- ---- A good block.
 

@@ -1,11 +1,11 @@
 -- The blocks in use as they stand in the bytes. Assumes nothing.
-use Prim.Native.Nat.{ℕ, zero, suc, ◌+◌, ◌-◌, ◌*◌, ◌/◌, ◌≤◌, ◌<◌}
+use Prim.Native.Nat.{ℕ, zero, suc, ◌-◌, ◌*◌, ◌/◌, ◌≤◌}
 use native.Mathlib.Omega.{arith}
-use mathlib.Core.Path.{◌≡◌, refl, sym, ap, ap₂, ◌∙◌}
-use mathlib.Core.List.{List, [], ◌∷◌}
+use mathlib.Core.Path.{◌≡◌, refl, sym, ap, ◌∙◌}
+use mathlib.Core.List.{List, ◌∷◌}
 use lib.ListN.{length, take}
 use Rattle.book_rules.specs.Blocks.{Block}
-use Rattle.book_rules.specs.Books.{Book, in_use, fault}
+use Rattle.book_rules.specs.Books.{in_use, fault}
 use Rattle.book_rules.specs.Bytes.{block_at, blocks_from, book_of}
 use Rattle.book_rules.specs.Views.{length_blocks}
 use Rattle.book_rules.proofs.Kept.{good_lent}

@@ -1,19 +1,26 @@
 -- What is told of a book that a call may change, and the bytes then.
-use Rattle.std.specs.Prelude.{ℕ, zero, suc, ◌≡◌, not, List, leb}
+use Rattle.std.specs.Prelude.{ℕ, zero, suc, ◌≡◌, not, List, leb, Result, Ok, Err}
 use Rattle.std.proofs.Math.Option.{Option, none, some}
 use Rattle.book_rules.specs.Blocks.{Block, Entry, counts, unless, or_else, known, holds, taken}
 use Rattle.book_rules.specs.Books.{Book, Told, in_use, place, proper, slot, add_fault, withdraw}
 use Rattle.book_rules.specs.Bytes.{holding}
+use Rattle.book_blocks.specs.declared.fault.Fault.{Fault}
 use Rattle.book.specs.declared.withdrawal.Changed.{Changed}
 
-pub record Refusal (answer used : ℕ) (r : Changed) : Type 0 where
-  pub is : r ≡ record { answer = answer; block = 0; used = used }
+-- The block that a call wrote, 0 in a refusal, and the number of blocks in use then, which a refusal leaves as it was.
+abbrev pub block_in : Result Changed Fault → ℕ
+block_in (Ok c) = c.block
+block_in (Err f) = 0
+
+abbrev pub used_in : Result Changed Fault → (used : ℕ) → ℕ
+used_in (Ok c) used = c.used
+used_in (Err f) used = used
 
 -- The answer and the blocks in use are those of the call t, the block is the one at that place, and the lent bytes hold the blocks of the book after it.
-pub record ChangeTold (t : Told) (at : ℕ) (r : Changed) (bytes after : List ℕ) : Type 0 where
-  pub answer_is : r.answer ≡ t.answer
-  pub block_is : r.block ≡ at
-  pub used_is : r.used ≡ t.book.used
+pub record ChangeTold (t : Told) (at answer block used : ℕ) (bytes after : List ℕ) : Type 0 where
+  pub answer_is : answer ≡ t.answer
+  pub block_is : block ≡ at
+  pub used_is : used ≡ t.book.used
   pub bytes_are : after ≡ holding bytes t.book.lent
 
 -- The block that is written; 0 in a refusal.

@@ -1,26 +1,35 @@
 -- What is told of a rule that is read.
-use Rattle.std.specs.Prelude.{ℕ, zero, suc, ◌/◌, ◌≡◌, true, false, List, [], length, eqb, ltb, ℤ}
+use Rattle.std.specs.Prelude.{ℕ, zero, suc, ◌/◌, ◌≡◌, true, false, List, [], length, eqb, ltb, ℤ, Some, None, Result, Ok, Err}
+use Rattle.std.specs.Prelude as code
 use Rattle.std.proofs.Math.Option.{Option, none, some}
 use Rattle.book_rules.specs.Blocks.{Entry, badge_of, entry_of, verdict}
 use Rattle.book_rules.specs.Books.{Told}
 use Rattle.book_rules.specs.Bytes.{block_at}
 use Rattle.book_blocks.specs.Heads.{ReadAs}
-use Rattle.book.specs.declared.lookup.Rule.{Rule}
+use Rattle.book_blocks.specs.Faults.{answer_of}
+use Rattle.book_blocks.specs.declared.fault.Fault.{Fault}
+use Rattle.book_blocks.specs.declared.reading.Head.{Head}
 use Rattle.book.specs.declared.lookup.Shown.{Shown}
 
--- A rule's numbers, and the lent words before and after; without a rule the numbers are 0 and the words as they were.
-pub data Read : (rule : Option Entry) (version dialect matcher pattern : ℕ) (words after : List ℤ) → Type 0 where
-  nothing : {words : List ℤ} → Read none 0 0 0 0 words words
-  rule : {e : Entry} {v d m p : ℕ} {words after : List ℤ} → ReadAs e v d m p words after → Read (some e) v d m p words after
+-- A rule's numbers, and the lent words before and after; without a rule there are none, and the words are as they were.
+pub data Read : (rule : Option Entry) (told : code.Option Head) (words after : List ℤ) → Type 0 where
+  nothing : {words : List ℤ} → Read none None words words
+  rule : {e : Entry} {h : Head} {words after : List ℤ} → ReadAs e h.version h.dialect h.matcher h.pattern words after → Read (some e) (Some h) words after
 
-pub record NoRule (answer : ℕ) (r : Rule) : Type 0 where
-  pub is : r ≡ record { answer = answer; found = 0; version = 0; dialect = 0; matcher = 0; pattern = 0 }
+-- What is told of a rule: its numbers, none in a refusal, and 1 where there is one.
+abbrev pub head_in : Result (code.Option Head) Fault → code.Option Head
+head_in (Ok o) = o
+head_in (Err f) = None
+
+abbrev pub found_in : code.Option Head → ℕ
+found_in (Some h) = 1
+found_in None = 0
 
 -- What a read by a badge tells.
-pub record RuleTold (t : Told) (r : Rule) (words after : List ℤ) : Type 0 where
-  pub answer_is : r.answer ≡ t.answer
-  pub found_is : r.found ≡ t.number
-  pub rule_is : Read t.found r.version r.dialect r.matcher r.pattern words after
+pub record RuleTold (t : Told) (r : Result (code.Option Head) Fault) (words after : List ℤ) : Type 0 where
+  pub answer_is : answer_of r ≡ t.answer
+  pub found_is : found_in (head_in r) ≡ t.number
+  pub rule_is : Read t.found (head_in r) words after
 
 -- One block of the lent bytes by itself: 13 where it is not lent, else its own refusal.
 unfoldable pub block_fault : (bytes : List ℕ) → ℕ → ℕ
@@ -36,10 +45,20 @@ unfoldable pub rule_unless : (refusal badge : ℕ) → Entry → Option Entry
 rule_unless zero badge e = elim (eqb badge 0) [ true ↦ none | false ↦ some e ]
 rule_unless (suc n) badge e = none
 
-pub record NoBlock (answer : ℕ) (r : Shown) : Type 0 where
-  pub is : r ≡ record { answer = answer; badge = 0; version = 0; dialect = 0; matcher = 0; pattern = 0 }
+-- What is told of a block: its badge, 0 where there is no rule, and the rule's numbers.
+abbrev pub shown_in : Result (code.Option Shown) Fault → code.Option Shown
+shown_in (Ok o) = o
+shown_in (Err f) = None
 
-pub record BlockTold (s : List ℕ) (k : ℕ) (r : Shown) (words after : List ℤ) : Type 0 where
-  pub answer_is : r.answer ≡ block_fault s k
-  pub badge_is : r.badge ≡ badge_unless (block_fault s k) (badge_of (block_at s k))
-  pub rule_is : Read (rule_unless (block_fault s k) (badge_of (block_at s k)) (entry_of (block_at s k))) r.version r.dialect r.matcher r.pattern words after
+abbrev pub badge_in : code.Option Shown → ℕ
+badge_in (Some x) = x.badge
+badge_in None = 0
+
+abbrev pub rule_in : code.Option Shown → code.Option Head
+rule_in (Some x) = Some x.head
+rule_in None = None
+
+pub record BlockTold (s : List ℕ) (k : ℕ) (r : Result (code.Option Shown) Fault) (words after : List ℤ) : Type 0 where
+  pub answer_is : answer_of r ≡ block_fault s k
+  pub badge_is : badge_in (shown_in r) ≡ badge_unless (block_fault s k) (badge_of (block_at s k))
+  pub rule_is : Read (rule_unless (block_fault s k) (badge_of (block_at s k)) (entry_of (block_at s k))) (rule_in (shown_in r)) words after

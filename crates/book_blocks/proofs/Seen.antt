@@ -10,7 +10,7 @@ use lib.Dec.{eqb}
 use lib.IntN.{ℤ}
 use Rattle.book_rules.specs.Sums.{word, and_also}
 use Rattle.book_rules.specs.Blocks.{zeros, signed, joined}
-use Rattle.book_rules.specs.Bytes.{word_at, words_from, block_at}
+use Rattle.book_rules.specs.Bytes.{word_at, words_from}
 use Rattle.book_rules.specs.Views.{word_of}
 
 -- Word i of the block at a byte's index stands 2 i bytes on; m is that index as the code has it.

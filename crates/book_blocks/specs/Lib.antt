@@ -1,2 +1,3 @@
 -- What a block's functions compute.
 pub mod Heads
+pub mod Faults

@@ -4,25 +4,15 @@ ghost use Rattle.rules.specs.Services.{rule_in};
 ghost use Rattle.words.specs.Dialects.{dialect_by};
 ghost use Rattle.book_rules.specs.Blocks.{joined, length_in, dialect_in, known, is_accepted, is_rule, live_formed, formed, badge_of, verdict};
 ghost use Rattle.book_rules.specs.Bytes.{words_from, block_at};
+ghost use Rattle.book_blocks.specs.Faults.{answer_of};
 
+use crate::fault::Fault;
 use crate::{
     BADGE_AT, BLOCK, DIALECT_BIT, FOURTH_AT, FROM_LENGTH, FROM_RULE, LENGTH_AT, RULE_AT, VERSION_AT,
 };
 use book_words::{SIGNED_BYTES, are_zero, is_checked, read_words, word_at};
-use tests::{Judgement, rule_refused_in};
-use words::casts::half_index;
+use tests::rule_refused_in;
 use words::dialect::{EVERY_PLACE, FIRST_PLACES};
-
-// No refusal.
-pub const GOOD: u32 = 0;
-
-pub const CHECK: u32 = 12;
-
-pub const NUMBER: u32 = 13;
-
-pub const VERSION: u32 = 14;
-
-pub const FORM: u32 = 15;
 
 // The most words of a rule, matcher and pattern together.
 pub const LONGEST: usize = 124;
@@ -35,36 +25,35 @@ pub const FIRST_VERSION: u16 = 1;
 
 pub const DIALECT_VERSION: u16 = 2;
 
+#[tactic(auto, unfolding(book_rules::specs::Blocks::known))]
 pub fn is_known(version: u16) -> bool
     ensures { result ≡ known version }
 {
-    if version == FIRST_VERSION {
-        return true;
-    }
-    version == DIALECT_VERSION
+    version == FIRST_VERSION || version == DIALECT_VERSION
 }
 
 // The matcher's length in word 4: version 2 has the dialect in its top bit.
+#[tactic(auto, unfolding(book_rules::specs::Blocks::length_in))]
 pub fn length_in(version: u16, w: u16) -> usize
     ensures { result ≡ length_in version w }
 {
-    if version == DIALECT_VERSION {
-        return half_index(w % DIALECT_BIT);
-    }
-    half_index(w)
+    let length = if version == DIALECT_VERSION {
+        w % DIALECT_BIT
+    } else {
+        w
+    };
+    usize::from(length)
 }
 
 // The dialect in word 4: version 2 has it in the top bit.
+#[tactic(auto, unfolding(book_rules::specs::Blocks::dialect_in))]
 pub fn dialect_in(version: u16, w: u16) -> u32
     ensures { result ≡ dialect_in version w }
 {
-    if version != DIALECT_VERSION {
-        return EVERY_PLACE;
-    }
-    if w < DIALECT_BIT {
-        EVERY_PLACE
-    } else {
+    if version == DIALECT_VERSION && DIALECT_BIT <= w {
         FIRST_PLACES
+    } else {
+        EVERY_PLACE
     }
 }
 
@@ -72,29 +61,25 @@ pub fn dialect_in(version: u16, w: u16) -> u32
 fn is_accepted(firsts: bool, matcher: &[i32], pattern: &[i32]) -> bool
     ensures { result ≡ is_accepted (rule_in (dialect_by firsts) matcher.now pattern.now) }
 {
-    match rule_refused_in(firsts, matcher, pattern) {
-        Judgement::Accepted => true,
-        Judgement::Refused(_, _) => false,
-    }
+    rule_refused_in(firsts, matcher, pattern).is_ok()
 }
 
 // The same in the dialect that a block or an add names.
+#[tactic(auto, unfolding(book_rules::specs::Blocks::is_rule, rules::specs::Dialects::dialect_of, words::specs::Dialects::dialect_by))]
 pub fn is_rule(dialect: u32, matcher: &[i32], pattern: &[i32]) -> bool
     ensures { result ≡ is_rule dialect matcher.now pattern.now }
 {
-    if dialect == EVERY_PLACE {
-        return is_accepted(false, matcher, pattern);
+    match dialect {
+        EVERY_PLACE => is_accepted(false, matcher, pattern),
+        FIRST_PLACES => is_accepted(true, matcher, pattern),
+        _ => false,
     }
-    if dialect == FIRST_PLACES {
-        return is_accepted(true, matcher, pattern);
-    }
-    false
 }
 
 // The same of n words, of which the matcher has m.
 fn is_rule_in(dialect: u32, words: &[i32], m: usize, n: usize) -> bool
-    requires fact_1 { m ≤ n }
-    requires fact_2 { n ≤ length words.now }
+    requires matcher_in_rule { m ≤ n }
+    requires rule_in_words { n ≤ length words.now }
     ensures { result ≡ is_rule dialect (take m words.now) (take (n - m) (drop m words.now)) }
 {
     is_rule(dialect, &words[..m], &words[m..n])
@@ -102,9 +87,9 @@ fn is_rule_in(dialect: u32, words: &[i32], m: usize, n: usize) -> bool
 
 // The same of n signed words in lent bytes.
 fn is_rule_at(dialect: u32, s: &[u8], at: usize, m: usize, n: usize) -> bool
-    requires fact_1 { m ≤ n }
-    requires fact_2 { n ≤ 124 }
-    requires fact_3 { at + 4 * n ≤ length s.now }
+    requires matcher_in_rule { m ≤ n }
+    requires at_most_longest { n ≤ 124 }
+    requires rule_in_bounds { at + 4 * n ≤ length s.now }
     ensures { result ≡ is_rule dialect (take m (joined n (words_from s.now at (2 * n)))) (drop m (joined n (words_from s.now at (2 * n)))) }
 {
     let mut words = [0i32; LONGEST];
@@ -117,7 +102,7 @@ fn is_live_formed(s: &[u8], at: usize) -> bool
     requires { at + 512 ≤ length s.now }
     ensures { result ≡ live_formed (words_from s.now at 256) }
 {
-    let n = half_index(word_at(s, at + LENGTH_AT));
+    let n = usize::from(word_at(s, at + LENGTH_AT));
     if LONGEST < n {
         return false;
     }
@@ -144,25 +129,25 @@ fn is_formed(s: &[u8], at: usize) -> bool
     is_live_formed(s, at)
 }
 
-// 12 to 15 of block k by itself, whatever stands before it; 0 where it is good.
-pub fn own_fault(s: &[u8], k: usize) -> u32
+// 12 to 15 of block k by itself, whatever stands before it.
+pub fn own_fault(s: &[u8], k: usize) -> Result<(), Fault>
     requires { 512 * k + 512 ≤ length s.now }
-    ensures { result ≡ verdict k [] (block_at s.now k) }
+    ensures { answer_of result ≡ verdict k [] (block_at s.now k) }
 {
     let at = BLOCK * k;
     if !is_checked(s, at) {
-        return CHECK;
+        return Err(Fault::Check);
     }
-    if half_index(word_at(s, at)) != k {
-        return NUMBER;
+    if usize::from(word_at(s, at)) != k {
+        return Err(Fault::Number);
     }
     if !is_known(word_at(s, at + VERSION_AT)) {
-        return VERSION;
+        return Err(Fault::Version);
     }
     if !is_formed(s, at) {
-        return FORM;
+        return Err(Fault::Form);
     }
-    GOOD
+    Ok(())
 }
 
 // The badge number of block k: 0 where it is withdrawn.

@@ -1,6 +1,7 @@
 // Document 02, No. 7: one block of a book, tested, read and written.
 #![tactic(auto)]
 
+pub mod fault;
 pub mod form;
 pub mod reading;
 pub mod writing;

@@ -7,7 +7,6 @@ ghost use Rattle.book_blocks.specs.Heads.{ReadAs};
 use crate::form::{dialect_in, length_in};
 use crate::{BLOCK, FOURTH_AT, LENGTH_AT, RULE_AT, VERSION_AT};
 use book_words::{read_words, word_at};
-use words::casts::half_index;
 
 // What a block says of its rule: the last two are lengths.
 #[derive(Drop)]
@@ -20,19 +19,19 @@ pub struct Head {
 
 // The rule of a live block, its words to the start of a lent slice.
 pub fn read_block(s: &[u8], k: usize, out: &mut [i32]) -> Head
-    requires fact_1 { 512 * k + 512 ≤ length s.now }
-    requires fact_2 { 124 ≤ length out.old }
-    requires fact_3 { live_formed (block_at s.now k) ≡ true }
+    requires block_in_bounds { 512 * k + 512 ≤ length s.now }
+    requires room { 124 ≤ length out.old }
+    requires live { live_formed (block_at s.now k) ≡ true }
     ensures { ReadAs (entry_of (block_at s.now k)) result.version result.dialect result.matcher result.pattern out.old out.new }
 {
     let at = BLOCK * k;
     let version = word_at(s, at + VERSION_AT);
     let fourth = word_at(s, at + FOURTH_AT);
-    let n = half_index(word_at(s, at + LENGTH_AT));
+    let n = usize::from(word_at(s, at + LENGTH_AT));
     let m = length_in(version, fourth);
     read_words(s, at + RULE_AT, n, out);
     Head {
-        version: version,
+        version,
         dialect: dialect_in(version, fourth),
         matcher: m,
         pattern: n - m,

@@ -1,18 +1,17 @@
 -- Words read one after the other: the sum, zeros, signed words. Assumes nothing.
-use Prim.Native.Nat.{ℕ, zero, suc, ◌+◌, ◌-◌, ◌*◌, ◌/◌, ◌%◌, ◌^◌, ◌≤◌, ◌<◌}
+use Prim.Native.Nat.{ℕ, zero, suc, ◌+◌, ◌-◌, ◌*◌, ◌%◌, ◌≤◌, ◌<◌}
 use native.Mathlib.Omega.{arith}
-use native.Mathlib.Nat.{mul-le-mul}
 use mathlib.Core.Path.{◌≡◌, refl, sym, ap, ap₂, ◌∙◌}
-use mathlib.Core.Bool.{Bool, true, false}
-use mathlib.Core.List.{List, [], ◌∷◌}
-use lib.ListN.{length, get_or, set, length-set}
+use mathlib.Core.Bool.{Bool, true, false, ◌&&◌}
+use mathlib.Core.List.{List, ◌∷◌}
+use Rattle.std.specs.List.{list_all, range_with_len}
+use lib.ListN.{get_or, set}
 use lib.Seq.{sets}
 use lib.Dec.{eqb, ltb}
 use lib.IntN.{ℤ, pos, negsuc}
-use borrow.Author.Rules.{rules}
-use borrow.Author.Tests.{eq-eqb, ne_eqb, ltb-true, ltb-false}
-use mir.Syntax.{w16, w32}
-use mir.Val.{Fits, to_z, of_z}
+use borrow.Author.Tests.{ltb-true, ltb-false}
+use mir.Syntax.{w32}
+use mir.Val.{to_z, of_z}
 use mir.Facts.{of_z-to_z, to_z_pos, to_z-neg}
 use Rattle.book_rules.specs.Sums.{placed, due, said, checked, and_also}
 use Rattle.book_rules.specs.Blocks.{zeros, signed, joined}
@@ -22,37 +21,25 @@ use Rattle.book_words.specs.Halves.{Placed, halves}
 
 -- ---- A word.
 
-pub word_is : (s : List ℕ) (at a b : ℕ) → a ≡ get_or s at 0 → b ≡ get_or s (at + 1) 0 → a + 256 * b ≡ word_at s at
+pub word_is : (s : List ℕ) (at r : ℕ) → r ≡ get_or s at 0 + get_or s (at + 1) 0 * 256 → r ≡ word_at s at
 unfolding word_at
-word_is s at a b e f = let p : at + 1 ≡ suc at = omega arith in e' (get_or s at 0) (get_or s (suc at) 0) e (f ∙ ap (λ (x : ℕ). get_or s x 0) p)
+word_is s at r e = let p : at + 1 ≡ suc at = omega arith in turned (get_or s at 0) (get_or s (suc at) 0) (e ∙ ap (λ (i : ℕ). get_or s at 0 + get_or s i 0 * 256) p)
   where
-    e' : (x y : ℕ) → a ≡ x → b ≡ y → a + 256 * b ≡ x + 256 * y
-    e' x y e f = omega arith
+    turned : (x y : ℕ) → r ≡ x + y * 256 → r ≡ x + 256 * y
+    turned x y e = omega arith
 
-pub halves_is : (s : List ℕ) (at a b x y : ℕ) → a ≡ word_at s at → b ≡ word_at s (at + 2) → x ≡ a → y ≡ b → x + 65536 * y ≡ halves s at
-unfolding halves
-halves_is s at a b x y e f g h = omega arith
+pub halves_is : (s : List ℕ) (at r : ℕ) → r ≡ get_or s at 0 + get_or s (at + 1) 0 * 256 + get_or s (at + 2) 0 * 65536 + get_or s (at + 3) 0 * 16777216 → r ≡ halves s at
+unfolding halves word_at
+halves_is s at r e =
+    let p : at + 1 ≡ suc at = omega arith in
+    let q : at + 3 ≡ suc (at + 2) = omega arith in
+    turned (get_or s at 0) (get_or s (suc at) 0) (get_or s (at + 2) 0) (get_or s (suc (at + 2)) 0)
+    (e ∙ ap₂ (λ (i j : ℕ). get_or s at 0 + get_or s i 0 * 256 + get_or s (at + 2) 0 * 65536 + get_or s j 0 * 16777216) p q)
+  where
+    turned : (a b c d : ℕ) → r ≡ a + b * 256 + c * 65536 + d * 16777216 → r ≡ a + 256 * b + 65536 * (c + 256 * d)
+    turned a b c d e = omega arith
 
 -- ---- The sum.
-
-product_small : (i w : ℕ) → i < 254 → w < 65536 → (1 + i) * w ≤ 16645890
-product_small i w h k =
-    let a : 1 + i ≤ 254 = omega arith in
-    let b : w ≤ 65535 = omega arith in
-    mul-le-mul a b
-
-module _ (i w x : ℕ) (h : i < 254) (k : Fits w16 w) (e : x ≡ w) where
-  most : (i + 1) * x ≤ 16645890
-  most =
-      let l = k.fits in
-      let p : i + 1 ≡ 1 + i = omega arith in
-      rw (p, e) (product_small i w h (omega arith))
-
-  pub product_fits : Fits w32 ((i + 1) * x)
-  product_fits = record { fits = omega (arith, most) }
-
-  pub product_is : Placed i w ((i + 1) * x)
-  product_is = let p : i + 1 ≡ 1 + i = omega arith in record { is = rw (p, e); most = most }
 
 one_placed : (s : List ℕ) (at p n m : ℕ) → placed p (suc n) (words_from s at (suc m)) ≡ p * word_at s at + placed (suc p) n (words_from s (2 + at) m)
 unfolding placed words_from
@@ -96,8 +83,6 @@ sum_due s at i sum e h k =
     whole : (l : ℕ) → l ≡ 0 → sum + l ≡ placed 1 254 (words_from s at 256) → sum ≡ placed 1 254 (words_from s at 256)
     whole l z e = omega arith
 
-pub ruleset sum_rules = (sum_turn, sum_begins, sum_due, rules)
-
 -- ---- The check.
 
 pub check_is : (s : List ℕ) (at a b : ℕ) → a ≡ due (words_from s at 256) → b ≡ halves s (at + 508) → eqb a b ≡ checked (words_from s at 256)
@@ -115,33 +100,21 @@ zeros_step : (s : List ℕ) (at n : ℕ) → zeros (suc n) (words_from s at (suc
 unfolding zeros words_from
 zeros_step s at n = refl
 
-abbrev pub zeros_from : List ℕ → ℕ → ℕ → ℕ → Bool
-zeros_from s at n i = zeros (n - i) (words_from s (at + 2 * i) (n - i))
+and_is : (a b : Bool) → and_also a b ≡ a && b
+unfolding and_also
+and_is true b = refl
+and_is false b = refl
 
-zeros_on : (s : List ℕ) (at n i : ℕ) → i < n → zeros_from s at n i ≡ and_also (eqb (word_at s (at + 2 * i)) 0) (zeros_from s at n (i + 1))
-zeros_on s at n i h =
-    let a : n - i ≡ suc (n - (i + 1)) = omega arith in
-    let c : 2 + (at + 2 * i) ≡ at + 2 * (i + 1) = omega arith in
-    ap (λ (m : ℕ). zeros m (words_from s (at + 2 * i) m)) a ∙ zeros_step s (at + 2 * i) (n - (i + 1))
-    ∙ ap (λ (j : ℕ). and_also (eqb (word_at s (at + 2 * i)) 0) (zeros (n - (i + 1)) (words_from s j (n - (i + 1))))) c
-
-module _ (s : List ℕ) (at n i w : ℕ) (t : Bool) (e : t ≡ zeros_from s at n i) (h : i < n) (k : w ≡ word_at s (at + 2 * i)) where
-  pub zeros_turn : w ≡ 0 → t ≡ zeros_from s at n (i + 1)
-  unfolding and_also
-  zeros_turn z = e ∙ zeros_on s at n i h ∙ ap (λ (b : Bool). and_also b (zeros_from s at n (i + 1))) (eq-eqb (word_at s (at + 2 * i)) 0 (sym k ∙ z))
-
-  pub zeros_ends : (w ≡ 0 → ⊥) → false ≡ t
-  unfolding and_also
-  zeros_ends z = sym (e ∙ zeros_on s at n i h ∙ ap (λ (b : Bool). and_also b (zeros_from s at n (i + 1))) (ne_eqb (word_at s (at + 2 * i)) 0 (λ q. z (k ∙ q))))
-
-pub zeros_begin : (s : List ℕ) (at n : ℕ) → zeros n (words_from s at n) ≡ zeros_from s at n 0
-zeros_begin s at n = let a : at ≡ at + 2 * 0 = omega arith in let b : n ≡ n - 0 = omega arith in ap₂ (λ (j m : ℕ). zeros m (words_from s j m)) a b
-
-pub zeros_all : (s : List ℕ) (at n i : ℕ) (t : Bool) → t ≡ zeros_from s at n i → n ≤ i → true ≡ t
+-- A test of each place from the i-th on.
+pub zeros_all : (s : List ℕ) (at n i : ℕ) → list_all (λ j. eqb (word_at s (at + 2 * j)) 0) (range_with_len i n) ≡ zeros n (words_from s (at + 2 * i) n)
 unfolding zeros
-zeros_all s at n i t e h = let a : n - i ≡ 0 = omega arith in sym (e ∙ ap (λ (m : ℕ). zeros m (words_from s (at + 2 * i) m)) a)
-
-pub ruleset zero_rules = (zeros_turn, zeros_ends, zeros_begin, zeros_all, rules)
+zeros_all s at zero i = refl
+zeros_all s at (suc n) i =
+    let c : 2 + (at + 2 * i) ≡ at + 2 * (i + 1) = omega arith in
+    ap (λ (b : Bool). eqb (word_at s (at + 2 * i)) 0 && b) (zeros_all s at n (i + 1))
+    ∙ ap (λ (j : ℕ). eqb (word_at s (at + 2 * i)) 0 && zeros n (words_from s j n)) (sym c)
+    ∙ sym (and_is (eqb (word_at s (at + 2 * i)) 0) (zeros n (words_from s (2 + (at + 2 * i)) n)))
+    ∙ sym (zeros_step s (at + 2 * i) n)
 
 -- ---- Signed words.
 
@@ -187,5 +160,3 @@ module _ (s : List ℕ) (at n i : ℕ) (out whole : List ℤ) where
 
 pub read_begins : (s : List ℕ) (at n : ℕ) (out : List ℤ) → sets out 0 (joined n (words_from s at (2 * n))) ≡ sets out 0 (joined_from s at n 0)
 read_begins s at n out = let a : at ≡ at + 4 * 0 = omega arith in let b : n ≡ n - 0 = omega arith in ap₂ (λ (j m : ℕ). sets out 0 (joined m (words_from s j (2 * m)))) a b
-
-pub ruleset read_rules = (read_turn, read_all, read_begins, rules)

@@ -2,65 +2,70 @@
 use Prim.Native.Nat.{ℕ, zero, suc, ◌+◌, ◌-◌, ◌*◌, ◌/◌, ◌%◌, ◌^◌, ◌≤◌, ◌<◌}
 use native.Mathlib.Omega.{arith}
 use mathlib.Core.Path.{◌≡◌, refl, sym, ap, ap₂, ◌∙◌}
-use mathlib.Core.List.{List, [], ◌∷◌, ◌++◌}
-use lib.ListN.{length, get_or, set, length-set, drop, replicate}
-use lib.Seq.{sets, length-sets, drop-cons}
+use mathlib.Core.List.{List, [], ◌∷◌}
+use lib.ListN.{length, get_or, take, drop, replicate, length-replicate}
+use lib.Seq.{sets, sets-eq, drop-cons}
 use lib.IntN.{ℤ, pos, negsuc}
-use borrow.Author.Rules.{rules, sfits_of}
-use mir.Syntax.{w32}
+use borrow.Author.Rules.{sfits_of}
+use borrow.Rule.Slice.PartMut.{put_mid}
+use mir.Syntax.{w16, w32}
 use lib.Signed.{mag}
-use mir.Val.{to_z, of_z, hbits}
+use mir.Val.{Fits, to_z, of_z, hbits}
 use mir.Facts.{to_z-of_z}
+use Rattle.std.specs.Int.{to_le_bytes}
+use Rattle.std.proofs.Common.{append_assoc}
+use Rattle.std.specs.List.{between}
+use Rattle.std.proofs.lemmas.List.Edits.{paste_all, length-between}
+use Rattle.std.proofs.lemmas.Slice.{put_mid-paste}
 use Rattle.book_rules.specs.Blocks.{unsigned, split}
 use Rattle.book_rules.specs.Bytes.{bytes_of}
 
 -- ---- A word.
 
-pub word_in : (s : List ℕ) (at x : ℕ) → at + 2 ≤ length s → at + 1 < length (set s at x)
-word_in s at x h = rw (length-set s at x) (omega arith)
-
-pub word_out : (s : List ℕ) (at w : ℕ) → set (set s at (w % 256)) (at + 1) (w / 256) ≡ sets s at (bytes_of (w ∷ []))
+pub two_bytes : (w : ℕ) → w < 65536 → to_le_bytes w16 w ≡ bytes_of (w ∷ [])
 unfolding bytes_of
-word_out s at w = let p : at + 1 ≡ suc at = omega arith in rw p
+two_bytes w h = let e : w / 256 % 256 ≡ w / 256 = omega arith in ap (λ (x : ℕ). w % 256 ∷ x ∷ []) e
 
-pub ruleset word_rules = (word_in, word_out, rules)
-
-one_word : (s : List ℕ) (at w : ℕ) (ws : List ℕ) → sets s at (bytes_of (w ∷ ws)) ≡ sets (sets s at (bytes_of (w ∷ []))) (at + 2) (bytes_of ws)
+pub four_bytes : (x : ℕ) → x < 4294967296 → to_le_bytes w32 x ≡ bytes_of (x % 65536 ∷ x / 65536 ∷ [])
 unfolding bytes_of
-one_word s at w ws = let p : suc (suc at) ≡ at + 2 = omega arith in ap (λ (j : ℕ). sets (set (set s at (w % 256)) (suc at) (w / 256)) j (bytes_of ws)) p
+four_bytes x h =
+    let a : x % 256 ≡ x % 65536 % 256 = omega arith in
+    let b : x / 256 % 256 ≡ x % 65536 / 256 = omega arith in
+    let c : x / 16777216 % 256 ≡ x / 65536 / 256 = omega arith in
+    ap₂ (λ (y z : ℕ). y ∷ z ∷ x / 65536 % 256 ∷ x / 16777216 % 256 ∷ []) a b
+    ∙ ap (λ (y : ℕ). x % 65536 % 256 ∷ x % 65536 / 256 ∷ x / 65536 % 256 ∷ y ∷ []) c
 
--- The slice keeps its length.
-pub long : (s t : List ℕ) (at : ℕ) (ws : List ℕ) (n : ℕ) → t ≡ sets s at (bytes_of ws) → n ≤ length s → n ≤ length t
-long s t at ws n e h = let k = length-sets s at (bytes_of ws) in rw e (omega arith)
+pub zero_bytes : (n : ℕ) → replicate (2 * n) 0 ≡ bytes_of (replicate n 0)
+unfolding bytes_of
+zero_bytes zero = refl
+zero_bytes (suc n) =
+    let a : 2 * suc n ≡ suc (suc (2 * n)) = omega arith in
+    ap (λ (m : ℕ). replicate m 0) a ∙ ap (λ (l : List ℕ). 0 ∷ 0 ∷ l) (zero_bytes n)
 
-pub as_long : (s t l : List ℕ) (at : ℕ) (ws : List ℕ) → t ≡ sets s at (bytes_of ws) → length s ≡ length l → length t ≡ length l
-as_long s t l at ws e h = ap length e ∙ length-sets s at (bytes_of ws) ∙ h
+-- What a write of bytes to a part of the slice leaves.
+put_sets : (at k : ℕ) (s part bs : List ℕ) → part ≡ bs → k ≡ length bs → at + length bs ≤ length s → put_mid at k s part ≡ sets s at bs
+put_sets at k s part bs e f h =
+    put_mid-paste at k s part bs (length bs) e (sym f) refl ∙ paste_all s at bs (length bs) refl
+    ∙ sym (append_assoc (take at s) bs (drop (at + length bs) s)) ∙ sym (sets-eq bs s at h)
 
-pub halves_out : (s t u : List ℕ) (at a b : ℕ) → t ≡ sets s at (bytes_of (a ∷ [])) → u ≡ sets t (at + 2) (bytes_of (b ∷ [])) → u ≡ sets s at (bytes_of (a ∷ b ∷ []))
-halves_out s t u at a b e f = f ∙ ap (λ (l : List ℕ). sets l (at + 2) (bytes_of (b ∷ []))) e ∙ sym (one_word s at a (b ∷ []))
-
--- ---- Zeros.
-
-zeros_one : (n : ℕ) (s : List ℕ) (at : ℕ) → sets s at (bytes_of (replicate (suc n) 0)) ≡ sets (sets s at (bytes_of (0 ∷ []))) (at + 2) (bytes_of (replicate n 0))
-zeros_one n s at = one_word s at 0 (replicate n 0)
-
-module _ (s t whole : List ℕ) (at n i : ℕ) where
-  pub zeros_turn : whole ≡ sets s (at + 2 * i) (bytes_of (replicate (n - i) 0)) → i < n → t ≡ sets s (at + 2 * i) (bytes_of (0 ∷ []))
-      → whole ≡ sets t (at + 2 * (i + 1)) (bytes_of (replicate (n - (i + 1)) 0))
-  zeros_turn e h f =
-      let a : n - i ≡ suc (n - (i + 1)) = omega arith in
-      let b : at + 2 * i + 2 ≡ at + 2 * (i + 1) = omega arith in
-      e ∙ ap (λ (m : ℕ). sets s (at + 2 * i) (bytes_of (replicate m 0))) a ∙ zeros_one (n - (i + 1)) s (at + 2 * i)
-      ∙ ap₂ (λ (l : List ℕ) (j : ℕ). sets l j (bytes_of (replicate (n - (i + 1)) 0))) (sym f) b
-
-  pub zeros_all : whole ≡ sets s (at + 2 * i) (bytes_of (replicate (n - i) 0)) → n ≤ i → s ≡ whole
+module _ (s part : List ℕ) (at : ℕ) where
+  pub word_put : (w : ℕ) → at + 2 ≤ length s → Fits w16 w → part ≡ to_le_bytes w16 w → put_mid at (at + 2 - at) s part ≡ sets s at (bytes_of (w ∷ []))
   unfolding bytes_of
-  zeros_all e h = let a : n - i ≡ 0 = omega arith in sym (e ∙ ap (λ (m : ℕ). sets s (at + 2 * i) (bytes_of (replicate m 0))) a)
+  word_put w h k e =
+      let l = k.fits in
+      put_sets at (at + 2 - at) s part (bytes_of (w ∷ [])) (e ∙ two_bytes w (omega arith)) (omega arith) h
 
-pub zeros_begin : (s : List ℕ) (at n : ℕ) → sets s at (bytes_of (replicate n 0)) ≡ sets s (at + 2 * 0) (bytes_of (replicate (n - 0) 0))
-zeros_begin s at n = let a : at ≡ at + 2 * 0 = omega arith in let b : n ≡ n - 0 = omega arith in ap₂ (λ (j m : ℕ). sets s j (bytes_of (replicate m 0))) a b
+  pub halves_put : (x : ℕ) → at + 4 ≤ length s → Fits w32 x → part ≡ to_le_bytes w32 x → put_mid at (at + 4 - at) s part ≡ sets s at (bytes_of (x % 65536 ∷ x / 65536 ∷ []))
+  unfolding bytes_of
+  halves_put x h k e =
+      let l = k.fits in
+      put_sets at (at + 4 - at) s part (bytes_of (x % 65536 ∷ x / 65536 ∷ [])) (e ∙ four_bytes x (omega arith)) (omega arith) h
 
-pub ruleset zero_rules = (zeros_turn, zeros_all, zeros_begin, as_long, rules)
+  pub zeros_put : (n : ℕ) → at + 2 * n ≤ length s → part ≡ replicate (length (between at (at + 2 * n) s)) 0 → put_mid at (at + 2 * n - at) s part ≡ sets s at (bytes_of (replicate n 0))
+  zeros_put n h e =
+      let k : length (bytes_of (replicate n 0)) ≡ 2 * n = ap length (sym (zero_bytes n)) ∙ length-replicate (2 * n) 0 in
+      let l : length (between at (at + 2 * n) s) ≡ 2 * n = length-between s at (at + 2 * n) h ∙ (omega arith) in
+      put_sets at (at + 2 * n - at) s part (bytes_of (replicate n 0)) (e ∙ ap (λ (m : ℕ). replicate m 0) l ∙ zero_bytes n) (omega arith) (omega arith)
 
 -- ---- Signed words.
 
@@ -101,10 +106,3 @@ module _ (s t whole : List ℕ) (zs : List ℤ) (at i : ℕ) where
 
 pub words_begin : (s : List ℕ) (at : ℕ) (zs : List ℤ) → sets s at (bytes_of (split zs)) ≡ sets s (at + 4 * 0) (bytes_of (split (drop 0 zs)))
 words_begin s at zs = let a : at ≡ at + 4 * 0 = omega arith in ap (λ (j : ℕ). sets s j (bytes_of (split zs))) a
-
-pub ruleset words_rules = (words_turn, words_all_lem, words_begin, as_long, rules)
-
--- ---- The check.
-
-pub sealed_out : (s t : List ℕ) (at c d : ℕ) → c ≡ d → t ≡ sets s at (bytes_of (c % 65536 ∷ c / 65536 ∷ [])) → t ≡ sets s at (bytes_of (d % 65536 ∷ d / 65536 ∷ []))
-sealed_out s t at c d e f = f ∙ ap (λ (x : ℕ). sets s at (bytes_of (x % 65536 ∷ x / 65536 ∷ []))) e

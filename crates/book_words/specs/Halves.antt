@@ -1,10 +1,6 @@
--- A byte, a word times its place, and two words as one number.
-use Rattle.std.specs.Prelude.{ℕ, ◌+◌, ◌*◌, ◌<◌, ◌≤◌, ◌≡◌, List}
+-- A word times its place, and two words as one number.
+use Rattle.std.specs.Prelude.{ℕ, ◌+◌, ◌*◌, ◌≤◌, ◌≡◌, List}
 use Rattle.book_rules.specs.Bytes.{word_at}
-
-pub record Byte (x r : ℕ) : Type 0 where
-  pub is : r ≡ x
-  pub small : r < 256
 
 -- Word i of a block times its place, and the most that this can be.
 pub record Placed (i w r : ℕ) : Type 0 where

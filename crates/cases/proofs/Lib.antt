@@ -1,2 +1,1 @@
--- What the proofs of several functions use.
-pub mod Laws
+-- No lemmas are needed beside the proofs of the functions.

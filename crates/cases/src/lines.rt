@@ -6,32 +6,17 @@ pub(crate) fn next_line(s: &[u8], from: usize) -> usize
     ensures upper_bound { result ≤ length s.now }
     ensures lower_bound { from < length s.now → from < result }
 {
-    let mut i = from;
-    while i < s.len() {
+    for i in from..s.len() {
         if s[i] == b'\n' {
             return i + 1;
         }
-        i += 1;
     }
     s.len()
 }
 
 // Whether t stands in s at an index.
 pub(crate) fn stands_at(s: &[u8], at: usize, t: &[u8]) -> bool {
-    let mut i: usize = 0;
-    while i < t.len() {
-        if s.len() <= at {
-            return false;
-        }
-        if s.len() - at <= i {
-            return false;
-        }
-        if s[at + i] != t[i] {
-            return false;
-        }
-        i += 1;
-    }
-    true
+    at <= s.len() && s[at..].starts_with(t)
 }
 
 // Where the next line starts that is t, newline included; or the end.
@@ -39,6 +24,7 @@ pub(crate) fn seek(s: &[u8], from: usize, t: &[u8]) -> usize
     ensures { result ≤ length s.now }
 {
     let mut at = from;
+    // Each step is as long as the line that it passes.
     while at < s.len() {
         if stands_at(s, at, t) {
             return at;

@@ -4,33 +4,20 @@ ghost use Rattle.std.specs.Prelude.{◌≡◌, ◌≤◌, length};
 use crate::file::{Tally, load, tell};
 use crate::lines::{next_line, seek, stands_at};
 use std::fs::Files;
-use text::{Printed, TEXT_BYTES};
+use text::TEXT_BYTES;
 
 // The bytes of a case file, at most.
 const FILE_BYTES: usize = 65536;
-
-fn blank() -> [u8; FILE_BYTES]
-    ensures { 65536 ≡ length result }
-{
-    [0; FILE_BYTES]
-}
 
 // Writes empty lines from an index on, as far as there is room; gives their end.
 fn pad(out: &mut [u8], at: usize, lines: u64) -> usize
     requires { at ≤ length out.old }
     ensures { result ≤ length out.new }
 {
-    let mut o = at;
-    let mut left = lines;
-    while 0 < left {
-        if out.len() <= o {
-            return o;
-        }
-        out[o] = b'\n';
-        o += 1;
-        left -= 1;
-    }
-    o
+    let room = out.len() - at;
+    let end = at + usize::try_from(lines).map_or(room, |lines| lines.min(room));
+    out[at..end].fill(b'\n');
+    end
 }
 
 // What the library prints for an input: how many bytes.
@@ -38,17 +25,8 @@ fn printed(input: &[u8], out: &mut [u8]) -> usize
     ensures { result ≤ length out.new }
 {
     match text::answer(input, out) {
-        Printed::Text(at, lines) => pad(out, at, lines),
-        Printed::Short => 0,
-    }
-}
-
-// Whether two texts are the same.
-fn same(a: &[u8], b: &[u8]) -> bool {
-    if a.len() == b.len() {
-        stands_at(a, 0, b)
-    } else {
-        false
+        Some(rest) => pad(out, rest.at, rest.lines),
+        None => 0,
     }
 }
 
@@ -56,7 +34,7 @@ fn same(a: &[u8], b: &[u8]) -> bool {
 fn one(rt: &impl Print, path: &[u8], input: &[u8], wanted: &[u8], tally: Tally) -> Tally {
     let mut out = [0u8; TEXT_BYTES];
     let n = printed(input, &mut out);
-    let good = same(wanted, &out[..n]);
+    let good = wanted == &out[..n];
     if !good {
         tell(rt, path, input, wanted, &out[..n]);
     }
@@ -74,52 +52,36 @@ fn case(
     to: usize,
     tally: Tally,
 ) -> Tally {
-    let mut end = middle;
-    if stands_at(s, middle, b"=!\n") {
-        if 0 < middle {
-            end = middle - 1;
-        }
+    let end = if stands_at(s, middle, b"=!\n") {
+        middle.saturating_sub(1)
+    } else {
+        middle
+    };
+    match (s.get(at..end), s.get(from..to)) {
+        (Some(input), Some(wanted)) => one(rt, path, input, wanted, tally),
+        _ => tally.seen(false),
     }
-    if end < at {
-        return tally.seen(false);
-    }
-    if s.len() < end {
-        return tally.seen(false);
-    }
-    if to < from {
-        return tally.seen(false);
-    }
-    if s.len() < to {
-        return tally.seen(false);
-    }
-    one(rt, path, &s[at..end], &s[from..to], tally)
-}
-
-fn least(a: usize, b: usize) -> usize {
-    if a < b { a } else { b }
 }
 
 // A file has no more cases than bytes.
 fn play_all(rt: &impl Print, path: &[u8], s: &[u8], start: Tally) -> Tally {
     let mut tally = start;
     let mut at: usize = 0;
-    let mut left = s.len();
-    while 0 < left {
+    for _ in 0..s.len() {
         if s.len() <= at {
             return tally;
         }
-        let middle = least(seek(s, at, b"=\n"), seek(s, at, b"=!\n"));
+        let middle = seek(s, at, b"=\n").min(seek(s, at, b"=!\n"));
         let from = next_line(s, middle);
         let to = seek(s, from, b"--\n");
         tally = case(rt, path, s, at, middle, from, to, tally);
         at = next_line(s, to);
-        left -= 1;
     }
     tally
 }
 
 pub(crate) fn play(rt: &(impl Files + Print + Eprint), path: &[u8], tally: Tally) -> Tally {
-    let mut file = blank();
+    let mut file = [0; FILE_BYTES];
     let n = load(rt, path, &mut file);
     play_all(rt, path, &file[..n], tally)
 }

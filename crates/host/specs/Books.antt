@@ -1,10 +1,12 @@
 -- Document 02, No. 7: the calls on a rule book at the border to C. The numbers go to a lent slice as ever; 24 before all others, with nothing written anywhere.
-use Rattle.std.specs.Prelude.{ℕ, zero, suc, List, [], ◌∷◌, ◌++◌, cond, length, ltb, ℤ}
+use Rattle.std.specs.Prelude.{ℕ, zero, suc, List, [], ◌∷◌, ◌++◌, cond, length, ltb, ℤ, Some, None}
+use Rattle.std.specs.Prelude as code
 use Rattle.std.proofs.Math.Option.{Option, none, some}
 use Rattle.std.proofs.lemmas.List.Edits.{sets}
 use Rattle.book_rules.specs.Blocks.{Entry, badge_of, entry_of}
 use Rattle.book_rules.specs.Books.{Book, Told, in_use, fault, passed, read}
 use Rattle.book_rules.specs.Bytes.{block_at, holding}
+use Rattle.book_blocks.specs.declared.reading.Head.{Head}
 use Rattle.book.specs.Lookup.{block_fault, badge_unless, rule_unless}
 use Rattle.host_numbers.specs.Numbers.{bytes_of, over}
 use Rattle.host.specs.Border.{Called, called}
@@ -53,6 +55,11 @@ check_called b numbers = cond (ltb (length numbers) 24) (called 24 [] numbers) (
 unfoldable pub rule_numbers : Option Entry → List ℕ
 rule_numbers none = 0 ∷ 0 ∷ 0 ∷ 0 ∷ []
 rule_numbers (some e) = e.version ∷ e.dialect ∷ length e.matcher ∷ length e.pattern ∷ []
+
+-- The same of the numbers that crate `book` tells.
+abbrev pub head_numbers : code.Option Head → List ℕ
+head_numbers None = 0 ∷ 0 ∷ 0 ∷ 0 ∷ []
+head_numbers (Some h) = h.version ∷ h.dialect ∷ h.matcher ∷ h.pattern ∷ []
 
 unfoldable pub rule_words : Option Entry → List ℤ → List ℤ
 rule_words none words = words

@@ -1,31 +1,77 @@
 // Document 02, No. 7: the rule book at the border to C. A book is a slice of bytes and the number of blocks in use.
-ghost use Rattle.std.specs.Prelude.{◌≡◌, []};
+ghost use Rattle.std.specs.Prelude.{◌≡◌, ◌∷◌, []};
 ghost use Rattle.book_rules.specs.Books.{add, withdraw, total};
 ghost use Rattle.book_rules.specs.Bytes.{book_of};
+ghost use Rattle.book_blocks.specs.Faults.{answer_of};
 ghost use Rattle.book_blocks.specs.Heads.{entry};
+ghost use Rattle.book.specs.Changes.{used_in};
+ghost use Rattle.book.specs.Lookup.{badge_in, rule_in, shown_in};
+ghost use Rattle.book.specs.Testing.{answer_in, passed_in};
 ghost use Rattle.host.specs.Border.{called};
-ghost use Rattle.host.specs.Books.{book_called, changing, telling, check_called, read_called, block_called};
+ghost use Rattle.host.specs.Books.{head_numbers, book_called, changing, telling, check_called, read_called, block_called};
 
 use crate::SHORT;
 use book::adding::add;
-use book::lookup::{read, show};
-use book::testing::test;
+use book::lookup::{Shown, read, show};
+use book::testing::{Refused, test};
 use book::totals::total;
-use book::withdrawal::withdraw;
+use book::withdrawal::{Changed, withdraw};
+use book_blocks::fault::{Fault, answer};
 use book_blocks::form::LONGEST;
-use book_blocks::writing::Named;
-use host_numbers::{put_six, put_three};
-use words::casts::{wide, wide_index};
+use book_blocks::reading::Head;
+use book_blocks::writing::Entry;
+use host_numbers::put_numbers;
 
 // The bytes of three numbers, and of six.
 const BOOK_BYTES: usize = 24;
 
 const RULE_BYTES: usize = 48;
 
-fn half(x: u16) -> u64
-    ensures { result ≡ x }
+// What is told of a change: answer, 0, and the number of blocks in use then.
+fn change_numbers(told: Result<Changed, Fault>, used: u32) -> [u64; 3]
+    ensures { result ≡ answer_of told ∷ 0 ∷ used_in told used ∷ [] }
 {
-    x as u64
+    match told {
+        Ok(changed) => [0, 0, changed.used as u64],
+        Err(fault) => [u64::from(fault.number()), 0, u64::from(used)],
+    }
+}
+
+// The refusal of a whole book, and the number of blocks that pass.
+fn check_numbers(told: Result<(), Refused>, used: u32) -> (u32, u64)
+    ensures answer { result.0 ≡ answer_in told }
+    ensures passed { result.1 ≡ passed_in told used }
+{
+    match told {
+        Ok(()) => (0, u64::from(used)),
+        Err(refused) => (refused.fault.number(), refused.block as u64),
+    }
+}
+
+// A rule's numbers, all 0 where there is none.
+fn head_numbers(head: Option<Head>) -> [u64; 4]
+    ensures { result ≡ head_numbers head }
+{
+    match head {
+        Some(head) => [
+            u64::from(head.version),
+            u64::from(head.dialect),
+            head.matcher as u64,
+            head.pattern as u64,
+        ],
+        None => [0; 4],
+    }
+}
+
+// A block's badge, 0 where there is no rule, and its rule.
+fn badge_and_head(told: Result<Option<Shown>, Fault>) -> (u16, Option<Head>)
+    ensures badge { result.0 ≡ badge_in (shown_in told) }
+    ensures head { result.1 ≡ rule_in (shown_in told) }
+{
+    match told {
+        Ok(Some(shown)) => (shown.badge, Some(shown.head)),
+        _ => (0, None),
+    }
 }
 
 // Adds a rule: answer, 0, and the number of blocks in use then.
@@ -45,14 +91,17 @@ pub extern "C" fn lozhbinor_book_add(
     if numbers.len() < BOOK_BYTES {
         return SHORT;
     }
-    let e = Named {
-        version: version,
-        badge: badge,
-        dialect: dialect,
+    let e = Entry {
+        version,
+        badge,
+        dialect,
+        matcher,
+        pattern,
     };
-    let a = add(book, used as usize, e, matcher, pattern);
-    put_three(numbers, wide(a.answer), 0, wide_index(a.used));
-    a.answer
+    let added = add(book, used as usize, e);
+    let answer = answer(&added);
+    put_numbers(numbers, &change_numbers(added, used));
+    answer
 }
 
 // Withdraws a badge: answer, 0, and the number of blocks in use, which stays.
@@ -68,9 +117,10 @@ pub extern "C" fn lozhbinor_book_withdraw(
     if numbers.len() < BOOK_BYTES {
         return SHORT;
     }
-    let w = withdraw(book, used as usize, badge);
-    put_three(numbers, wide(w.answer), 0, wide_index(w.used));
-    w.answer
+    let withdrawn = withdraw(book, used as usize, badge);
+    let answer = answer(&withdrawn);
+    put_numbers(numbers, &change_numbers(withdrawn, used));
+    answer
 }
 
 // The number of live rules: answer, number, blocks in use.
@@ -81,9 +131,11 @@ pub extern "C" fn lozhbinor_book_total(book: &[u8], used: u32, numbers: &mut [u8
     if numbers.len() < BOOK_BYTES {
         return SHORT;
     }
-    let t = total(book, used as usize);
-    put_three(numbers, wide(t.answer), wide_index(t.number), wide(used));
-    t.answer
+    let told = total(book, used as usize);
+    let answer = answer(&told);
+    let number = told.unwrap_or(0) as u64;
+    put_numbers(numbers, &[u64::from(answer), number, u64::from(used)]);
+    answer
 }
 
 // The refusal of the whole book: answer, the number of the first block that is refused, blocks in use.
@@ -94,9 +146,9 @@ pub extern "C" fn lozhbinor_book_check(book: &[u8], used: u32, numbers: &mut [u8
     if numbers.len() < BOOK_BYTES {
         return SHORT;
     }
-    let c = test(book, used as usize);
-    put_three(numbers, wide(c.answer), wide_index(c.block), wide(used));
-    c.answer
+    let (answer, passed) = check_numbers(test(book, used as usize), used);
+    put_numbers(numbers, &[u64::from(answer), passed, u64::from(used)]);
+    answer
 }
 
 // A live rule by its badge: answer, 1 if it is found, version, dialect, the matcher's length and the pattern's; its words to `words`.
@@ -116,17 +168,16 @@ pub extern "C" fn lozhbinor_book_read(
     if words.len() < LONGEST {
         return SHORT;
     }
-    let r = read(book, used as usize, badge, words);
-    put_six(
+    let told = read(book, used as usize, badge, words);
+    let answer = answer(&told);
+    let head = told.unwrap_or(None);
+    let found = u64::from(head.is_some());
+    let [version, dialect, matcher, pattern] = head_numbers(head);
+    put_numbers(
         numbers,
-        wide(r.answer),
-        wide(r.found),
-        half(r.version),
-        wide(r.dialect),
-        wide_index(r.matcher),
-        wide_index(r.pattern),
+        &[u64::from(answer), found, version, dialect, matcher, pattern],
     );
-    r.answer
+    answer
 }
 
 // One block by itself: answer, badge, version, dialect, the matcher's length and the pattern's. A book that was tested is listed so.
@@ -145,15 +196,20 @@ pub extern "C" fn lozhbinor_book_block(
     if words.len() < LONGEST {
         return SHORT;
     }
-    let b = show(book, block as usize, words);
-    put_six(
+    let told = show(book, block as usize, words);
+    let answer = answer(&told);
+    let (badge, head) = badge_and_head(told);
+    let [version, dialect, matcher, pattern] = head_numbers(head);
+    put_numbers(
         numbers,
-        wide(b.answer),
-        half(b.badge),
-        half(b.version),
-        wide(b.dialect),
-        wide_index(b.matcher),
-        wide_index(b.pattern),
+        &[
+            u64::from(answer),
+            u64::from(badge),
+            version,
+            dialect,
+            matcher,
+            pattern,
+        ],
     );
-    b.answer
+    answer
 }

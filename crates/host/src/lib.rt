@@ -8,10 +8,9 @@ ghost use Rattle.std.specs.Prelude.{◌≡◌, ◌≤◌, length, ◌∷◌, []}
 ghost use Rattle.host_numbers.specs.Numbers.{bytes_of, over};
 ghost use Rattle.host.specs.Border.{called, match_called, match_with_called, review_called, review_with_called};
 
-use host_numbers::{put_six, put_three};
+use host_numbers::put_numbers;
 use services::matching::{Matched, match_units, match_units_with};
 use services::review::{Reviewed, review, review_with};
-use words::casts::{wide, wide_index};
 
 // The bytes of match's numbers, and of review's.
 const MATCH_BYTES: usize = 48;
@@ -19,18 +18,20 @@ const MATCH_BYTES: usize = 48;
 const REVIEW_BYTES: usize = 24;
 
 // The numbers of a match are written, and its answer is given back.
-fn tell(m: Matched, numbers: &mut [u8]) -> u32
+pub fn tell(m: Matched, numbers: &mut [u8]) -> u32
     requires { 48 ≤ length numbers.old }
     ensures { (result ≡ m.answer) × (numbers.new ≡ over (bytes_of (m.answer ∷ m.place ∷ m.rows ∷ m.steps ∷ m.words ∷ m.cause ∷ [])) numbers.old) }
 {
-    put_six(
+    put_numbers(
         numbers,
-        wide(m.answer),
-        wide_index(m.place),
-        m.rows,
-        m.steps,
-        wide_index(m.words),
-        wide(m.cause),
+        &[
+            u64::from(m.answer),
+            m.place as u64,
+            m.rows,
+            m.steps,
+            m.words as u64,
+            u64::from(m.cause),
+        ],
     );
     m.answer
 }
@@ -40,11 +41,11 @@ fn tell_review(m: Reviewed, numbers: &mut [u8]) -> u32
     requires { 24 ≤ length numbers.old }
     ensures { (result ≡ m.answer) × (numbers.new ≡ over (bytes_of (m.answer ∷ m.place ∷ m.count ∷ [])) numbers.old) }
 {
-    put_three(numbers, wide(m.answer), wide_index(m.place), m.count);
+    put_numbers(numbers, &[u64::from(m.answer), m.place as u64, m.count]);
     m.answer
 }
 
-// 24 short: the slice for the numbers is too short for them.
+// 24 short: the slice for the numbers is too short for them. Each call looks before all else and says it in a line; a closure for the rest of it is no plainer.
 const SHORT: u32 = 24;
 
 // The library's version, as the header has it: a thousand times the first number, plus the second.

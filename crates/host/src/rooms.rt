@@ -4,9 +4,8 @@ ghost use Rattle.host.specs.Border.{called};
 ghost use Rattle.host.specs.Rooms.{room_called};
 
 use crate::SHORT;
-use host_numbers::put_three;
+use host_numbers::put_numbers;
 use service_room::room;
-use words::casts::{wide, wide_index};
 
 // The bytes of three numbers.
 const ROOM_BYTES: usize = 24;
@@ -26,6 +25,6 @@ pub extern "C" fn lozhbinor_room(
         return SHORT;
     }
     let m = room(form, matcher, pattern, cap, longest);
-    put_three(numbers, wide(m.answer), wide_index(m.place), m.words);
+    put_numbers(numbers, &[u64::from(m.answer), m.place as u64, m.words]);
     m.answer
 }

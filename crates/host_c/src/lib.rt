@@ -1,4 +1,5 @@
 // The border as a C program links it: each function of host, host_runs and host_rounds under its own name, with its own clauses. A library exports nothing; this crate is the archive.
+// C calls each export by a name of its own, so each is written out, and its parameters are those of the header.
 #![tactic(auto)]
 
 mod books;

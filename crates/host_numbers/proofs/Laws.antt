@@ -1,35 +1,31 @@
 -- The eight bytes of a number, one after the other. Assumes nothing.
-use Prim.Native.Nat.{ℕ, zero, suc, ◌+◌, ◌-◌, ◌*◌, ◌/◌, ◌%◌, ◌≤◌, ◌<◌}
+use Prim.Native.Nat.{ℕ, zero, suc, ◌+◌, ◌*◌, ◌/◌, ◌%◌, ◌^◌, ◌<◌}
 use native.Mathlib.Omega.{arith}
 use mathlib.Core.Path.{◌≡◌, refl, sym, ap, ◌∙◌}
 use mathlib.Core.List.{List, [], ◌∷◌, ◌++◌}
-use lib.ListN.{length, set, length-set, length-append}
-use lib.Seq.{sets, sets-eq, length-sets}
-use borrow.Author.Rules.{rules}
-use Rattle.host_numbers.specs.Numbers.{digits, put, bytes_of, over}
+use lib.ListN.{length, take, drop, get_or, length-append}
+use borrow.Rule.Slice.PartMut.{put_mid}
+use mir.Syntax.{w64}
+use Rattle.std.proofs.Math.Nat.{div-one, div-div-eq-div-mul, pow-suc}
+use Rattle.std.proofs.Math.Seq.{take-suc, take-length, take-append_seam, drop-append_seam}
+use Rattle.std.proofs.lemmas.List.{append_assoc, append-nil, drop-drop, length-take-le}
+use Rattle.std.specs.Int.{byte_at, bytes_low_first, to_le_bytes}
+use Rattle.host_numbers.specs.Numbers.{digits, bytes_of, over}
 
--- What is left to write after one byte more.
-one_more : (out : List ℕ) (at k n y : ℕ) → n ≡ 8 - k → k < 8 → put out (at + k) (digits n y) ≡ put (set out (at + k) (y % 256)) (at + (k + 1)) (digits (8 - (k + 1)) (y / 256))
-unfolding digits put
-one_more out at k zero y e h = absurd (omega arith)
-one_more out at k (suc n) y e h =
-    let p : at + (k + 1) ≡ suc (at + k) = omega arith in
-    let q : 8 - (k + 1) ≡ n = omega arith in
-    rw (p, q)
+-- The library's bytes of a number are its digits.
+byte_is : (i n : ℕ) → byte_at i n ≡ n / 256 ^ i % 256
+byte_is zero n = ap (λ m. m % 256) (sym (div-one n))
+byte_is (suc i) n = refl
 
-module _ (w out : List ℕ) (at k y : ℕ) where
-  pub turn : w ≡ put out (at + k) (digits (8 - k) y) → k < 8 → w ≡ put (set out (at + k) (y % 256)) (at + (k + 1)) (digits (8 - (k + 1)) (y / 256))
-  turn e h = e ∙ one_more out at k (8 - k) y refl h
+low_first : (i k n : ℕ) → bytes_low_first i k n ≡ digits k (n / 256 ^ i)
+unfolding digits
+low_first i zero n = refl
+low_first i (suc k) n =
+    let d : n / 256 ^ suc i ≡ n / 256 ^ i / 256 = ap (λ m. n / m) (pow-suc 256 i) ∙ sym (div-div-eq-div-mul n (256 ^ i) 256) in
+    rw (byte_is i n, low_first (suc i) k n, d)
 
-  pub written : w ≡ put out (at + k) (digits (8 - k) y) → 8 ≤ k → out ≡ w
-  unfolding digits put
-  written e h = let p : 8 - k ≡ 0 = omega arith in sym (rw p at e)
-
-pub begins : (out : List ℕ) (at x : ℕ) → put out at (digits 8 x) ≡ put out (at + 0) (digits (8 - 0) x)
-begins out at x = let p : at + 0 ≡ at = omega arith in rw p
-
-pub kept : (l out : List ℕ) (i y : ℕ) → length out ≡ length l → length (set out i y) ≡ length l
-kept l out i y e = length-set out i y ∙ e
+bytes_are : (n : ℕ) → to_le_bytes w64 n ≡ digits 8 n
+bytes_are n = low_first 0 8 n ∙ ap (digits 8) (div-one n)
 
 -- ---- Number after number.
 
@@ -38,47 +34,38 @@ unfolding digits
 length_digits zero x = refl
 length_digits (suc n) x = ap suc (length_digits n (x / 256))
 
-sets_append : (l : List ℕ) (i : ℕ) (xs ys : List ℕ) → sets l i (xs ++ ys) ≡ sets (sets l i xs) (i + length xs) ys
-sets_append l i [] ys = let e : i + 0 ≡ i = omega arith in rw e
-sets_append l i (x ∷ xs) ys = let e : i + suc (length xs) ≡ suc i + length xs = omega arith in rw e (sets_append (set l i x) (suc i) xs ys)
-
--- One number more, 8 bytes on.
-more : (l : List ℕ) (i x : ℕ) (xs : List ℕ) → put l i (bytes_of (x ∷ xs)) ≡ put (put l i (digits 8 x)) (i + 8) (bytes_of xs)
-unfolding bytes_of put
-more l i x xs = sets_append l i (digits 8 x) (bytes_of xs) ∙ ap (λ n. sets (sets l i (digits 8 x)) (i + n) (bytes_of xs)) (length_digits 8 x)
-
--- Bytes from the first on are bytes over the start.
-from_start : (l : List ℕ) (ys : List ℕ) → length ys ≤ length l → put l 0 ys ≡ over ys l
-unfolding over put
-from_start l ys h = let e : 0 + length ys ≡ length ys = omega arith in sets-eq ys l 0 (omega arith) ∙ rw e
-
 length_bytes : (xs : List ℕ) → length (bytes_of xs) ≡ 8 * length xs
 unfolding bytes_of
 length_bytes [] = refl
 length_bytes (x ∷ xs) = let a = length-append (digits 8 x) (bytes_of xs) in let d = length_digits 8 x in let i = length_bytes xs in omega arith
 
--- Numbers one after the other from the first byte on; m is what the slice holds after each.
-module _ (l : List ℕ) (a b c : ℕ) (l1 l2 l3 : List ℕ) (p : l1 ≡ put l 0 (digits 8 a)) (q : l2 ≡ put l1 8 (digits 8 b)) (r : l3 ≡ put l2 16 (digits 8 c)) where
-  first_three : (xs : List ℕ) → put l 0 (bytes_of (a ∷ b ∷ c ∷ xs)) ≡ put l3 24 (bytes_of xs)
-  first_three xs = more l 0 a (b ∷ c ∷ xs) ∙ ap (λ z. put z 8 (bytes_of (b ∷ c ∷ xs))) (sym p) ∙ more l1 8 b (c ∷ xs) ∙ ap (λ z. put z 16 (bytes_of (c ∷ xs))) (sym q)
-      ∙ more l2 16 c xs ∙ ap (λ z. put z 24 (bytes_of xs)) (sym r)
+bytes_after : (xs : List ℕ) (x : ℕ) → bytes_of (xs ++ (x ∷ [])) ≡ bytes_of xs ++ digits 8 x
+unfolding bytes_of
+bytes_after [] x = append-nil (digits 8 x)
+bytes_after (y ∷ xs) x = rw (bytes_after xs x) (sym (append_assoc (digits 8 y) (bytes_of xs) (digits 8 x)))
 
-  pub three : 24 ≤ length l → l3 ≡ over (bytes_of (a ∷ b ∷ c ∷ [])) l
-  unfolding bytes_of put
-  three h = let n = length_bytes (a ∷ b ∷ c ∷ []) in sym (first_three []) ∙ from_start l (bytes_of (a ∷ b ∷ c ∷ [])) (omega arith)
+pub begins : (xs lent : List ℕ) → lent ≡ over (bytes_of (take 0 xs)) lent
+unfolding over bytes_of
+begins xs lent = refl
 
-  pub six : (d e f : ℕ) (l4 l5 l6 : List ℕ) → l4 ≡ put l3 24 (digits 8 d) → l5 ≡ put l4 32 (digits 8 e) → l6 ≡ put l5 40 (digits 8 f) → 48 ≤ length l
-      → l6 ≡ over (bytes_of (a ∷ b ∷ c ∷ d ∷ e ∷ f ∷ [])) l
-  unfolding bytes_of put
-  six d e f l4 l5 l6 s t u h =
-      let n = length_bytes (a ∷ b ∷ c ∷ d ∷ e ∷ f ∷ []) in
-      sym (first_three (d ∷ e ∷ f ∷ []) ∙ more l3 24 d (e ∷ f ∷ []) ∙ ap (λ z. put z 32 (bytes_of (e ∷ f ∷ []))) (sym s)
-      ∙ more l4 32 e (f ∷ []) ∙ ap (λ z. put z 40 (bytes_of (f ∷ []))) (sym t) ∙ more l5 40 f [] ∙ sym u)
-      ∙ from_start l (bytes_of (a ∷ b ∷ c ∷ d ∷ e ∷ f ∷ [])) (omega arith)
+pub ends : (xs lent out : List ℕ) (i : ℕ) → i ≡ length xs → out ≡ over (bytes_of (take i xs)) lent → out ≡ over (bytes_of xs) lent
+ends xs lent out i e h = rw (e, take-length xs) at h
 
--- The slice keeps its length.
-pub long : (l m : List ℕ) (i x n : ℕ) → m ≡ put l i (digits 8 x) → n ≤ length l → n ≤ length m
-unfolding put
-long l m i x n e h = let k = length-sets l i (digits 8 x) in rw e (omega arith)
+spliced : (before bytes lent : List ℕ) → length bytes ≡ 8 → put_mid (length before) 8 (over before lent) bytes ≡ over (before ++ bytes) lent
+unfolding over
+spliced before bytes lent e =
+    let behind = drop (length before) lent in
+    let l : length (before ++ bytes) ≡ length before + 8 = length-append before bytes ∙ ap (λ n. length before + n) e in
+    rw (take-append_seam before behind, drop-append_seam before behind, drop-drop 8 (length before) lent, l, append_assoc before bytes)
 
-pub ruleset own_rules = (turn, written, begins, kept, three, six, long, rules)
+-- One number more, over what the slice held behind those before it.
+pub more : (xs lent out : List ℕ) (i k : ℕ) (bytes : List ℕ) → i < length xs → out ≡ over (bytes_of (take i xs)) lent → k ≡ 8 → bytes ≡ to_le_bytes w64 (get_or xs i 0)
+    → put_mid (8 * i) k out bytes ≡ over (bytes_of (take (i + 1) xs)) lent
+more xs lent out i k bytes h e q b =
+    let x = get_or xs i 0 in
+    let before = bytes_of (take i xs) in
+    let long : length before ≡ 8 * i = length_bytes (take i xs) ∙ ap (λ n. 8 * n) (length-take-le i xs (omega arith)) in
+    let next : i + 1 ≡ suc i = omega arith in
+    let all : bytes_of (take (i + 1) xs) ≡ before ++ digits 8 x = ap bytes_of (ap (λ n. take n xs) next ∙ take-suc xs i 0 h) ∙ bytes_after (take i xs) x in
+    let told : bytes ≡ digits 8 x = b ∙ bytes_are x in
+    rw (all, e, q, told, ← long) (spliced before (digits 8 x) lent (length_digits 8 x))

@@ -16,12 +16,6 @@ use Rattle.host_numbers.specs.Numbers.{bytes_of, over}
 use Rattle.host.specs.Border.{called, match_numbers, match_told}
 use Rattle.host_rounds.specs.Rounds.{rounds_called}
 
--- The numbers as they are told.
-pub tells : (out numbers : List ℕ) (m : Matched) (a p w k : ℕ) → a ≡ m.answer → p ≡ m.place → w ≡ m.words → k ≡ m.cause
-    → out ≡ over (bytes_of (a ∷ p ∷ m.rows ∷ m.steps ∷ w ∷ k ∷ [])) numbers
-    → out ≡ over (bytes_of (m.answer ∷ m.place ∷ m.rows ∷ m.steps ∷ m.words ∷ m.cause ∷ [])) numbers
-tells out numbers m a p w k qa qp qw qk o = o ∙ rw (qa, qp, qw, qk)
-
 module _ (form dialect : ℕ) (ms ps ts : List ℤ) (budget words : ℕ) (room : List ℤ) (numbers : List ℕ) where
   pub rounds_short : length numbers < 48 → called 24 room numbers ≡ rounds_called form dialect ms ps ts budget words room numbers
   unfolding rounds_called
@@ -34,4 +28,4 @@ module _ (form dialect : ℕ) (ms ps ts : List ℤ) (budget words : ℕ) (room :
   rounds_told m after out r h e q o =
       rw (le-ltb (length numbers) 48 h) (rw (o, q) (ap (λ (x : paper.Matched). match_told x numbers) e))
 
-pub ruleset calls = (rounds_short, rounds_told, tells, rules)
+pub ruleset calls = (rounds_short, rounds_told, rules)

@@ -1,38 +1,18 @@
 // Document 02, No. 10: match by rounds at the border to C. The table of waiting states is a lent slice of words, as the room is.
 #![tactic(auto)]
 
-ghost use Rattle.std.specs.Prelude.{◌≡◌, ◌≤◌, length, ◌∷◌, []};
-ghost use Rattle.host_numbers.specs.Numbers.{bytes_of, over};
+ghost use Rattle.std.specs.Prelude.{◌≡◌, length};
 ghost use Rattle.host.specs.Border.{called};
 ghost use Rattle.host_rounds.specs.Rounds.{rounds_called};
 
-use host_numbers::put_six;
+use host::tell;
 use service_rounds::match_rounds;
-use services::matching::Matched;
-use words::casts::{wide, wide_index};
 
 // The bytes of the numbers.
 const BYTES: usize = 48;
 
 // 24 short: the slice for the numbers is too short for them.
 const SHORT: u32 = 24;
-
-// The numbers are written, and the answer is given back.
-fn tell(m: Matched, numbers: &mut [u8]) -> u32
-    requires { 48 ≤ length numbers.old }
-    ensures { (result ≡ m.answer) × (numbers.new ≡ over (bytes_of (m.answer ∷ m.place ∷ m.rows ∷ m.steps ∷ m.words ∷ m.cause ∷ [])) numbers.old) }
-{
-    put_six(
-        numbers,
-        wide(m.answer),
-        wide_index(m.place),
-        m.rows,
-        m.steps,
-        wide_index(m.words),
-        wide(m.cause),
-    );
-    m.answer
-}
 
 // Match in the other search order, with its rows in the form, and in the dialect, that the caller picks; what is left in the table is of no account.
 #[unsafe(no_mangle)]

@@ -4,12 +4,11 @@
 ghost use Rattle.std.specs.Prelude.{◌≡◌};
 ghost use Rattle.host_runs.specs.Runs.{OpenCalls, AdvanceCalls, both};
 
-use host_numbers::{put_six, put_three};
+use host_numbers::put_numbers;
 use search_step::State;
 use service_runs::opening::opened;
 use service_runs::run::{Run, advanced};
 use value_rows::Binding;
-use words::casts::{wide, wide_index};
 
 // The run that a call leaves, and the answer that it gives back.
 #[repr(C)]
@@ -41,17 +40,16 @@ pub fn open_called(
     ensures { OpenCalls run form dialect matcher.now pattern.now target.now size numbers.old result numbers.new }
 {
     if numbers.len() < OPEN_BYTES {
-        return Called {
-            run: run,
-            answer: SHORT,
-        };
+        return Called { run, answer: SHORT };
     }
     let start = opened(form, dialect, matcher, pattern, target, size);
-    put_three(
+    put_numbers(
         numbers,
-        wide(start.answer),
-        wide_index(start.place),
-        wide(start.cause),
+        &[
+            u64::from(start.answer),
+            start.place as u64,
+            u64::from(start.cause),
+        ],
     );
     let next = start.run;
     Called {
@@ -65,21 +63,20 @@ pub fn advance_called(run: Run, steps: u32, room: &mut [i32], numbers: &mut [u8]
     ensures { AdvanceCalls run steps room.old numbers.old result room.new numbers.new }
 {
     if numbers.len() < ADVANCE_BYTES {
-        return Called {
-            run: run,
-            answer: SHORT,
-        };
+        return Called { run, answer: SHORT };
     }
     let out = advanced(run, steps, room);
     let told = out.told;
-    put_six(
+    put_numbers(
         numbers,
-        wide(told.answer),
-        wide_index(told.place),
-        told.rows,
-        told.steps,
-        wide_index(told.words),
-        wide(told.cause),
+        &[
+            u64::from(told.answer),
+            told.place as u64,
+            told.rows,
+            told.steps,
+            told.words as u64,
+            u64::from(told.cause),
+        ],
     );
     let next = out.run;
     Called {

@@ -16,6 +16,7 @@ use Rattle.notation_rules.specs.Patterns.{want, bracket, hashed, negative, inner
 use Rattle.notation_rules.specs.Rules.{Rule, rule}
 use Rattle.notation_step.specs.Stepped.{View, view, settled, ends}
 use Rattle.notation_step.specs.Stepped as Code
+use Rattle.notation_step.specs.declared.Waiting.{Waiting}
 use Rattle.notation_grammar.specs.Over.{over}
 use Rattle.notation_grammar.specs.Waits.{Wait, wait, under, Held}
 use Rattle.notation_grammar.specs.Acts.{standing, At}
@@ -29,7 +30,7 @@ unfoldable pub bracket_in : List Wait → Bool
 bracket_in [] = false
 bracket_in (wait k c ws ∷ gs) = cond (leb (k % 8) 0) true (bracket_in gs)
 
-waits_still : (n : ℕ) (stack : List ℕ) (place m p : ℕ) (base : List ℤ) (gs : List Wait) (item : List ℤ) (start : ℕ) → Held n stack base gs
+waits_still : (n : ℕ) (stack : List Waiting) (place m p : ℕ) (base : List ℤ) (gs : List Wait) (item : List ℤ) (start : ℕ) → Held n stack base gs
     → ltb 0 (settled stack (standing place m p base gs item start) 0).top ≡ bracket_in gs
 unfolding bracket_in Held
 waits_still n stack place m p base [] item start h = ap (λ s. ltb 0 s.top) (C.settles_all n stack place m p base start item 0)
@@ -106,7 +107,7 @@ module _ (lent : List ℤ) (n : ℕ) where
 
   module _ (u : Option Value) (m : Matcher) where
     -- A pattern that is whole, and nothing waits; or a bracket does.
-    whole_end : (stack : List ℕ) (start : ℕ) (fs : List P.Frame) (p : Pattern) (t : Rest n stack u m 0 start fs p) → Open t.frames
+    whole_end : (stack : List Waiting) (start : ℕ) (fs : List P.Frame) (p : Pattern) (t : Rest n stack u m 0 start fs p) → Open t.frames
         → Finished (ruled u m (P.alone t.it t.frames)) (view (standing 20 (length (units_words u)) (length (both_words u m)) (both_words u m) (all pattern_wait fs) (pattern_words p) start) stack (over (under (both_words u m) (all pattern_wait fs) ++ pattern_words p) lent))
     unfolding Finished ruled P.alone P.lacking cause_of view Code.end_of all under
     whole_end stack start fs p t o = go t.it t.frames o (ap {B = ℕ} (λ s. cond (ltb 0 s.top) 4 0) t.stand) t.same

@@ -1,7 +1,8 @@
 -- What is promised of reading, each in two lines: what `notation_read::read_rule` answers and writes (`reading`, its contract) is what the notation says
--- of the text. What to believe: notation_rules' Main, and `answered` of specs/Main, the numbers of the causes and the words of a rule.
-use Rattle.std.specs.Prelude.{ℕ, ◌≤◌, ◌≡◌, cond, List, [], ◌∷◌, length, ltb, ℤ, pos}
-use Rattle.std.proofs.Common.{arith, sym, ap, ◌∙◌, lt-ltb, le-ltb}
+-- of the text. What to believe: notation_rules' Main, and `answered` of specs/Main, the numbers of the causes (`numbered` of notation_read) and the words
+-- of a rule.
+use Rattle.std.specs.Prelude.{ℕ, ◌≤◌, ◌≡◌, cond, List, [], ◌∷◌, length, ℤ, pos, Ok, Err}
+use Rattle.std.proofs.Common.{arith, sym, ap, ◌∙◌, le-ltb}
 use Rattle.notation_rules.specs.Tokens.{Outcome, done, refused}
 use Rattle.notation_rules.specs.Letters.{full}
 use Rattle.notation_rules.specs.Names.{resolve}
@@ -10,14 +11,14 @@ use Rattle.notation_rules.specs.Rules.{Rule, rule, the_rule, read_text, write_te
 use Rattle.notation_rules.proofs.RulesBack.{Fine, rule_back}
 use Rattle.notation_rules.proofs.Kept.{read_fine}
 use Rattle.notation_rules.proofs.Main as N
-use Rattle.notation_read.specs.Read.{Answered, Stopped, refusal, ruled, judged, reading, ran, stopped}
+use Rattle.notation_read.specs.Read.{unreadable, judged, reading, ran, stopped}
+use Rattle.notation_read.specs.declared.Refusal.TheVariants.{TooLong}
 use Rattle.notation_read.specs.Read as Code
 use Rattle.notation_same.specs.Scans.{Bytes}
 use Rattle.notation_same.proofs.Scans.{from_index}
 use Rattle.notation_grammar.specs.One.{begins, run_all, rule_all}
-use Rattle.notation_grammar.specs.Shapes.{cause_of}
 use Rattle.notation_grammar.specs.Written.{written_bytes}
-use Rattle.notation_grammar.proofs.ReadsText.{some_cause, rule_words, rule_ran, Tells, reads_all}
+use Rattle.notation_grammar.proofs.ReadsText.{rule_words, rule_parts, Tells, reads_all}
 use Rattle.notation_grammar.specs.Main.{answered}
 
 same_spots : (text : List ℕ) → Bytes text → spots (full []) (length text) text ≡ spots (full []) 0 text
@@ -25,20 +26,14 @@ same_spots text bytes = from_index text bytes (length text) 0 (omega arith) ∙ 
 
 judges : (text : List ℕ) (lent : List ℤ) (xs : List Spot) (o : Outcome Rule) → Tells text (pos 0 ∷ []) o xs (ran text (pos 0 ∷ [])) → Tells text lent o xs (ran text lent)
     → judged text lent (ran text (pos 0 ∷ [])).ran (ran text lent) ≡ answered (told text xs o) lent
-unfolding Tells judged answered told refusal ruled rule_ran rule_words stopped Code.told
-judges text lent xs (done (rule u m p)) a b =
-    ap (λ x. cond (ltb 0 x.ran.cause) (Code.told (refusal text x.ran.cause x.ran.at) lent) (Code.told (ruled (ran text lent).ran) (ran text lent).words)) a
-    ∙ ap (λ x. Code.told (ruled x.ran) x.words) b
-judges text lent xs (refused c q) a b =
-    let e : (ran text (pos 0 ∷ [])).ran.cause ≡ cause_of c = a.0 in
-    ap (λ x. cond x (Code.told (refusal text (ran text (pos 0 ∷ [])).ran.cause (ran text (pos 0 ∷ [])).ran.at) lent) (Code.told (ruled (ran text lent).ran) (ran text lent).words))
-    (lt-ltb 0 (ran text (pos 0 ∷ [])).ran.cause (let z = some_cause c in omega arith))
-    ∙ ap (λ x. Code.told (refusal text x (ran text (pos 0 ∷ [])).ran.at) lent) e ∙ ap (λ x. Code.told (refusal text (cause_of c) x) lent) a.1
+unfolding Tells judged answered told unreadable rule_parts rule_words stopped Code.told
+judges text lent xs (done (rule u m p)) a b = ap (λ x. judged text lent x.ran (ran text lent)) a ∙ ap (λ x. Code.told (Ok (rule_parts (rule u m p))) x.words) b
+judges text lent xs (refused c q) a b = ap (λ x. judged text lent x (ran text lent)) a.0
 
 reads_lem : (text : List ℕ) (lent : List ℤ) → length text ≤ 16384 → Bytes text → reading text lent ≡ answered (read_text text) lent
 unfolding reading read_text from_text from_spots
 reads_lem text lent h bytes =
-    ap (λ b. cond b (Code.told (record { cause = 10; line = 0; column = 0; matcher = 0; pattern = 0; end = 0 }) lent) (judged text lent (ran text (pos 0 ∷ [])).ran (ran text lent))) (le-ltb 16384 (length text) h)
+    ap (λ b. cond b (Code.told (Err TooLong) lent) (judged text lent (ran text (pos 0 ∷ [])).ran (ran text lent))) (le-ltb 16384 (length text) h)
     ∙ judges text lent (spots (full []) 0 text) (run_all begins (resolve [] (bare (spots (full []) 0 text)))) (reads_all text (pos 0 ∷ []) bytes h) (reads_all text lent bytes h)
     ∙ ap (λ o. answered (told text (spots (full []) 0 text) o) lent) (sym (rule_all (resolve [] (bare (spots (full []) 0 text)))))
     ∙ ap (λ xs. answered (told text xs (the_rule (resolve [] (bare xs)))) lent) (sym (same_spots text bytes))

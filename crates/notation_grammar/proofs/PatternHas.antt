@@ -13,7 +13,8 @@ use Rattle.forms.specs.Written.{pattern_words}
 use Rattle.notation_rules.specs.Tokens.{misplaced, consing, joining, anding, oring, Mark, comma, closing, underscore, hash, bang, plus, minus, opening, left, right, anything, integers, list_of, multiset_of, matching, by, with', code, look, blame}
 use Rattle.notation_rules.specs.Patterns as P
 use Rattle.notation_rules.specs.Patterns.{want, ◌on◌, have}
-use Rattle.notation_step.specs.Stepped.{View, view, bits_of, taking, action_of, action_at, row_of, reach_of, settled, refused, headed_of, crowded_by, stepped}
+use Rattle.notation_step.specs.Stepped.{View, view, bits_of, taking, action_of, action_at, row_of, reach_of, settled, refused, bare_by, crowded_by, stepped}
+use Rattle.notation_step.specs.declared.Waiting.{Waiting}
 use Rattle.notation_same.specs.Chars.{token_of}
 use Rattle.notation_grammar.specs.Over.{over}
 use Rattle.notation_grammar.specs.Waits.{Wait, wait, under, Held}
@@ -38,7 +39,7 @@ any_action k a (wait i n ws ∷ gs) e f = go (eqb i 0) (eqb i 8) (eqb n 0)
     go false true false = e
     go false false z = e
 
-module _ (lent : List ℤ) (n : ℕ) (more : n < 16384) (stack : List ℕ) (size : length stack ≡ 49152) (number : ℕ) (u : Option Value) (m : Matcher) where
+module _ (lent : List ℤ) (n : ℕ) (more : n < 16384) (stack : List Waiting) (size : length stack ≡ 16384) (number : ℕ) (u : Option Value) (m : Matcher) where
   abbrev acted : (start : ℕ) → List P.Frame → Pattern → (a : ℕ) → View
   acted start fs p a = taking stack (over (under (both_words u m) (all pattern_wait fs) ++ pattern_words p) lent) (stood n stack u m fs p start) a number
 
@@ -97,11 +98,11 @@ module _ (lent : List ℤ) (n : ℕ) (more : n < 16384) (stack : List ℕ) (size
 
     close : (qs : List Pattern) (fs : List P.Frame) → suc (length (all pattern_wait fs)) ≤ n → Held n stack (both_words u m) (all pattern_wait (P.opened qs ∷ fs))
         → AtPattern lent (suc n) u m 20 fs (pattern_words (P.grouped qs p)) true (acted start (P.opened qs ∷ fs) p 2211)
-    unfolding taking headed_of all pattern_wait pattern_words Held listed P.grouped
+    unfolding taking bare_by all pattern_wait pattern_words Held listed P.grouped
     close [] fs d h = C.closes lent n more stack size (both_words u m) (length (units_words u)) (length (both_words u m)) 20 0 0 [] (all pattern_wait fs) d h start (pattern_words p) 2211 1
     close (q ∷ qs) fs d h = let b = h.3 in
         subst (λ w. AtPattern lent (suc n) u m 20 fs w true (acted start (P.opened (q ∷ qs) ∷ fs) p 2211))
-        (ap (λ t. C.head_by (eqb (cond t 0 1) 0) 7 (bits_of 0 (suc (length qs) + 1)) ((listed pattern_words qs ++ pattern_words q) ++ pattern_words p)) (ne_eqb (suc (length qs)) 0 (λ e. absurd (omega arith)))
+        (ap (λ t. C.head_by t 7 (bits_of 0 (suc (length qs) + 1)) ((listed pattern_words qs ++ pattern_words q) ++ pattern_words p)) (ne_eqb (suc (length qs)) 0 (λ e. absurd (omega arith)))
         ∙ patterns_closed 7 (q ∷ qs) p (omega arith))
         (C.closes lent n more stack size (both_words u m) (length (units_words u)) (length (both_words u m)) 20 0 (suc (length qs)) (listed pattern_words (q ∷ qs)) (all pattern_wait fs) d h start (pattern_words p) 2211 1)
 

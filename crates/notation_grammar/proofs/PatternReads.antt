@@ -13,6 +13,7 @@ use Rattle.notation_rules.specs.Patterns as P
 use Rattle.notation_rules.specs.Patterns.{want, ◌on◌, have}
 use Rattle.notation_step.specs.Stepped.{settled}
 use Rattle.notation_step.specs.declared.Stand.{Stand}
+use Rattle.notation_step.specs.declared.Waiting.{Waiting}
 use Rattle.notation_grammar.specs.Waits.{wait, under, Held}
 use Rattle.notation_grammar.specs.Acts.{standing}
 use Rattle.notation_grammar.specs.Closes as C
@@ -61,7 +62,7 @@ built joining p q = refl
 built anding p q = refl
 built oring p q = refl
 
-module _ (n : ℕ) (stack : List ℕ) (u : Option Value) (m : Matcher) where
+module _ (n : ℕ) (stack : List Waiting) (u : Option Value) (m : Matcher) where
   abbrev pub stood : (fs : List P.Frame) (p : Pattern) (start : ℕ) → Stand
   stood fs p start = standing 20 (length (units_words u)) (length (both_words u m)) (both_words u m) (all pattern_wait fs) (pattern_words p) start
 

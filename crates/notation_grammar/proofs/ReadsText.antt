@@ -1,9 +1,9 @@
 -- The code's run over a text is the notation's reading of its tokens.
 use Prim.Native.Nat.{ℕ, zero, suc, ◌+◌, ◌-◌, ◌≤◌, ◌<◌}
 use native.Mathlib.Omega.{arith}
-use Rattle.std.specs.Prelude.{◌≡◌, Bool, drop, ltb, ℤ, pos}
+use Rattle.std.specs.Prelude.{◌≡◌, Bool, drop, ltb, ℤ, pos, Ok, Err}
 use Rattle.std.proofs.Math.Path.{refl, sym, ap, subst}
-use Rattle.std.proofs.Common.{◌∙◌, eq-eqb, ne_eqb, le-ltb, lt-ltb, drop_of_length-le}
+use Rattle.std.proofs.Common.{◌∙◌, eq-eqb, ne_eqb, drop_of_length-le}
 use Rattle.std.proofs.Math.Bool.{true, false, cond}
 use Rattle.std.proofs.Math.Option.{Option, none, some}
 use mathlib.Core.List.{List, [], ◌∷◌, ◌++◌}
@@ -17,9 +17,13 @@ use Rattle.notation_rules.specs.Places.{Spot, ◌from◌, put, spots, bare, left
 use Rattle.notation_rules.specs.Rules.{Rule, rule}
 use Rattle.notation_scan.specs.Scanned.{scanned}
 use Rattle.notation_scan.specs.declared.Token.{Token as Token'}
-use Rattle.notation_step.specs.Stepped.{View, view}
-use Rattle.notation_read.specs.Read.{resolved, Names, names, ran_to, Stopped, stopped, ended, going, taken, added, ran_from, first, ran}
-use Rattle.notation_read.specs.declared.Ran.{Ran}
+use Rattle.notation_step.specs.Stepped.{nothing, View, view}
+use Rattle.notation_step.specs.declared.Waiting.{Waiting}
+use Rattle.notation_read.specs.Read.{nowhere, no_names, resolved, ran_to, Stopped, stopped, ended, going, taken, added, ran_from, first, ran}
+use Rattle.notation_read.specs.declared.Span.{Span}
+use Rattle.notation_read.specs.declared.Names.{Names}
+use Rattle.notation_read.specs.declared.Parts.{Parts}
+use Rattle.notation_read.specs.declared.Fault.{Fault}
 use Rattle.notation_same.specs.Scans.{Bytes, raw_of, spotted}
 use Rattle.notation_same.proofs.Scans.{from_index}
 use Rattle.notation_grammar.specs.Over.{over}
@@ -80,47 +84,60 @@ unfoldable pub rule_words : Rule → List ℤ
 unfolding both_words pattern_words
 rule_words (rule u m p) = both_words u m ++ pattern_words p
 
-unfoldable pub rule_ran : List ℕ → Rule → Ran
+unfoldable pub rule_parts : Rule → Parts
 unfolding units_words both_words pattern_words
-rule_ran text (rule u m p) = record { cause = 0; at = length text; matcher = length (units_words u); pattern = length (both_words u m); end = length (both_words u m ++ pattern_words p) }
+rule_parts (rule u m p) = record { matcher = length (units_words u); pattern = length (both_words u m); end = length (both_words u m ++ pattern_words p) }
+
+abbrev pub fault_of : (cause at : ℕ) → Fault
+fault_of c at = record { cause = c; at = at }
 
 module _ (text : List ℕ) (lent : List ℤ) where
   unfoldable pub Tells : Outcome Rule → List Spot → Stopped → Type 0
-  unfolding rule_words rule_ran cause_of over left stopped
-  Tells (done r) xs s = s ≡ stopped (rule_ran text r) (over (rule_words r) lent)
-  Tells (refused c q) xs s = (s.ran.cause ≡ cause_of c) × (s.ran.at ≡ length text - left q xs) × (q ≤ length xs)
+  unfolding rule_words rule_parts cause_of over left stopped
+  Tells (done r) xs s = s ≡ stopped (Ok (rule_parts r)) (over (rule_words r) lent)
+  Tells (refused c q) xs s = (s.ran ≡ Err (fault_of (cause_of c) (length text - left q xs))) × (q ≤ length xs)
 
   -- The text ends.
   ends_here : (n : ℕ) (o : Outcome Rule) (v : View) → Finished lent n o v → Tells o [] (ended text v)
-  unfolding Finished Tells ended ran_to rule_words rule_ran stopped left
+  unfolding Finished Tells ended ran_to rule_words rule_parts stopped left
   ends_here n (done (rule u m p)) v f =
-      ap (λ x. stopped (record { cause = x; at = length text; matcher = v.stand.matcher; pattern = v.stand.pattern; end = v.stand.len }) v.words) f.0
-      ∙ ap (λ x. stopped (record { cause = 0; at = length text; matcher = x; pattern = v.stand.pattern; end = v.stand.len }) v.words) f.1
-      ∙ ap (λ x. stopped (record { cause = 0; at = length text; matcher = length (units_words u); pattern = x; end = v.stand.len }) v.words) f.2
-      ∙ ap (λ x. stopped (record { cause = 0; at = length text; matcher = length (units_words u); pattern = length (both_words u m); end = x }) v.words) f.3
-      ∙ ap (λ x. stopped (record { cause = 0; at = length text; matcher = length (units_words u); pattern = length (both_words u m); end = length (both_words u m ++ pattern_words p) }) x) f.4
-  ends_here n (refused c r) v f = let z = f.1 in (f.0, omega arith, omega arith)
+      ap (λ x. stopped (cond (eqb x 0) (Ok (record { matcher = v.stand.matcher; pattern = v.stand.pattern; end = v.stand.len })) (Err (fault_of x (length text)))) v.words) f.0
+      ∙ ap (λ x. stopped (Ok (record { matcher = x; pattern = v.stand.pattern; end = v.stand.len })) v.words) f.1
+      ∙ ap (λ x. stopped (Ok (record { matcher = length (units_words u); pattern = x; end = v.stand.len })) v.words) f.2
+      ∙ ap (λ x. stopped (Ok (record { matcher = length (units_words u); pattern = length (both_words u m); end = x })) v.words) f.3
+      ∙ ap (λ x. stopped (Ok (record { matcher = length (units_words u); pattern = length (both_words u m); end = length (both_words u m ++ pattern_words p) })) x) f.4
+  ends_here n (refused c r) v f =
+      let z = f.1 in
+      let parts : Parts = record { matcher = v.stand.matcher; pattern = v.stand.pattern; end = v.stand.len } in (
+        ap (λ x. cond (eqb x 0) (Ok parts) (Err (fault_of x (length text)))) f.0
+            ∙ ap (λ b. cond b (Ok parts) (Err (fault_of (cause_of c) (length text)))) (ne_eqb (cause_of c) 0 (λ e. let l = some_cause c in absurd (omega arith)))
+            ∙ ap (λ x. Err (fault_of (cause_of c) x)) (let l : length text ≡ length text - 0 = omega arith in l),
+        omega arith,
+      )
 
   -- A token that is passed over changes no place behind it.
   further : (o : Outcome Rule) (t : Raw) (f : ℕ) (xs : List Spot) (s : Stopped) → Tells o xs s → Tells o (t from f ∷ xs) s
   unfolding Tells left
   further (done r) t f xs s h = h
-  further (refused c q) t f xs s h = let b = h.2 in
-      (h.0, h.1 ∙ ap (λ x. length text - elim x as (λ _. ℕ) [ true ↦ f | false ↦ left q xs ]) (sym (ne_eqb q (suc (length xs)) (λ e. absurd (omega arith)))), omega arith)
+  further (refused c q) t f xs s h = let b = h.1 in (
+    h.0 ∙ ap (λ x. Err (fault_of (cause_of c) (length text - elim x as (λ _. ℕ) [ true ↦ f | false ↦ left q xs ]))) (sym (ne_eqb q (suc (length xs)) (λ e. absurd (omega arith)))),
+    omega arith,
+  )
 
   -- A token is taken up.
   passes : (n : ℕ) (t : Token') (f : ℕ) (raw : Raw) (xs : List Spot) (ts : List Token) (ns : Names) (k : Names → View → Stopped) (o : Next) (w : View) → length ts ≡ length xs → t.from ≤ length text
       → f ≡ length text - t.from → Follows lent n o w → ((y : Mode) → Stands lent n y w → Tells (run_all y ts) xs (k ns w))
       → Tells (elim o as (λ _. Outcome Rule) [ goes y ↦ run_all y ts | stops c ↦ refused c (suc (length ts)) ]) (raw from f ∷ xs) (going k t ns w)
-  unfolding Follows Tells going ran_to stopped left
+  unfolding Follows Tells going stopped left
   passes n t f raw xs ts ns k (goes y) w l h e a i =
-      subst (Tells (run_all y ts) (raw from f ∷ xs)) (sym (ap (λ b. cond b (stopped (ran_to w.stand w.stand.cause t.from) w.words) (k ns w)) (le-ltb 0 w.stand.cause (let z = no_cause lent n y w a in omega arith))))
+      subst (Tells (run_all y ts) (raw from f ∷ xs)) (sym (ap (λ b. cond b (k ns w) (stopped (Err (fault_of w.stand.cause t.from)) w.words)) (eq-eqb w.stand.cause 0 (no_cause lent n y w a))))
       (further (run_all y ts) raw f xs (k ns w) (i y a))
   passes n t f raw xs ts ns k (stops c) w l h e a i =
       subst (Tells (refused c (suc (length ts))) (raw from f ∷ xs))
-      (sym (ap (λ b. cond b (stopped (ran_to w.stand w.stand.cause t.from) w.words) (k ns w)) (lt-ltb 0 w.stand.cause (let z = some_cause c in omega arith)))) (
-        a,
-        sym (ap (λ b. length text - elim b as (λ _. ℕ) [ true ↦ f | false ↦ left (suc (length ts)) xs ]) (eq-eqb (suc (length ts)) (suc (length xs)) (ap suc l)) ∙ (let z : length text - f ≡ t.from = omega arith in z)),
+      (sym (ap (λ b. cond b (k ns w) (stopped (Err (fault_of w.stand.cause t.from)) w.words)) (ne_eqb w.stand.cause 0 (λ z. let x = some_cause c in absurd (omega arith))))) (
+        ap (λ x. Err (fault_of x t.from)) a
+            ∙ ap (λ x. Err (fault_of (cause_of c) x))
+            (sym (ap (λ b. length text - elim b as (λ _. ℕ) [ true ↦ f | false ↦ left (suc (length ts)) xs ]) (eq-eqb (suc (length ts)) (suc (length xs)) (ap suc l)) ∙ (let z : length text - f ≡ t.from = omega arith in z))),
         omega arith,
       )
 
@@ -149,7 +166,7 @@ module _ (text : List ℕ) (lent : List ℤ) where
             let a = in_text text at h in
             let r = resolves text bytes ns g t a.0 e (goes_on_lem text at h e).1 in
             let xs : List Spot = spots (full []) 0 (drop t.to text) in
-            let k = resolved text t ns.froms ns.tos ns.count in
+            let k = resolved text t ns in
             subst (λ rs. Tells (run_all x rs) (raw_of text t from (length text - t.from) ∷ xs) (going (ran_from text more t.to) t (added text t ns) (taken text t ns v))) (sym r.is)
             (passes (suc n) t (length text - t.from) (raw_of text t) xs (resolve (names_in text (added text t ns)) (bare xs)) (added text t ns) (ran_from text more t.to) (step_of x (tok k.kind k.value)) (taken text t ns v)
             (resolve_length (bare xs) (names_in text (added text t ns)) ∙ bare_length xs) a.1 refl (simulates lent n (omega arith) k.kind k.value r.kind r.real r.small x v s)
@@ -157,8 +174,8 @@ module _ (text : List ℕ) (lent : List ℤ) where
 
   -- From the beginning.
   pub reads_all : Bytes text → length text ≤ 16384 → Tells (run_all begins (resolve [] (bare (spots (full []) 0 text)))) (spots (full []) 0 text) (ran text lent)
-  unfolding ran first names view names_of Stands all under Held over
+  unfolding ran first no_names view names_of Stands all under Held over
   reads_all bytes h =
-      reads bytes (length text) 0 0 (names (replicate 16 0) (replicate 16 0) 0) (view first (replicate 49152 0) lent) begins (omega arith) (omega arith) (omega arith)
-      (record { froms = length-replicate {A = ℕ} 16 0; tos = length-replicate {A = ℕ} 16 0; few = omega arith })
-      (record { stack = replicate 49152 0; start = 0; same = refl; size = length-replicate {A = ℕ} 49152 0; deep = omega arith; held = tt; starts = λ x. absurd x })
+      reads bytes (length text) 0 0 no_names (view first (replicate 16384 nothing) lent) begins (omega arith) (omega arith) (omega arith)
+      (record { spans = length-replicate {A = Span} 16 nowhere; few = omega arith })
+      (record { stack = replicate 16384 nothing; start = 0; same = refl; size = length-replicate {A = Waiting} 16384 nothing; deep = omega arith; held = tt; starts = λ x. absurd x })

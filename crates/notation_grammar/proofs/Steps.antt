@@ -6,6 +6,7 @@ use Rattle.std.proofs.Math.Bool.{cond}
 use Rattle.notation_rules.specs.Tokens.{Cause, unknown_sign, misplaced, cut_short, bracket_open, unknown_name, bound_twice, used_before, out_of_range, over_limit, wrong}
 use Rattle.notation_step.specs.Stepped.{view, stepped, taking, action_at, reach_of, settled, refused}
 use Rattle.notation_step.specs.declared.Stand.{Stand}
+use Rattle.notation_step.specs.declared.Waiting.{Waiting}
 use Rattle.notation_same.specs.Chars.{token_of, All, pick}
 use Rattle.notation_grammar.specs.One.{Mode, step_of}
 use Rattle.notation_grammar.specs.Shapes.{cause_of, Follows}
@@ -34,7 +35,7 @@ causes k value = (
   ),
 )
 
-pub from_wrong : (ws₀ : List ℤ) (n : ℕ) (x : Mode) (stack : List ℕ) (ws : List ℤ) (s : Stand) (k value : ℕ) → 25 ≤ k → k < 34 → Follows ws₀ n (step_of x (tok k value)) (stepped stack ws s k value)
+pub from_wrong : (ws₀ : List ℤ) (n : ℕ) (x : Mode) (stack : List Waiting) (ws : List ℤ) (s : Stand) (k value : ℕ) → 25 ≤ k → k < 34 → Follows ws₀ n (step_of x (tok k value)) (stepped stack ws s k value)
 unfolding stepped refused view Follows
 from_wrong ws₀ n x stack ws s k value l h =
     let t = pick (λ j. (c : Cause) × tok j value ≡ wrong c × j - 24 ≡ cause_of c) 9 25 k (causes k value) l h in

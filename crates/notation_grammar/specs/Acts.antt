@@ -11,6 +11,7 @@ use mir.Syntax.{w32}
 use mir.Val.{to_z}
 use Rattle.notation_step.specs.Stepped.{inserted, Puts, puts, putting_some, bits_of, Pile, piled, pushed, start_of, View, view, next_place, tag_bits, mode_bits, tag_word, appended, signing}
 use Rattle.notation_step.specs.declared.Stand.{Stand}
+use Rattle.notation_step.specs.declared.Waiting.{Waiting}
 use Rattle.notation_grammar.specs.Over.{over, put_between, put_behind, nothing_behind}
 use Rattle.notation_grammar.specs.Waits.{Wait, wait, under, Held, held_more, held_taller, taller, taller_size}
 
@@ -24,17 +25,17 @@ standing place m p base gs item start = stood place m p (length gs) start (under
 
 -- A view of the code: at a place, over the words before, with what waits and with the words of what was read last, whose start is known where there is one.
 pub record At (is : List ℤ) (n place m p : ℕ) (base : List ℤ) (gs : List Wait) (item : List ℤ) (begun : Bool) (v : View) : Type 0 where
-  pub stack : List ℕ
+  pub stack : List Waiting
   pub start : ℕ
   pub same : v ≡ view (standing place m p base gs item start) stack (over (under base gs ++ item) is)
-  pub size : length stack ≡ 49152
+  pub size : length stack ≡ 16384
   pub deep : length gs ≤ n
   pub held : Held n stack base gs
   pub starts : T begun → start ≡ length (under base gs)
 
 module _ (is : List ℤ) (m p : ℕ) where
   -- From the words themselves.
-  pub at : {n : ℕ} (place start : ℕ) (stack : List ℕ) (c base : List ℤ) (gs : List Wait) (item : List ℤ) (b : Bool) → c ≡ under base gs ++ item → length stack ≡ 49152 → length gs ≤ n
+  pub at : {n : ℕ} (place start : ℕ) (stack : List Waiting) (c base : List ℤ) (gs : List Wait) (item : List ℤ) (b : Bool) → c ≡ under base gs ++ item → length stack ≡ 16384 → length gs ≤ n
       → Held n stack base gs → (T b → start ≡ length (under base gs)) → At is n place m p base gs item b (view (stood place m p (length gs) start c) stack (over c is))
   at place start stack c base gs item b e s d h t =
       record { stack = stack; start = start; same = ap (λ x. view (stood place m p (length gs) start x) stack (over x is)) e; size = s; deep = d; held = h; starts = t }
@@ -57,7 +58,7 @@ unfoldable pub new : (a value : ℕ) → List ℤ
 unfolding bits_of
 new a value = one (tag_bits a) (tag_word a) ++ (one (mode_bits a) (bits_of (mode_bits a) value) ++ one (a / 16384 % 2) 0)
 
-module _ (stack : List ℕ) (c is : List ℤ) (place m p top start a value : ℕ) where
+module _ (stack : List Waiting) (c is : List ℤ) (place m p top start a value : ℕ) where
   appended_is : appended stack (over c is) (stood place m p top start c) a value
       ≡ (let q : Pile = pushed stack top (a / 32768 % 16) (length c) in view (stood (next_place a) m p q.top (start_of (stood place m p top start c) (tag_bits a)) (c ++ new a value)) q.stack (over (c ++ new a value) is))
   unfolding appended view new puts
@@ -77,7 +78,7 @@ abbrev pub tight : ℕ → ℕ
 tight some = (some % 16 + 15) % 16
 
 -- ---- The acts, from a view with the start s of what was read last.
-module _ (is : List ℤ) (n : ℕ) (more : n < 16384) (stack : List ℕ) (size : length stack ≡ 49152) (base : List ℤ) (m p place : ℕ) where
+module _ (is : List ℤ) (n : ℕ) (more : n < 16384) (stack : List Waiting) (size : length stack ≡ 16384) (base : List ℤ) (m p place : ℕ) where
   module _ (gs : List Wait) (deep : length gs ≤ n) (held : Held n stack base gs) where
     kept : Held (suc n) stack base gs
     kept = held_more n (suc n) stack base gs (omega arith) held

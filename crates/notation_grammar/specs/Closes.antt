@@ -9,20 +9,21 @@ use Rattle.std.proofs.Math.Bool.{true, false}
 use mathlib.Core.List.{List, [], ◌∷◌, ◌++◌, append_assoc}
 use Rattle.std.proofs.Math.IntN.{ℤ}
 use Rattle.std.specs.Int.{w32}
-use Rattle.notation_step.specs.Stepped.{inserted, puts, heading, bits_of, entry_at, put_at, headed_of, view, next_place, tag_word, closing, comma_stand, comma_stack, crowded, crowded_by, placed, settling, settled, shade_of, refused}
+use Rattle.notation_step.specs.Stepped.{inserted, puts, heading, bits_of, waiting_at, put_at, bare_by, view, next_place, tag_word, closing, comma_stand, comma_stack, crowded, crowded_by, placed, settling, settled, shade_of, refused}
 use Rattle.notation_step.specs.declared.Stand.{Stand}
+use Rattle.notation_step.specs.declared.Waiting.{Waiting}
 use Rattle.notation_grammar.specs.Over.{over, put_between, nothing_behind}
-use Rattle.notation_grammar.specs.Waits.{Wait, wait, under, Held, held_more, held_counted, put_size}
+use Rattle.notation_grammar.specs.Waits.{Wait, wait, under, Held, held_more, held_counted, put_size, waiting}
 use Rattle.notation_grammar.specs.Acts.{standing, At, at}
 
 -- A tag and a number before words, where there are any.
 abbrev pub head_by : Bool → (tag parts : ℕ) → List ℤ → List ℤ
 head_by none tag parts ws = cond none ws (to_z w32 tag ∷ (to_z w32 parts ∷ ws))
 
-head_is : (a b is : List ℤ) (some tag parts : ℕ) → heading (over (a ++ b) is) (length (a ++ b)) (length a) some tag parts
-    ≡ puts (over (a ++ head_by (eqb some 0) tag parts b) is) (length (a ++ head_by (eqb some 0) tag parts b))
+head_is : (a b is : List ℤ) (bare : Bool) (tag parts : ℕ) → heading (over (a ++ b) is) (length (a ++ b)) (length a) bare tag parts
+    ≡ puts (over (a ++ head_by bare tag parts b) is) (length (a ++ head_by bare tag parts b))
 unfolding heading
-head_is a b is some tag parts = go (eqb some 0)
+head_is a b is bare tag parts = go bare
   where
     one : length (a ++ b) + 1 ≡ length (a ++ (to_z w32 parts ∷ b))
     one = omega (arith, length-append a b, length-append a (to_z w32 parts ∷ b))
@@ -42,7 +43,7 @@ head_is a b is some tag parts = go (eqb some 0)
 pub one_less : (k : ℕ) → suc k - 1 ≡ k
 one_less k = omega arith
 
-module _ (is : List ℤ) (n : ℕ) (more : n < 16384) (stack : List ℕ) (size : length stack ≡ 49152) (base : List ℤ) (m p place : ℕ) (k c : ℕ) (ws : List ℤ) (gs : List Wait) (deep : suc (length gs) ≤ n)
+module _ (is : List ℤ) (n : ℕ) (more : n < 16384) (stack : List Waiting) (size : length stack ≡ 16384) (base : List ℤ) (m p place : ℕ) (k c : ℕ) (ws : List ℤ) (gs : List Wait) (deep : suc (length gs) ≤ n)
     (held : Held n stack base (wait k c ws ∷ gs)) (start : ℕ) (item : List ℤ) where
   few : c % 1048576 ≡ c
   unfolding Held
@@ -50,17 +51,17 @@ module _ (is : List ℤ) (n : ℕ) (more : n < 16384) (stack : List ℕ) (size :
 
   -- The last is closed, with so many parts more.
   pub closes : (a extra : ℕ)
-      → At is (suc n) (next_place a) m p base gs (head_by (eqb (headed_of k c) 0) (tag_word a) (bits_of 0 (c + extra)) (ws ++ item)) true
+      → At is (suc n) (next_place a) m p base gs (head_by (bare_by k c) (tag_word a) (bits_of 0 (c + extra)) (ws ++ item)) true
       (closing stack (over (under base (wait k c ws ∷ gs) ++ item) is) (standing place m p base (wait k c ws ∷ gs) item start) a extra)
   unfolding closing view under Held puts
   closes a extra =
       let u : List ℤ = under base gs in
-      let h : ℕ = headed_of k c in
+      let h : Bool = bare_by k c in
       let b : ℕ = bits_of 0 (c + extra) in
-      let w : List ℤ = u ++ head_by (eqb h 0) (tag_word a) b (ws ++ item) in
-      subst (At is (suc n) (next_place a) m p base gs (head_by (eqb h 0) (tag_word a) b (ws ++ item)) true)
+      let w : List ℤ = u ++ head_by h (tag_word a) b (ws ++ item) in
+      subst (At is (suc n) (next_place a) m p base gs (head_by h (tag_word a) b (ws ++ item)) true)
       (sym (rw (one_less (length gs), held.0, held.1, held.2, few, append_assoc u ws item, head_is u (ws ++ item) is h (tag_word a) b) refl))
-      (at is m p (next_place a) (length u) stack w base gs (head_by (eqb h 0) (tag_word a) b (ws ++ item)) true refl size (omega arith) (held_more n (suc n) stack base gs (omega arith) held.4) (λ x. refl))
+      (at is m p (next_place a) (length u) stack w base gs (head_by h (tag_word a) b (ws ++ item)) true refl size (omega arith) (held_more n (suc n) stack base gs (omega arith) held.4) (λ x. refl))
 
   -- A part more of the last is read.
   is_crowded : crowded stack (standing place m p base (wait k c ws ∷ gs) item start) ≡ crowded_by k c
@@ -73,10 +74,10 @@ module _ (is : List ℤ) (n : ℕ) (more : n < 16384) (stack : List ℕ) (size :
   unfolding comma_stand comma_stack under Held
   commas a e =
       subst (At is (suc n) (next_place a) m p base (wait k (suc c) (ws ++ item) ∷ gs) [] false)
-      (sym (rw (is_crowded, e, one_less (length gs), held.2, few, add-one c) refl))
-      (at is m p (next_place a) start (put_at stack 32768 (length gs) (suc c)) (under base gs ++ ws ++ item) base (wait k (suc c) (ws ++ item) ∷ gs) [] false
-      (append_assoc (under base gs) ws item ∙ sym (nothing_behind (under base gs ++ (ws ++ item)))) (put_size stack 32768 (length gs) (suc c) ∙ size) (omega arith)
-      (subst (λ x. Held (suc n) (put_at stack 32768 (length gs) x) base (wait k x (ws ++ item) ∷ gs)) (add-one c) (held_counted n stack base gs k c ws (ws ++ item) size (omega arith) held)) (λ x. absurd x))
+      (sym (rw (is_crowded, e, one_less (length gs), held.0, held.1, held.2, few, add-one c) refl))
+      (at is m p (next_place a) start (put_at stack (length gs) (waiting k (length (under base gs)) (suc c))) (under base gs ++ ws ++ item) base (wait k (suc c) (ws ++ item) ∷ gs) [] false
+      (append_assoc (under base gs) ws item ∙ sym (nothing_behind (under base gs ++ (ws ++ item)))) (put_size stack (length gs) (waiting k (length (under base gs)) (suc c)) ∙ size) (omega arith)
+      (subst (λ x. Held (suc n) (put_at stack (length gs) (waiting k (length (under base gs)) x)) base (wait k x (ws ++ item) ∷ gs)) (add-one c) (held_counted n stack base gs k c ws (ws ++ item) size (omega arith) held)) (λ x. absurd x))
 
   pub crowds : (a : ℕ) → crowded_by k c ≡ true → (comma_stand stack (standing place m p base (wait k c ws ∷ gs) item start) a).cause ≡ 9
   unfolding comma_stand refused
@@ -87,28 +88,28 @@ unfoldable pub shade_by : List Wait → ℕ
 shade_by [] = 0
 shade_by (wait k c ws ∷ gs) = cond (eqb k 0) 1 (cond (eqb k 8) (cond (eqb c 0) 3 2) 0)
 
-pub shade_is : (n : ℕ) (stack : List ℕ) (base : List ℤ) (gs : List Wait) → Held n stack base gs → shade_of stack (length gs) ≡ shade_by gs
+pub shade_is : (n : ℕ) (stack : List Waiting) (base : List ℤ) (gs : List Wait) → Held n stack base gs → shade_of stack (length gs) ≡ shade_by gs
 unfolding shade_of shade_by Held
 shade_is n stack base [] h = refl
 shade_is n stack base (wait k c ws ∷ gs) h = rw (ne_eqb (suc (length gs)) 0 (λ e. absurd (omega arith)), one_less (length gs), h.0, h.2)
 
 -- ---- What is tighter ends.
-settling_from : (stack : List ℕ) (place m p x y u v r top start len : ℕ)
+settling_from : (stack : List Waiting) (place m p x y u v r top start len : ℕ)
     → settling stack (record { place = place; top = x; len = len; start = y; matcher = m; pattern = p; cause = 0 }) r top start
     ≡ settling stack (record { place = place; top = u; len = len; start = v; matcher = m; pattern = p; cause = 0 }) r top start
 unfolding settling placed
 settling_from stack place m p x y u v r zero start len = refl
-settling_from stack place m p x y u v r (suc top) start len = go (leb (entry_at stack 0 top % 8) r) (settling_from stack place m p x y u v r top (entry_at stack 16384 top) len)
+settling_from stack place m p x y u v r (suc top) start len = go (leb ((waiting_at stack top).tight % 8) r) (settling_from stack place m p x y u v r top (waiting_at stack top).start len)
   where
     s : (top start : ℕ) → Stand
     s top start = record { place = place; top = top; len = len; start = start; matcher = m; pattern = p; cause = 0 }
 
-    go : (b : Bool) → settling stack (s x y) r top (entry_at stack 16384 top) ≡ settling stack (s u v) r top (entry_at stack 16384 top)
-        → cond b (placed (s x y) (suc top) start) (settling stack (s x y) r top (entry_at stack 16384 top)) ≡ cond b (placed (s u v) (suc top) start) (settling stack (s u v) r top (entry_at stack 16384 top))
+    go : (b : Bool) → settling stack (s x y) r top (waiting_at stack top).start ≡ settling stack (s u v) r top (waiting_at stack top).start
+        → cond b (placed (s x y) (suc top) start) (settling stack (s x y) r top (waiting_at stack top).start) ≡ cond b (placed (s u v) (suc top) start) (settling stack (s u v) r top (waiting_at stack top).start)
     go true e = refl
     go false e = e
 
-module _ (n : ℕ) (stack : List ℕ) (place m p : ℕ) (base : List ℤ) (start : ℕ) (item : List ℤ) where
+module _ (n : ℕ) (stack : List Waiting) (place m p : ℕ) (base : List ℤ) (start : ℕ) (item : List ℤ) where
   pub settles_all : (r : ℕ) → settled stack (standing place m p base [] item start) r ≡ standing place m p base [] item start
   unfolding settled settling placed
   settles_all r = refl

@@ -15,7 +15,8 @@ use Rattle.notation_rules.specs.Tokens.{misplaced, Mark, comma, closing, undersc
 use Rattle.notation_rules.specs.Matchers as M
 use Rattle.notation_rules.specs.Patterns.{want, ◌on◌}
 use Rattle.notation_rules.specs.Rules.{is_mark}
-use Rattle.notation_step.specs.Stepped.{View, view, bits_of, too_large, appending, taking, action_of, action_at, row_of, reach_of, settled, refused, headed_of, sectioned, crowded_by, stepped}
+use Rattle.notation_step.specs.Stepped.{View, view, bits_of, too_large, appending, taking, action_of, action_at, row_of, reach_of, settled, refused, bare_by, sectioned, crowded_by, stepped}
+use Rattle.notation_step.specs.declared.Waiting.{Waiting}
 use Rattle.notation_same.specs.Chars.{token_of}
 use Rattle.notation_grammar.specs.Over.{over}
 use Rattle.notation_grammar.specs.Waits.{under, Held}
@@ -32,7 +33,7 @@ data Open : List M.Frame → Type 0 where
   nothing : Open []
   one : (ks : List Matcher) (fs : List M.Frame) → Open (M.opened ks ∷ fs)
 
-module _ (lent : List ℤ) (n : ℕ) (more : n < 16384) (stack : List ℕ) (size : length stack ≡ 49152) (value : ℕ) (u : Option Value) where
+module _ (lent : List ℤ) (n : ℕ) (more : n < 16384) (stack : List Waiting) (size : length stack ≡ 16384) (value : ℕ) (u : Option Value) where
   abbrev acted : (place start : ℕ) → List M.Frame → List ℤ → (a : ℕ) → View
   acted place start fs item a =
       taking stack (over (under (units_words u) (all matcher_wait fs) ++ item) lent) (standing place 0 (length (units_words u)) (units_words u) (all matcher_wait fs) item start) a value
@@ -169,11 +170,11 @@ module _ (lent : List ℤ) (n : ℕ) (more : n < 16384) (stack : List ℕ) (size
 
     close : (ks : List Matcher) (fs : List M.Frame) → suc (length (all matcher_wait fs)) ≤ n → Held n stack (units_words u) (all matcher_wait (M.opened ks ∷ fs))
         → AtMatcher lent (suc n) u 9 fs (matcher_words (M.grouped ks m)) true (acted 9 start (M.opened ks ∷ fs) (matcher_words m) 1355)
-    unfolding taking headed_of all matcher_wait matcher_words Held listed M.grouped
+    unfolding taking bare_by all matcher_wait matcher_words Held listed M.grouped
     close [] fs d h = C.closes lent n more stack size (units_words u) 0 (length (units_words u)) 9 0 0 [] (all matcher_wait fs) d h start (matcher_words m) 1355 1
     close (i ∷ ks) fs d h = let b = h.3 in
         subst (λ w. AtMatcher lent (suc n) u 9 fs w true (acted 9 start (M.opened (i ∷ ks) ∷ fs) (matcher_words m) 1355))
-        (ap (λ t. C.head_by (eqb (cond t 0 1) 0) 4 (bits_of 0 (suc (length ks) + 1)) ((listed matcher_words ks ++ matcher_words i) ++ matcher_words m)) (ne_eqb (suc (length ks)) 0 (λ e. absurd (omega arith)))
+        (ap (λ t. C.head_by t 4 (bits_of 0 (suc (length ks) + 1)) ((listed matcher_words ks ++ matcher_words i) ++ matcher_words m)) (ne_eqb (suc (length ks)) 0 (λ e. absurd (omega arith)))
         ∙ matchers_closed 4 (i ∷ ks) m (omega arith))
         (C.closes lent n more stack size (units_words u) 0 (length (units_words u)) 9 0 (suc (length ks)) (listed matcher_words (i ∷ ks)) (all matcher_wait fs) d h start (matcher_words m) 1355 1)
 

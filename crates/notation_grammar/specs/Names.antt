@@ -1,7 +1,8 @@
 -- The names that the code finds are those that the notation finds, and its tokens with variables for names are the notation's.
 use Prim.Native.Nat.{ℕ, zero, suc, ◌+◌, ◌-◌, ◌≤◌, ◌<◌}
 use Rattle.std.proofs.Common.{arith, add-one, ◌∙◌, length-drop, drop_of_length-le, get_or-set_same, get_or-set_other}
-use Rattle.std.specs.Prelude.{◌≡◌, Bool, true, false, cond, ◌||◌, List, [], ◌∷◌, length, drop, eqb, ltb, ℤ, pos}
+use Rattle.std.specs.Prelude.{◌≡◌, Bool, true, false, cond, ◌||◌, List, [], ◌∷◌, length, drop, set, eqb, ltb, ℤ, pos, None, Some}
+use Rattle.std.specs.Prelude.{Option as Answer}
 use Rattle.std.proofs.Math.Path.{refl, ap}
 use Rattle.std.proofs.Math.Option.{Option, none, some}
 use borrow.Author.Tests.{lt-ltb}
@@ -15,35 +16,36 @@ use Rattle.notation_rules.specs.Places.{◌from◌, spots, bare}
 use Rattle.notation_scan.specs.Scanned.{whole_at, advanced, token, scan_from, nothing, scanned}
 use Rattle.notation_scan.specs.declared.Begun.{Begun as Code}
 use Rattle.notation_scan.specs.declared.Token.{Token}
-use Rattle.notation_read.specs.Read.{entry_of, put_of, name_of, found, bound_by, bound_later}
+use Rattle.notation_read.specs.Read.{nowhere, span_of, name_of, found, bound_by, bound_later}
+use Rattle.notation_read.specs.declared.Span.{Span}
 use Rattle.notation_same.specs.Chars.{token_of, All, pick}
 use Rattle.notation_grammar.specs.Ranges.{in_text}
 use Rattle.notation_same.specs.Scans.{Bytes, raw_of, spotted}
 use Rattle.notation_same.proofs.Scans.{from_index}
 
 -- The names of a table, the last one first.
-unfoldable pub names_of : List ℕ → (froms tos : List ℕ) → ℕ → List (List ℕ)
+unfoldable pub names_of : List ℕ → List Span → ℕ → List (List ℕ)
 unfolding name_of
-names_of text froms tos zero = []
-names_of text froms tos (suc k) = name_of text froms tos k ∷ names_of text froms tos k
+names_of text spans zero = []
+names_of text spans (suc k) = name_of text spans k ∷ names_of text spans k
 
-pub names_count : (text froms tos : List ℕ) (k : ℕ) → length (names_of text froms tos k) ≡ k
+pub names_count : (text : List ℕ) (spans : List Span) (k : ℕ) → length (names_of text spans k) ≡ k
 unfolding names_of
-names_count text froms tos zero = refl
-names_count text froms tos (suc k) = ap suc (names_count text froms tos k)
+names_count text spans zero = refl
+names_count text spans (suc k) = ap suc (names_count text spans k)
 
--- A number that is one more, or none.
-unfoldable pub less : ℕ → Option ℕ
-less zero = none
-less (suc k) = some k
+-- The library's option as that of the notation's definitions.
+unfoldable pub less : Answer ℕ → Option ℕ
+less None = none
+less (Some k) = some k
 
-pub found_same : (text froms tos w : List ℕ) (k : ℕ) → find w (names_of text froms tos k) ≡ less (found text froms tos k w)
+pub found_same : (text : List ℕ) (spans : List Span) (w : List ℕ) (k : ℕ) → find w (names_of text spans k) ≡ less (found text spans k w)
 unfolding find names_of found less
-found_same text froms tos w zero = refl
-found_same text froms tos w (suc k) = go (same_word (name_of text froms tos k) w) (names_count text froms tos k) (found_same text froms tos w k)
+found_same text spans w zero = refl
+found_same text spans w (suc k) = go (same_word (name_of text spans k) w) (names_count text spans k) (found_same text spans w k)
   where
-    go : (b : Bool) → length (names_of text froms tos k) ≡ k → find w (names_of text froms tos k) ≡ less (found text froms tos k w)
-        → ◌≡◌ {A = Option ℕ} (elim b as (λ _. Option ℕ) [ true ↦ some (length (names_of text froms tos k)) | false ↦ find w (names_of text froms tos k) ]) (less (cond b (suc k) (found text froms tos k w)))
+    go : (b : Bool) → length (names_of text spans k) ≡ k → find w (names_of text spans k) ≡ less (found text spans k w)
+        → ◌≡◌ {A = Option ℕ} (elim b as (λ _. Option ℕ) [ true ↦ some (length (names_of text spans k)) | false ↦ find w (names_of text spans k) ]) (less (cond b (Some k) (found text spans k w)))
     go true e i = ap some e
     go false e i = i
 
@@ -140,24 +142,23 @@ later_same text bytes w (suc left) at h l =
     go false e i = one_token text w (scanned text at) (bare (spots (full []) 0 (drop (scanned text at).to text))) (bound_later text w left (scanned text at).to) (in_text text at h).0 (i e)
 
 -- ---- One name more.
-module _ (table : List ℕ) (k x : ℕ) (l : length table ≡ 16) (h : k < 16) where
-  put_here : entry_of (put_of table k x) k ≡ x
-  unfolding entry_of put_of
-  put_here = rw (lt-ltb k 16 h) (get_or-set_same table k x 0 (omega arith))
+module _ (spans : List Span) (k : ℕ) (x : Span) (l : length spans ≡ 16) (h : k < 16) where
+  put_here : span_of (set spans k x) k ≡ x
+  unfolding span_of
+  put_here = rw (lt-ltb k 16 h) (get_or-set_same spans k x nowhere (omega arith))
 
-  put_there : (j : ℕ) → j < k → entry_of (put_of table k x) j ≡ entry_of table j
-  unfolding entry_of put_of
-  put_there j i = rw (lt-ltb k 16 h, lt-ltb j 16 (omega arith)) (get_or-set_other table k j x 0 (λ e. absurd (omega (arith, e))))
+  put_there : (j : ℕ) → j < k → span_of (set spans k x) j ≡ span_of spans j
+  unfolding span_of
+  put_there j i = rw (lt-ltb j 16 (omega arith)) (get_or-set_other spans k j x nowhere (λ e. absurd (omega (arith, e))))
 
-module _ (text froms tos : List ℕ) (k a e : ℕ) (f : length froms ≡ 16) (t : length tos ≡ 16) (h : k < 16) where
-  names_there : (j : ℕ) → j ≤ k → names_of text (put_of froms k a) (put_of tos k e) j ≡ names_of text froms tos j
+module _ (text : List ℕ) (spans : List Span) (k : ℕ) (x : Span) (l : length spans ≡ 16) (h : k < 16) where
+  names_there : (j : ℕ) → j ≤ k → names_of text (set spans k x) j ≡ names_of text spans j
   unfolding names_of name_of
   names_there zero i = refl
-  names_there (suc j) i = rw (put_there froms k a f h j (omega arith), put_there tos k e t h j (omega arith), names_there j (omega arith))
+  names_there (suc j) i = rw (put_there spans k x l h j (omega arith), names_there j (omega arith))
 
-  pub names_more : names_of text (put_of froms k a) (put_of tos k e) (k + 1) ≡ slice a e text ∷ names_of text froms tos k
+  pub names_more : names_of text (set spans k x) (k + 1) ≡ slice x.from x.to text ∷ names_of text spans k
   unfolding names_of name_of
   names_more =
-      ap (names_of text (put_of froms k a) (put_of tos k e)) (add-one k)
-      ∙ ap (λ x. slice x (entry_of (put_of tos k e) k) text ∷ names_of text (put_of froms k a) (put_of tos k e) k) (put_here froms k a f h)
-      ∙ ap (λ x. slice a x text ∷ names_of text (put_of froms k a) (put_of tos k e) k) (put_here tos k e t h) ∙ ap (λ x. slice a e text ∷ x) (names_there k (omega arith))
+      ap (names_of text (set spans k x)) (add-one k)
+      ∙ ap (λ y. slice y.from y.to text ∷ names_of text (set spans k x) k) (put_here spans k x l h) ∙ ap (λ y. slice x.from x.to text ∷ y) (names_there k (omega arith))

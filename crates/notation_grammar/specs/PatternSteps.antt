@@ -11,6 +11,7 @@ use Rattle.notation_rules.specs.Tokens.{code, look, minus', numeral, blame}
 use Rattle.notation_rules.specs.Patterns as P
 use Rattle.notation_rules.specs.Patterns.{want, bracket, hashed, negative, inner, named, signed, shutting, ◌on◌, have}
 use Rattle.notation_step.specs.Stepped.{View, view, puts, putting_some, pushed, piled, start_of, too_large, appended, appending, taking, action_of, row_of, reach_of, refused, stepped}
+use Rattle.notation_step.specs.declared.Waiting.{Waiting}
 use Rattle.notation_same.specs.Chars.{token_of}
 use Rattle.notation_grammar.specs.Over.{over}
 use Rattle.notation_grammar.specs.Waits.{under, Held}
@@ -21,7 +22,7 @@ use Rattle.notation_grammar.specs.Figures.{large_plain, large_minus, word_plain,
 use Rattle.notation_grammar.specs.Shapes.{cause_of, listed, all, pattern_wait, units_words, both_words, AtPattern, InPattern, Stands, Follows}
 use Rattle.notation_grammar.specs.Steps.{tok, Small, by_named, any_row, from_place, ranges}
 
-module _ (lent : List ℤ) (n : ℕ) (more : n < 16384) (stack : List ℕ) (size : length stack ≡ 49152) (number : ℕ) (u : Option Value) (m : Matcher) (fs : List P.Frame) (deep : length (all pattern_wait fs) ≤ n)
+module _ (lent : List ℤ) (n : ℕ) (more : n < 16384) (stack : List Waiting) (size : length stack ≡ 16384) (number : ℕ) (u : Option Value) (m : Matcher) (fs : List P.Frame) (deep : length (all pattern_wait fs) ≤ n)
     (held : Held n stack (both_words u m) (all pattern_wait fs)) (start : ℕ) where
   abbrev acted : (place : ℕ) → List ℤ → (a : ℕ) → View
   acted place item a =

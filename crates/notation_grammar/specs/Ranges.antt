@@ -1,5 +1,5 @@
 -- The scanner's tokens: of which kinds they are, and that they begin in the text.
-use Rattle.std.specs.Prelude.{ℕ, zero, suc, ◌+◌, ◌/◌, ◌%◌, ◌≤◌, ◌<◌, ◌≡◌, Bool, true, false, cond, ◌&&◌, List, [], ◌∷◌, length, get_or, drop, eqb, ltb, T}
+use Rattle.std.specs.Prelude.{ℕ, zero, suc, ◌+◌, ◌/◌, ◌%◌, ◌≤◌, ◌<◌, ◌≡◌, Bool, true, false, cond, ◌&&◌, is_some, unwrap_or, option_map, position, List, [], ◌∷◌, length, get_or, drop, eqb, ltb, T}
 use Rattle.std.proofs.Common.{arith, length-drop, ltb→lt}
 use Rattle.std.proofs.Math.Seq.{slice}
 use Rattle.notation_rules.specs.Tokens.{anything, integers, list_of, multiset_of, matching, by, with'}
@@ -33,8 +33,8 @@ either : (b : Bool) (x y : ℕ) → x < 34 → y < 34 → cond b x y < 34
 either true x y h i = h
 either false x y h i = i
 
--- The words of the notation, by their numbers.
-chain : (a b c d e f g : Bool) → cond a 10 (cond b 11 (cond c 12 (cond d 13 (cond e 14 (cond f 15 (cond g 16 0)))))) < 34
+-- The words of the notation, by their marks.
+chain : (a b c d e f g : Bool) → unwrap_or (option_map (λ k. 10 + k) (position (λ x. x) (a ∷ b ∷ c ∷ d ∷ e ∷ f ∷ g ∷ []))) 22 < 34
 chain true b c d e f g = omega arith
 chain false true c d e f g = omega arith
 chain false false true d e f g = omega arith
@@ -44,17 +44,13 @@ chain false false false false false true g = omega arith
 chain false false false false false false true = omega arith
 chain false false false false false false false = omega arith
 
-reserved_below : (w : List ℕ) → reserved_of w < 34
-unfolding reserved_of
-reserved_below w = chain (same_word (spell_mark anything) w) (same_word (spell_mark integers) w) (same_word (spell_mark list_of) w) (same_word (spell_mark multiset_of) w) (same_word (spell_mark matching) w) (same_word (spell_mark by) w) (same_word (spell_mark with') w)
-
 word_below : (w : List ℕ) → word_kind w < 34
-unfolding word_kind
-word_below w = either (eqb (reserved_of w) 0) 22 (reserved_of w) (omega arith) (reserved_below w)
+unfolding word_kind reserved_of
+word_below w = chain (same_word (spell_mark anything) w) (same_word (spell_mark integers) w) (same_word (spell_mark list_of) w) (same_word (spell_mark multiset_of) w) (same_word (spell_mark matching) w) (same_word (spell_mark by) w) (same_word (spell_mark with') w)
 
 name_below : (w : List ℕ) → name_kind w < 34
 unfolding name_kind
-name_below w = either (eqb (reserved_of w) 0) 21 25 (omega arith) (omega arith)
+name_below w = either (is_some (reserved_of w)) 25 21 (omega arith) (omega arith)
 
 finished_below : (text : List ℕ) (b : Code) (to : ℕ) → b.kind < 34 → finished text b to < 34
 unfolding finished final_of all_below

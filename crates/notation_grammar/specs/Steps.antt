@@ -12,6 +12,7 @@ use Rattle.notation_rules.specs.Matchers as M
 use Rattle.notation_rules.specs.Patterns as P
 use Rattle.notation_rules.specs.Patterns.{want, bracket, hashed, negative, inner, named, signed, shutting, ◌on◌, have}
 use Rattle.notation_step.specs.Stepped.{View, view, stepped, taking, action_of, action_at, row_of, reach_of, settled, refused, crowded_by}
+use Rattle.notation_step.specs.declared.Waiting.{Waiting}
 use Rattle.notation_same.specs.Chars.{token_of, All, pick}
 use Rattle.notation_grammar.specs.Waits.{Wait, wait, Held}
 use Rattle.notation_grammar.specs.Acts.{standing}
@@ -53,7 +54,7 @@ any_row place r (wait k n ws ∷ gs) a b c d = go (eqb k 0) (eqb k 8) (eqb n 0)
     go false true false = c
     go false false z = a
 
-module _ (n : ℕ) (stack : List ℕ) (ws : List ℤ) (base : List ℤ) (m p place : ℕ) (gs : List Wait) (held : Held n stack base gs) (start : ℕ) (item : List ℤ) where
+module _ (n : ℕ) (stack : List Waiting) (ws : List ℤ) (base : List ℤ) (m p place : ℕ) (gs : List Wait) (held : Held n stack base gs) (start : ℕ) (item : List ℤ) where
   -- From a place where nothing ends.
   pub from_place : (r k value : ℕ) → k < 24 → reach_of place k ≡ 9 → row_of place (shade_by gs) ≡ r
       → stepped stack ws (standing place m p base gs item start) k value ≡ taking stack ws (standing place m p base gs item start) (action_of r k) value

@@ -11,7 +11,8 @@ use Rattle.notation_rules.specs.Tokens.{misplaced, Mark, comma, closing, undersc
 use Rattle.notation_rules.specs.Targets as U
 use Rattle.notation_rules.specs.Matchers as M
 use Rattle.notation_rules.specs.Rules.{is_mark}
-use Rattle.notation_step.specs.Stepped.{View, view, puts, putting_some, pushed, piled, start_of, bits_of, too_large, appended, appending, taking, action_of, row_of, reach_of, refused, headed_of, sectioned, crowded_by, stepped}
+use Rattle.notation_step.specs.Stepped.{View, view, puts, putting_some, pushed, piled, start_of, bits_of, too_large, appended, appending, taking, action_of, row_of, reach_of, refused, bare_by, sectioned, crowded_by, stepped}
+use Rattle.notation_step.specs.declared.Waiting.{Waiting}
 use Rattle.notation_same.specs.Chars.{token_of}
 use Rattle.notation_grammar.specs.Over.{over}
 use Rattle.notation_grammar.specs.Waits.{under, Held}
@@ -24,7 +25,7 @@ use Rattle.notation_grammar.specs.Figures.{large_plain, large_minus, word_plain,
 use Rattle.notation_grammar.specs.Shapes.{cause_of, listed, units_closed, all, unit_wait, units_words, InMatcher, wants, InUnits, Stands, Follows}
 use Rattle.notation_grammar.specs.Steps.{tok, by_kind, any_row, from_place, ranges, parts, misses, roomy}
 
-module _ (lent : List ℤ) (n : ℕ) (more : n < 16384) (stack : List ℕ) (size : length stack ≡ 49152) (start value : ℕ) where
+module _ (lent : List ℤ) (n : ℕ) (more : n < 16384) (stack : List Waiting) (size : length stack ≡ 16384) (start value : ℕ) where
   -- The code's view at a place, by the number of an action or the kind of the token.
   abbrev acted : (place : ℕ) → List U.Frame → List ℤ → (a : ℕ) → View
   acted place fs item a = taking stack (over (under [] (all unit_wait fs) ++ item) lent) (standing place 0 0 [] (all unit_wait fs) item start) a value
@@ -82,7 +83,7 @@ module _ (lent : List ℤ) (n : ℕ) (more : n < 16384) (stack : List ℕ) (size
 
   empties : (fs : List U.Frame) → length (all unit_wait (U.square [] ∷ fs)) ≤ n → Held n stack [] (all unit_wait (U.square [] ∷ fs))
       → At lent (suc n) 4 0 0 [] (all unit_wait fs) (words (collection empty)) true (acted 1 (U.square [] ∷ fs) [] 549)
-  unfolding taking all unit_wait listed bits_of headed_of words
+  unfolding taking all unit_wait listed bits_of bare_by words
   empties fs d h = C.closes lent n more stack size [] 0 0 1 8 0 [] (all unit_wait fs) d h start [] 549 0
 
   pub want_step : (fs : List U.Frame) (k : ℕ) → length (all unit_wait fs) ≤ n → Held n stack [] (all unit_wait fs) → k < 24
@@ -121,7 +122,7 @@ module _ (lent : List ℤ) (n : ℕ) (more : n < 16384) (stack : List ℕ) (size
         more_square = C.commas lent n more stack size [] 0 0 4 8 (length us) (listed words us) (all unit_wait fs) d h start (words x) 12 refl
 
         close_square : At lent (suc n) 4 0 0 [] (all unit_wait fs) (words (collection (U.onto us (x ▸ empty)))) true (acted 4 (U.square us ∷ fs) (words x) 547)
-        unfolding taking headed_of all unit_wait words Held
+        unfolding taking bare_by all unit_wait words Held
         close_square = let b = h.3 in subst (λ w. At lent (suc n) 4 0 0 [] (all unit_wait fs) w true (acted 4 (U.square us ∷ fs) (words x) 547)) (units_closed 1 us x (omega arith))
             (C.closes lent n more stack size [] 0 0 4 8 (length us) (listed words us) (all unit_wait fs) d h start (words x) 547 1)
 
@@ -136,11 +137,11 @@ module _ (lent : List ℤ) (n : ℕ) (more : n < 16384) (stack : List ℕ) (size
 
     close_round : (us : List Value) (fs : List U.Frame) → suc (length (all unit_wait fs)) ≤ n → Held n stack [] (all unit_wait (U.round us ∷ fs))
         → At lent (suc n) 4 0 0 [] (all unit_wait fs) (words (U.grouped us x)) true (acted 4 (U.round us ∷ fs) (words x) 803)
-    unfolding taking headed_of all unit_wait words Held listed U.grouped
+    unfolding taking bare_by all unit_wait words Held listed U.grouped
     close_round [] fs d h = C.closes lent n more stack size [] 0 0 4 0 0 [] (all unit_wait fs) d h start (words x) 803 1
     close_round (u ∷ us) fs d h = let b = h.3 in
         subst (λ w. At lent (suc n) 4 0 0 [] (all unit_wait fs) w true (acted 4 (U.round (u ∷ us) ∷ fs) (words x) 803))
-        (ap (λ t. C.head_by (eqb (cond t 0 1) 0) 2 (bits_of 0 (suc (length us) + 1)) ((listed words us ++ words u) ++ words x)) (ne_eqb (suc (length us)) 0 (λ e. absurd (omega arith))) ∙ units_closed 2 (u ∷ us) x (omega arith))
+        (ap (λ t. C.head_by t 2 (bits_of 0 (suc (length us) + 1)) ((listed words us ++ words u) ++ words x)) (ne_eqb (suc (length us)) 0 (λ e. absurd (omega arith))) ∙ units_closed 2 (u ∷ us) x (omega arith))
         (C.closes lent n more stack size [] 0 0 4 0 (suc (length us)) (listed words (u ∷ us)) (all unit_wait fs) d h start (words x) 803 1)
 
     pub have_step : (fs : List U.Frame) (k : ℕ) → length (all unit_wait fs) ≤ n → Held n stack [] (all unit_wait fs) → k < 24

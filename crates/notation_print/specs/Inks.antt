@@ -1,30 +1,28 @@
 -- Tokens as numbers, their characters, and what they ask of one another.
-use Rattle.std.specs.Prelude.{ℕ, zero, suc, ◌+◌, ◌*◌, ◌/◌, ◌%◌, Bool, true, false, cond, List, [], ◌∷◌, ◌++◌, length, get_or, eqb, ltb}
+use Rattle.std.specs.Prelude.{ℕ, ◌+◌, ◌%◌, Bool, true, false, cond, List, [], ◌∷◌, ◌++◌, get_or, eqb}
 use Rattle.notation_rules.specs.Letters.{decimal}
 use Rattle.notation_print.specs.Pages.{Page, page, letter, letters}
 
--- The characters in a number, the first one lowest.
-unfoldable pub unpacked : ℕ → ℕ → List ℕ
-unpacked zero w = []
-unpacked (suc k) w = cond (eqb w 0) [] (w % 256 ∷ unpacked k (w / 256))
-
 -- The marks in the order of their codes, then `:: ++ & |`; `something` without its last letter.
-abbrev pub packed : List ℕ
-packed = 95 ∷ 35 ∷ 33 ∷ 43 ∷ 45 ∷ 44 ∷ 40 ∷ 41 ∷ 91 ∷ 93 ∷ 7956005065853857651 ∷ 32199642103180905 ∷ 1953720684 ∷ 8387236777809442157 ∷ 7812691370181943661 ∷ 29537 ∷ 1752459639 ∷ 14906 ∷ 11051 ∷ 38 ∷ 124 ∷ []
+abbrev pub marks : List (List ℕ)
+marks = (95 ∷ []) ∷ (35 ∷ []) ∷ (33 ∷ []) ∷ (43 ∷ []) ∷ (45 ∷ []) ∷ (44 ∷ []) ∷ (40 ∷ []) ∷ (41 ∷ []) ∷ (91 ∷ []) ∷ (93 ∷ [])
+    ∷ (115 ∷ 111 ∷ 109 ∷ 101 ∷ 116 ∷ 104 ∷ 105 ∷ 110 ∷ []) ∷ (105 ∷ 110 ∷ 116 ∷ 101 ∷ 103 ∷ 101 ∷ 114 ∷ []) ∷ (108 ∷ 105 ∷ 115 ∷ 116 ∷ [])
+    ∷ (109 ∷ 117 ∷ 108 ∷ 116 ∷ 105 ∷ 115 ∷ 101 ∷ 116 ∷ []) ∷ (109 ∷ 97 ∷ 116 ∷ 99 ∷ 104 ∷ 65 ∷ 108 ∷ 108 ∷ []) ∷ (97 ∷ 115 ∷ []) ∷ (119 ∷ 105 ∷ 116 ∷ 104 ∷ [])
+    ∷ (58 ∷ 58 ∷ []) ∷ (43 ∷ 43 ∷ []) ∷ (38 ∷ []) ∷ (124 ∷ []) ∷ []
 
-unfoldable pub packed_of : ℕ → ℕ
-packed_of k = get_or packed (k % 21) 0
+unfoldable pub mark_of : ℕ → List ℕ
+mark_of k = get_or marks (k % 21) []
 
 unfoldable pub name_of : ℕ → ℕ
 name_of v = 97 + (v % 26 + 23) % 26
 
 unfoldable pub spelt : (kind value : ℕ) → List ℕ
-unfolding decimal name_of unpacked packed_of
+unfolding decimal name_of mark_of
 spelt kind value = cond (eqb kind 23) (decimal value [])
     (cond (eqb kind 22) (name_of value ∷ [])
     (cond (eqb kind 21) (36 ∷ name_of value ∷ [])
-    (cond (eqb kind 10) (unpacked 8 (packed_of kind) ++ (103 ∷ []))
-    (unpacked 8 (packed_of kind)))))
+    (cond (eqb kind 10) (mark_of kind ++ (103 ∷ []))
+    (mark_of kind))))
 
 -- 0: the next token stands at once; 1: with a space; 2: with a space, and a name was last; 3: with a space but for a number. No space before `, ) ]`.
 unfoldable pub joins : (last kind : ℕ) → Bool

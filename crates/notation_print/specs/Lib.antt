@@ -1,3 +1,4 @@
 -- What the contracts of printing cite.
 pub mod Pages
 pub mod Inks
+pub mod Pens

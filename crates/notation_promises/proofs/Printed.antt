@@ -8,7 +8,7 @@ use Rattle.notation_rules.specs.Tokens.{Raw, Token, mark, sign, binds, uses, num
 use Rattle.notation_rules.specs.Letters.{last_digits, decimal, spell_mark, spell_sign, spell, glue_after, glue_before, is_minus, is_use, is_number, joined, spaced, print_rest, print}
 use Rattle.notation_rules.specs.Names.{called, call, calls}
 use Rattle.notation_print.specs.Pages.{Page, page, letter, letters}
-use Rattle.notation_print.specs.Inks.{unpacked, packed_of, name_of, spelt, joins, after, spaced_on, Sheet, sheet, draw}
+use Rattle.notation_print.specs.Inks.{mark_of, name_of, spelt, joins, after, spaced_on, Sheet, sheet, draw}
 use Rattle.notation_write.specs.Written.{Ink, ink, draws}
 use Rattle.notation_promises.specs.Printed.{Named, NamedAll, ink_of, inks_of, sign_code}
 
@@ -34,7 +34,7 @@ unfolding spelt
 of_ink (ink k v) cs = spelt k v ++ cs
 
 spelled : (t : Token) (cs : List ℕ) → Named t → of_ink (ink_of t) cs ≡ spell (call t) cs
-unfolding of_ink ink_of spelt spell call called Named spell_mark spell_sign unpacked packed_of code sign_code decimal
+unfolding of_ink ink_of spelt spell call called Named spell_mark spell_sign mark_of code sign_code decimal
 spelled (mark underscore) cs h = refl
 spelled (mark hash) cs h = refl
 spelled (mark bang) cs h = refl

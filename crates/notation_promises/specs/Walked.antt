@@ -1,10 +1,13 @@
 -- The words of a pattern, a matcher and a target are walked as their notation is written: the tables and places, one tag at a time.
-use Rattle.std.specs.Prelude.{ℕ, zero, suc, ◌+◌, ◌*◌, ◌/◌, ◌%◌, ◌≤◌, ◌<◌, ◌≡◌, refl, List, [], ◌∷◌, ◌++◌, length, get_or, drop, ℤ, pos, negsuc}
+use Rattle.std.specs.Prelude.{ℕ, zero, suc, ◌+◌, ◌*◌, ◌/◌, ◌%◌, ◌≤◌, ◌<◌, ◌≡◌, refl, Option, Some, None, List, [], ◌∷◌, ◌++◌, length, get_or, drop, ℤ, pos, negsuc}
 use native.Mathlib.Omega.{arith}
 use Rattle.std.proofs.Common.{sym, ap, ◌∙◌, lt-ltb, le-ltb, drop-drop, drop_at, of_z}
 use Rattle.std.specs.Int.{w32}
 use Rattle.words.specs.Words.{tag_at}
-use Rattle.notation_write.specs.Written.{nodes, node_of, field, ahead, bits_at, head_of, count_of, optional, leaf, bracket, front, behind, Written, parts, within, written}
+use Rattle.notation_write.specs.Written.{no_tag, nodes, node_of, ahead, bits_at, head_of, count_of, optional, leaf, bracket, front, behind, Written, parts, within, written}
+use Rattle.notation_write.specs.declared.Node.{Node}
+use Rattle.notation_write.specs.declared.Operands.{Operands}
+use Rattle.notation_write.specs.declared.Operands.TheVariants.{Nothing}
 
 -- ---- Words at an index.
 pub record Head (ws : List ℤ) (at : ℕ) (w : ℤ) (rest : List ℤ) : Type 0 where
@@ -35,15 +38,15 @@ unfolding bits_at
 bits_is ws at n w rest h g = rw (ahead_is ws at n h, lt-ltb (at + n) (length ws) g.in', g.is (pos 0))
 
 -- ---- The table's rows.
-pub pattern_node : (l t : ℕ) → l < 8 → t < 11 → node_of l t ≡ get_or nodes t 0
+pub pattern_node : (l t : ℕ) → l < 8 → t < 11 → node_of l t ≡ get_or nodes t no_tag
 unfolding node_of
-pattern_node l t h g = let e : (l % 24 / 8 * 11 + t % 11) % 33 ≡ t = omega arith in ap (λ k. get_or nodes k 0) e
+pattern_node l t h g = let e : (l % 24 / 8 * 11 + t % 11) % 33 ≡ t = omega arith in ap (λ k. get_or nodes k no_tag) e
 
-pub matcher_node : (l t : ℕ) → l < 8 → t < 11 → node_of (8 + l) t ≡ get_or nodes (11 + t) 0
+pub matcher_node : (l t : ℕ) → l < 8 → t < 11 → node_of (8 + l) t ≡ get_or nodes (11 + t) no_tag
 unfolding node_of
-matcher_node l t h g = let e : ((8 + l) % 24 / 8 * 11 + t % 11) % 33 ≡ 11 + t = omega arith in ap (λ k. get_or nodes k 0) e
+matcher_node l t h g = let e : ((8 + l) % 24 / 8 * 11 + t % 11) % 33 ≡ 11 + t = omega arith in ap (λ k. get_or nodes k no_tag) e
 
-pub step_is : (ws : List ℤ) (d at what node : ℕ) → node_of what (tag_at ws at) ≡ node → written ws (suc d) at what ≡ within ws (written ws d) at what node
+pub step_is : (ws : List ℤ) (d at what : ℕ) (node : Node) → node_of what (tag_at ws at) ≡ node → written ws (suc d) at what ≡ within ws (written ws d) at what node
 unfolding written
 step_is ws d at what node h = ap (within ws (written ws d) at what) h
 
@@ -52,16 +55,16 @@ unfolding bracket
 no_bracket own what k h = rw (le-ltb own (what % 8) h)
 
 -- ---- A node, by its fields.
-module _ (ws : List ℤ) (f : (at what : ℕ) → Written) (at what node : ℕ) (b : at < length ws) where
+module _ (ws : List ℤ) (f : (at what : ℕ) → Written) (at what : ℕ) (node : Node) (b : at < length ws) where
   -- No parts.
-  pub leaf_node : (lc : ℕ) → field node 1 ≡ 7 → what % 8 ≤ 7 → field node 65536 ≡ lc → field node 16777216 ≡ 0
-      → within ws f at what node ≡ record { inks = (optional (field node 256) ++ leaf ws at lc) ++ (optional (field node 72057594037927936) ++ []); end = at + head_of lc 0 }
+  pub leaf_node : (lc : Operands) → node.level ≡ 7 → what % 8 ≤ 7 → node.operands ≡ lc → node.parts ≡ Some 0
+      → within ws f at what node ≡ record { inks = (optional (node.begins) ++ leaf ws at lc) ++ (optional (node.ends) ++ []); end = at + head_of lc (Some 0) }
   unfolding within front behind parts count_of
-  leaf_node lc h l i j = rw (h, i, j, no_bracket 7 what 6 l, no_bracket 7 what 7 l, ahead_is ws at (head_of lc 0) b)
+  leaf_node lc h l i j = rw (h, i, j, no_bracket 7 what 6 l, no_bracket 7 what 7 l, ahead_is ws at (head_of lc (Some 0)) b)
 
   -- Two parts, a sign between them.
-  pub pair_node : (own p q s : ℕ) → field node 1 ≡ own → field node 256 ≡ 31 → field node 65536 ≡ 0 → field node 16777216 ≡ 2 → field node 4294967296 ≡ p
-      → field node 1099511627776 ≡ q → field node 281474976710656 ≡ s → field node 72057594037927936 ≡ 31
+  pub pair_node : (own p q : ℕ) (s : Option ℕ) → node.level ≡ own → node.begins ≡ None → node.operands ≡ Nothing → node.parts ≡ Some 2 → node.first ≡ p
+      → node.others ≡ q → node.between ≡ s → node.ends ≡ None
       → within ws f at what node ≡ record {
         inks = (bracket own what 6 ++ []) ++ (((f (at + 1) p).inks ++ (optional s ++ ((f (f (at + 1) p).end q).inks ++ []))) ++ bracket own what 7);
         end = (f (f (at + 1) p).end q).end;
@@ -70,14 +73,14 @@ module _ (ws : List ℤ) (f : (at what : ℕ) → Written) (at what node : ℕ) 
   pair_node own p q s c d e g h i j k = rw (c, d, e, g, h, i, j, k, ahead_is ws at 1 b)
 
   -- A word, and one part.
-  pub word_node : (own w p : ℕ) → field node 1 ≡ own → field node 256 ≡ w → field node 65536 ≡ 0 → field node 16777216 ≡ 1 → field node 4294967296 ≡ p → field node 72057594037927936 ≡ 31
+  pub word_node : (own : ℕ) (w : Option ℕ) (p : ℕ) → node.level ≡ own → node.begins ≡ w → node.operands ≡ Nothing → node.parts ≡ Some 1 → node.first ≡ p → node.ends ≡ None
       → within ws f at what node ≡ record { inks = (bracket own what 6 ++ (optional w ++ [])) ++ (((f (at + 1) p).inks ++ []) ++ bracket own what 7); end = (f (at + 1) p).end }
   unfolding within front behind parts count_of head_of optional leaf
   word_node own w p c d e g h i = rw (c, d, e, g, h, i, ahead_is ws at 1 b)
 
   -- As many parts as the next word says.
-  pub many_node : (w p c n : ℕ) → field node 1 ≡ 7 → what % 8 ≤ 7 → field node 256 ≡ w → field node 65536 ≡ 0 → field node 16777216 ≡ 255 → field node 4294967296 ≡ p
-      → field node 1099511627776 ≡ p → field node 281474976710656 ≡ 5 → field node 72057594037927936 ≡ c → bits_at ws at 1 ≡ n → n < 256
-      → within ws f at what node ≡ record { inks = (optional w ++ []) ++ ((parts f p 5 n (at + 2) p 31).inks ++ (optional c ++ [])); end = (parts f p 5 n (at + 2) p 31).end }
+  pub many_node : (w : Option ℕ) (p : ℕ) (c : Option ℕ) (n : ℕ) → node.level ≡ 7 → what % 8 ≤ 7 → node.begins ≡ w → node.operands ≡ Nothing → node.parts ≡ None → node.first ≡ p
+      → node.others ≡ p → node.between ≡ Some 5 → node.ends ≡ c → bits_at ws at 1 ≡ n → n < 256
+      → within ws f at what node ≡ record { inks = (optional w ++ []) ++ ((parts f p (Some 5) n (at + 2) p None).inks ++ (optional c ++ [])); end = (parts f p (Some 5) n (at + 2) p None).end }
   unfolding within front behind count_of head_of leaf
   many_node w p c n h l i j k m o q r s t = let e : n % 256 ≡ n = omega arith in rw (h, i, j, k, m, o, q, r, no_bracket 7 what 6 l, no_bracket 7 what 7 l, s, e, ahead_is ws at 2 b)

@@ -3,13 +3,14 @@
 
 ghost use Rattle.std.specs.Prelude.{◌≡◌, ◌≤◌, ◌<◌, ◌^◌, length, replicate};
 ghost use Rattle.notation_rules.specs.Places.{line, column};
-ghost use Rattle.notation_read.specs.Read.{entry_of, put_of, name_of, found, bound_by, bound_later, binding_of, using_of, resolved, names, adding, ran_to, stopped, ran, next_line, next_column, told, reading};
+ghost use Rattle.notation_step.specs.Stepped.{nothing};
+ghost use Rattle.notation_read.specs.Read.{span_of, name_of, found, bound_by, bound_later, binding_of, using_of, resolved, no_names, adding, ran_to, stopped, ran, numbered, unreadable, told, reading};
 
 use notation_scan::{BINDS, END, Token, USES, part, same, scan};
-use notation_step::{FRAMES, START, Stack, Stand, finish, step};
-use words::casts::wide_index;
+use notation_step::{FRAMES, NOTHING, START, Stack, Stand, finish, step};
 
-// Why a name cannot be, with what every such token has more.
+// Kinds of a token that no name gives, each more than its cause by the 24 kinds that there are: numbers, since the table of notation_step's specs, `actions`,
+// has a column for each kind.
 const UNKNOWN_NAME: u32 = 29;
 
 const BOUND_TWICE: u32 = 30;
@@ -18,69 +19,158 @@ const USED_BEFORE: u32 = 31;
 
 const OVER_LIMIT: u32 = 33;
 
-// A text with more characters than may wait at once is not read.
-const TOO_LONG: u32 = 10;
-
 const VARIABLES: usize = 16;
 
-// Where each variable's name begins, or ends.
-type Names = [usize; 16];
+// Where a name stands in the text.
+#[derive(Clone, Copy)]
+pub struct Span {
+    pub from: usize,
+    pub to: usize,
+}
 
-fn entry_of(table: &Names, k: usize) -> usize
-    ensures { result ≡ entry_of table.now k }
-{
-    if k < VARIABLES {
-        return table[k];
+const NOWHERE: Span = Span { from: 0, to: 0 };
+
+// The names that are bound so far, each with the number of its variable: a table and a count, since the library has no heap.
+#[derive(Clone, Copy)]
+pub struct Names {
+    pub spans: [Span; 16],
+    pub count: usize,
+}
+
+// A token's number, and what it counts: a name counts as its variable.
+#[derive(Clone, Copy)]
+pub struct Named {
+    pub kind: u32,
+    pub value: u64,
+}
+
+impl Named {
+    // A token that counts nothing.
+    fn bare(kind: u32) -> Named
+        ensures { result ≡ record { kind = kind; value = 0 } }
+    {
+        Named { kind, value: 0 }
     }
-    0
 }
 
-fn put_of(table: &mut Names, k: usize, x: usize)
-    ensures { table.new ≡ put_of table.old k x }
-{
-    if k < VARIABLES {
-        table[k] = x;
-    }
-}
-
-// A variable's name.
-fn name_of<'a>(text: &'a [u8], froms: &Names, tos: &Names, k: usize) -> &'a [u8]
-    ensures { result.now ≡ name_of text.now froms.now tos.now k }
-{
-    part(text, entry_of(froms, k), entry_of(tos, k))
-}
-
-// One more than the number of the variable that has this name; 0 where none has it.
-fn find(text: &[u8], froms: &Names, tos: &Names, count: usize, w: &[u8]) -> usize
-    ensures { result ≡ found text.now froms.now tos.now count w.now }
-{
-    let mut k = count;
-    while 0 < k {
-        if same(name_of(text, froms, tos, k - 1), w) {
-            return k;
+impl Names {
+    #[tactic(auto, unfolding(crate::specs::Read::no_names))]
+    fn none() -> Names
+        ensures { result ≡ no_names }
+    {
+        Names {
+            spans: [NOWHERE; 16],
+            count: 0,
         }
-        k -= 1;
     }
-    0
+
+    #[tactic(auto, unfolding(crate::specs::Read::span_of))]
+    fn span(&self, k: usize) -> Span
+        ensures { result ≡ span_of self.now.spans k }
+    {
+        if k < VARIABLES {
+            self.spans[k]
+        } else {
+            NOWHERE
+        }
+    }
+
+    #[tactic(auto, unfolding(crate::specs::Read::name_of))]
+    fn name<'a>(&self, text: &'a [u8], k: usize) -> &'a [u8]
+        ensures { result.now ≡ name_of text.now self.now.spans k }
+    {
+        let span = self.span(k);
+        part(text, span.from, span.to)
+    }
+
+    // The variable that has this name.
+    #[tactic(auto, unfolding(crate::specs::Read::found))]
+    fn find(&self, text: &[u8], w: &[u8]) -> Option<usize>
+        ensures { result ≡ found text.now self.now.spans self.now.count w.now }
+    {
+        for k in (0..self.count).rev() {
+            if same(self.name(text, k), w) {
+                return Some(k);
+            }
+        }
+        None
+    }
+
+    // `$` and a name: the next variable, if the name is new and there is room.
+    #[tactic(auto, unfolding(crate::specs::Read::binding_of, crate::specs::Read::binding_by))]
+    fn binding(&self, text: &[u8], t: Token) -> Named
+        ensures { result ≡ binding_of text.now t self.now }
+    {
+        match self.find(text, part(text, t.name, t.to)) {
+            Some(_) => Named::bare(BOUND_TWICE),
+            None if self.count < VARIABLES => Named {
+                kind: BINDS,
+                value: self.count as u64,
+            },
+            None => Named::bare(OVER_LIMIT),
+        }
+    }
+
+    // A name by itself: the variable that has it.
+    #[tactic(auto, unfolding(crate::specs::Read::using_of, crate::specs::Read::using_by))]
+    fn using(&self, text: &[u8], t: Token) -> Named
+        ensures { result ≡ using_of text.now t self.now }
+    {
+        let w = part(text, t.from, t.to);
+        match self.find(text, w) {
+            Some(k) => Named {
+                kind: USES,
+                value: k as u64,
+            },
+            None if bound_later(text, t.to, w) => Named::bare(USED_BEFORE),
+            None => Named::bare(UNKNOWN_NAME),
+        }
+    }
+
+    #[tactic(auto, unfolding(crate::specs::Read::resolved))]
+    fn resolve(&self, text: &[u8], t: Token) -> Named
+        ensures { result ≡ resolved text.now t self.now }
+    {
+        match t.kind {
+            BINDS => self.binding(text, t),
+            USES => self.using(text, t),
+            kind => Named {
+                kind,
+                value: t.value,
+            },
+        }
+    }
+
+    // One variable more, where a token binds it.
+    #[tactic(auto, unfolding(crate::specs::Read::adding))]
+    fn add(&mut self, kind: u32, t: Token)
+        ensures { self.new ≡ adding self.old kind t }
+    {
+        if kind == BINDS && self.count < VARIABLES {
+            self.spans[self.count] = Span {
+                from: t.name,
+                to: t.to,
+            };
+            self.count += 1;
+        }
+    }
 }
 
 // Whether a token binds a name.
+#[tactic(auto, unfolding(crate::specs::Read::bound_by))]
 fn bound_by(text: &[u8], t: Token, w: &[u8]) -> bool
     ensures { result ≡ bound_by text.now w.now t }
 {
-    if t.kind == BINDS {
-        return same(part(text, t.name, t.to), w);
-    }
-    false
+    t.kind == BINDS && same(part(text, t.name, t.to), w)
 }
 
-// Whether a name is bound from an index on.
+// Whether a name is bound from an index on. A text has no more tokens than characters.
+#[tactic(auto, unfolding(crate::specs::Read::bound_later))]
 fn bound_later(text: &[u8], from: usize, w: &[u8]) -> bool
     ensures { result ≡ bound_later text.now w.now (length text.now) from }
 {
     let mut at = from;
-    let mut left = text.len();
-    while 0 < left {
+    for turn in 0..text.len() {
         let t = scan(text, at);
         if t.kind == END {
             return false;
@@ -89,131 +179,56 @@ fn bound_later(text: &[u8], from: usize, w: &[u8]) -> bool
             return true;
         }
         at = t.to;
-        left -= 1;
     }
     false
 }
 
-// A token's number, and what it counts: a name counts as its variable.
-#[derive(Drop)]
-pub struct Named {
-    pub kind: u32,
-    pub value: u64,
-}
-
-// `$` and a name: the next variable, if the name is new and there is room.
-fn binding(text: &[u8], t: Token, froms: &Names, tos: &Names, count: usize) -> Named
-    ensures { result ≡ binding_of text.now t froms.now tos.now count }
-{
-    if 0 < find(text, froms, tos, count, part(text, t.name, t.to)) {
-        return Named {
-            kind: BOUND_TWICE,
-            value: 0,
-        };
-    }
-    if count < VARIABLES {
-        return Named {
-            kind: BINDS,
-            value: wide_index(count),
-        };
-    }
-    Named {
-        kind: OVER_LIMIT,
-        value: 0,
-    }
-}
-
-// A name by itself: the variable that has it.
-fn using(text: &[u8], t: Token, froms: &Names, tos: &Names, count: usize) -> Named
-    ensures { result ≡ using_of text.now t froms.now tos.now count }
-{
-    let w = part(text, t.from, t.to);
-    let k = find(text, froms, tos, count, w);
-    if 0 < k {
-        return Named {
-            kind: USES,
-            value: wide_index(k - 1),
-        };
-    }
-    if bound_later(text, t.to, w) {
-        return Named {
-            kind: USED_BEFORE,
-            value: 0,
-        };
-    }
-    Named {
-        kind: UNKNOWN_NAME,
-        value: 0,
-    }
-}
-
-fn resolve(text: &[u8], t: Token, froms: &Names, tos: &Names, count: usize) -> Named
-    ensures { result ≡ resolved text.now t froms.now tos.now count }
-{
-    if t.kind == BINDS {
-        return binding(text, t, froms, tos, count);
-    }
-    if t.kind == USES {
-        return using(text, t, froms, tos, count);
-    }
-    Named {
-        kind: t.kind,
-        value: t.value,
-    }
-}
-
-// One variable more, where a token binds it.
-fn add(froms: &mut Names, tos: &mut Names, count: usize, kind: u32, t: Token) -> usize
-    ensures { names froms.new tos.new result ≡ adding froms.old tos.old count kind t }
-{
-    if kind != BINDS {
-        return count;
-    }
-    if VARIABLES <= count {
-        return count;
-    }
-    put_of(froms, count, t.name);
-    put_of(tos, count, t.to);
-    count + 1
-}
-
-// How a text ended: why it is refused (0: it is not), where, and where the matcher's and the pattern's words begin and these end.
-#[derive(Drop)]
-pub struct Ran {
-    pub cause: u32,
-    pub at: usize,
+// Where the words of a rule that was read lie: those of its units, if it has any, stand first, those of its matcher and of its pattern begin here, and
+// these end.
+#[derive(Clone, Copy, Debug, PartialEq, Eq)]
+pub struct Parts {
     pub matcher: usize,
     pub pattern: usize,
     pub end: usize,
 }
 
-fn ran_to(s: Stand, cause: u32, at: usize) -> Ran
+// Why a text is refused, and at which character. The cause is a number, since the table `ends` of notation_step's specs has it so, and theorem
+// `simulates` of notation_grammar speaks of it.
+#[derive(Clone, Copy)]
+pub struct Fault {
+    pub cause: u32,
+    pub at: usize,
+}
+
+// A text that ends here: its parts, or why it may not, where there is a cause.
+#[tactic(auto, unfolding(crate::specs::Read::ran_to))]
+fn ran_to(s: Stand, cause: u32, at: usize) -> Result<Parts, Fault>
     ensures { result ≡ ran_to s cause at }
 {
-    Ran {
-        cause,
-        at,
+    if cause != 0 {
+        return Err(Fault { cause, at });
+    }
+    Ok(Parts {
         matcher: s.matcher,
         pattern: s.pattern,
         end: s.len,
-    }
+    })
 }
 
 // Nothing waits.
 fn empty_stack() -> Stack
-    ensures { result ≡ replicate 49152 0 }
+    ensures { result ≡ replicate 16384 nothing }
 {
-    [0; 49152]
+    [NOTHING; FRAMES]
 }
 
 // Reads a text token by token; the words go to the slice as far as it reaches.
-fn run(text: &[u8], words: &mut [i32]) -> Ran
+fn run(text: &[u8], words: &mut [i32]) -> Result<Parts, Fault>
     requires { length text.now ≤ 16384 }
     ensures { stopped result words.new ≡ ran text.now words.old }
 {
     let mut stack = empty_stack();
-    let mut froms = [0usize; 16];
-    let mut tos = [0usize; 16];
+    let mut names = Names::none();
     let mut s = Stand {
         place: START,
         top: 0,
@@ -224,123 +239,113 @@ fn run(text: &[u8], words: &mut [i32]) -> Ran
         cause: 0,
     };
     let mut at: usize = 0;
-    let mut count: usize = 0;
-    let mut left = text.len();
-    while 0 < left {
+    for turn in 0..text.len() {
         let t = scan(text, at);
         if t.kind == END {
-            return ran_to(s, finish(&stack, s), text.len());
+            break;
         }
-        let n = resolve(text, t, &froms, &tos, count);
-        count = add(&mut froms, &mut tos, count, n.kind, t);
+        let n = names.resolve(text, t);
+        names.add(n.kind, t);
         s = step(&mut stack, words, s, n.kind, n.value);
-        if 0 < s.cause {
-            return ran_to(s, s.cause, t.from);
+        if s.cause != 0 {
+            return Err(Fault {
+                cause: s.cause,
+                at: t.from,
+            });
         }
         at = t.to;
-        left -= 1;
     }
     ran_to(s, finish(&stack, s), text.len())
 }
 
-fn next_line(n: usize, c: u8) -> usize
-    requires { n < 2 ^ 63 }
-    ensures { result ≡ next_line n c }
-{
-    if c == b'\n' {
-        return n + 1;
-    }
-    n
+// What the text does that cannot be read.
+#[derive(Clone, Copy, Debug, PartialEq, Eq)]
+pub enum Cause {
+    UnknownSign,
+    Misplaced,
+    CutShort,
+    BracketOpen,
+    UnknownName,
+    BoundTwice,
+    UsedBefore,
+    OutOfRange,
+    OverLimit,
 }
 
-fn next_column(n: usize, c: u8) -> usize
-    requires { n < 2 ^ 63 }
-    ensures { result ≡ next_column n c }
-{
-    if c == b'\n' {
-        return 1;
-    }
-    n + 1
-}
-
-// The line of a character, from 1.
-fn line_of(text: &[u8], at: usize) -> usize
-    ensures { result ≡ line text.now at }
-{
-    let mut n: usize = 0;
-    let mut i: usize = 0;
-    while i < text.len() {
-        if at <= i {
-            return n + 1;
+impl Cause {
+    #[tactic(auto, unfolding(crate::specs::Read::numbered))]
+    fn numbered(number: u32) -> Cause
+        ensures { result ≡ numbered number }
+    {
+        match number {
+            1 => Cause::UnknownSign,
+            2 => Cause::Misplaced,
+            3 => Cause::CutShort,
+            4 => Cause::BracketOpen,
+            5 => Cause::UnknownName,
+            6 => Cause::BoundTwice,
+            7 => Cause::UsedBefore,
+            8 => Cause::OutOfRange,
+            _ => Cause::OverLimit,
         }
-        n = next_line(n, text[i]);
-        i += 1;
     }
-    n + 1
 }
 
-// The column of a character, from 1.
-fn column_of(text: &[u8], at: usize) -> usize
-    ensures { result ≡ column text.now at }
+// Why a text is not a rule: it has more characters than may wait at once, or the one at a line and a column, each from 1, is at fault.
+#[derive(Clone, Copy, Debug, PartialEq, Eq)]
+pub enum Refusal {
+    TooLong,
+    Unreadable {
+        cause: Cause,
+        line: usize,
+        column: usize,
+    },
+}
+
+// The line and the column of a character, each from 1.
+fn place_of(text: &[u8], at: usize) -> (usize, usize)
+    ensures line { result.0 ≡ line text.now at }
+    ensures column { result.1 ≡ column text.now at }
 {
-    let mut n: usize = 1;
-    let mut i: usize = 0;
-    while i < text.len() {
-        if at <= i {
-            return n;
+    let mut line = 1;
+    let mut column = 1;
+    let before = &text[..at.min(text.len())];
+    for c in before {
+        if *c == b'\n' {
+            line += 1;
+            column = 1;
+        } else {
+            column += 1;
         }
-        n = next_column(n, text[i]);
-        i += 1;
     }
-    n
+    (line, column)
 }
 
-// What was read: the cause (0: a rule), line and column of a refusal; of a rule, whose units' words stand first, where the matcher's and the pattern's
-// begin, and where these end.
-#[derive(Drop)]
-pub struct Told {
-    pub cause: u32,
-    pub line: usize,
-    pub column: usize,
-    pub matcher: usize,
-    pub pattern: usize,
-    pub end: usize,
+#[tactic(auto, unfolding(crate::specs::Read::unreadable))]
+fn unreadable(text: &[u8], fault: Fault) -> Refusal
+    ensures { result ≡ unreadable text.now fault }
+{
+    let (line, column) = place_of(text, fault.at);
+    Refusal::Unreadable {
+        cause: Cause::numbered(fault.cause),
+        line,
+        column,
+    }
 }
 
 // Reads a rule's text. The words of its units, if it has any, of its matcher and of its pattern go to the slice, as far as it reaches, one behind the
 // other. A refusal writes nothing.
-pub fn read_rule(text: &[u8], words: &mut [i32]) -> Told
+pub fn read_rule(text: &[u8], words: &mut [i32]) -> Result<Parts, Refusal>
     ensures { told result words.new ≡ reading text.now words.old }
 {
     if FRAMES < text.len() {
-        return Told {
-            cause: TOO_LONG,
-            line: 0,
-            column: 0,
-            matcher: 0,
-            pattern: 0,
-            end: 0,
-        };
+        return Err(Refusal::TooLong);
     }
-    let mut none = [0i32; 1];
-    let e = run(text, &mut none);
-    if 0 < e.cause {
-        return Told {
-            cause: e.cause,
-            line: line_of(text, e.at),
-            column: column_of(text, e.at),
-            matcher: 0,
-            pattern: 0,
-            end: 0,
-        };
-    }
-    let r = run(text, words);
-    Told {
-        cause: 0,
-        line: 0,
-        column: 0,
-        matcher: r.matcher,
-        pattern: r.pattern,
-        end: r.end,
+    match run(text, &mut [0i32; 1]) {
+        Err(fault) => Err(unreadable(text, fault)),
+        Ok(parts) => {
+            let _ = run(text, words);
+            Ok(parts)
+        }
     }
 }

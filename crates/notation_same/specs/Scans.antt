@@ -2,7 +2,8 @@
 use Prim.Native.Nat.{ℕ, ◌+◌, ◌-◌, ◌≤◌, ◌<◌}
 use native.Mathlib.Omega.{arith}
 use Rattle.std.proofs.Common.{add-one, ◌∙◌, take-suc, length-take-le}
-use Rattle.std.specs.Prelude.{◌≡◌, Bool, get_or, drop, take, eqb, ltb}
+use Rattle.std.specs.Prelude.{◌≡◌, Bool, unwrap_or, is_some, option_map, position, get_or, drop, take, eqb, ltb}
+use Rattle.std.specs.Prelude.{Option as Option'}
 use Rattle.std.proofs.Math.Path.{refl, ap}
 use Rattle.std.proofs.Math.Bool.{true, false, cond}
 use Rattle.std.proofs.Math.Option.{Option, none, some}
@@ -23,8 +24,8 @@ use Rattle.notation_same.specs.Steps.{number_of, begun_by, State, blank, comment
 abbrev word_token : (v : ℕ) (b w : List ℕ) → (k : ℕ) → List Raw
 word_token v b w k = token_of k v b w ∷ []
 
-chain : (a b c d e f g : Bool) → ℕ
-chain a b c d e f g = cond a 10 (cond b 11 (cond c 12 (cond d 13 (cond e 14 (cond f 15 (cond g 16 0))))))
+chain : (a b c d e f g : Bool) → Option' ℕ
+chain a b c d e f g = option_map (λ k. 10 + k) (position (λ x. x) (a ∷ b ∷ c ∷ d ∷ e ∷ f ∷ g ∷ []))
 
 marks : (a b c d e f g : Bool) → Option Mark
 marks a b c d e f g =
@@ -53,8 +54,8 @@ marks a b c d e f g =
 module _ (v : ℕ) (n w : List ℕ) where
   word_go : (a b c d e f g : Bool)
       → (◌≡◌ {A = List Raw} (elim (marks a b c d e f g) as (λ _. List Raw) [ none ↦ uses w ∷ [] | some m ↦ mark m ∷ [] ])
-      (token_of (cond (eqb (chain a b c d e f g) 0) 22 (chain a b c d e f g)) v n w ∷ []))
-      × (eqb (cond (eqb (chain a b c d e f g) 0) 22 (chain a b c d e f g)) 24 ≡ false)
+      (token_of (unwrap_or (chain a b c d e f g) 22) v n w ∷ []))
+      × (eqb (unwrap_or (chain a b c d e f g) 22) 24 ≡ false)
   unfolding marks chain token_of
   word_go true b c d e f g = (refl, refl)
   word_go false true c d e f g = (refl, refl)
@@ -67,8 +68,8 @@ module _ (v : ℕ) (n w : List ℕ) where
 
   name_go : (d' : ℕ) (n' : List ℕ) (a b c d e f g : Bool)
       → (◌≡◌ {A = List Raw} ((elim (marks a b c d e f g) as (λ _. Raw) [ none ↦ binds (d' ∷ n') | some m ↦ wrong unknown_sign ]) ∷ [])
-      (token_of (cond (eqb (chain a b c d e f g) 0) 21 25) v (d' ∷ n') w ∷ []))
-      × (eqb (cond (eqb (chain a b c d e f g) 0) 21 25) 24 ≡ false)
+      (token_of (cond (is_some (chain a b c d e f g)) 25 21) v (d' ∷ n') w ∷ []))
+      × (eqb (cond (is_some (chain a b c d e f g)) 25 21) 24 ≡ false)
   unfolding marks chain token_of
   name_go d' n' true b c d e f g = (refl, refl)
   name_go d' n' false true c d e f g = (refl, refl)

@@ -1,5 +1,5 @@
 -- What the code of the scanner computes: the first token from an index on.
-use Rattle.std.specs.Prelude.{ℕ, zero, suc, ◌+◌, ◌*◌, ◌/◌, ◌%◌, Bool, true, false, cond, List, [], ◌∷◌, length, get_or, drop, eqb, ltb, leb}
+use Rattle.std.specs.Prelude.{ℕ, zero, suc, ◌+◌, ◌*◌, ◌/◌, ◌%◌, Bool, true, false, cond, Option, Some, None, unwrap_or, is_some, option_map, position, List, [], ◌∷◌, length, get_or, drop, eqb, ltb, leb}
 use Rattle.std.proofs.Math.Seq.{slice}
 use Rattle.notation_rules.specs.Letters.{same_word, spell_mark}
 use Rattle.notation_rules.specs.Tokens.{anything, integers, list_of, multiset_of, matching, by, with'}
@@ -36,23 +36,22 @@ unfoldable pub more_of : (value c : ℕ) → ℕ
 more_of value c = cond (ltb 2147483648 value) value (value * 10 + c % 48)
 
 -- ---- Words.
-unfoldable pub reserved_of : List ℕ → ℕ
+-- The notation's words, in the order of their marks from 10 on.
+abbrev pub words : List (List ℕ)
+words = spell_mark anything ∷ spell_mark integers ∷ spell_mark list_of ∷ spell_mark multiset_of ∷ spell_mark matching ∷ spell_mark by ∷ spell_mark with' ∷ []
+
+-- The mark that a word is, where it is no name.
+unfoldable pub reserved_of : List ℕ → Option ℕ
 unfolding same_word spell_mark
-reserved_of w = cond (same_word (spell_mark anything) w) 10
-    (cond (same_word (spell_mark integers) w) 11
-    (cond (same_word (spell_mark list_of) w) 12
-    (cond (same_word (spell_mark multiset_of) w) 13
-    (cond (same_word (spell_mark matching) w) 14
-    (cond (same_word (spell_mark by) w) 15
-    (cond (same_word (spell_mark with') w) 16 0))))))
+reserved_of w = option_map (λ k. 10 + k) (position (λ x. same_word x w) words)
 
 unfoldable pub word_kind : List ℕ → ℕ
 unfolding reserved_of
-word_kind w = cond (eqb (reserved_of w) 0) 22 (reserved_of w)
+word_kind w = unwrap_or (reserved_of w) 22
 
 unfoldable pub name_kind : List ℕ → ℕ
 unfolding reserved_of
-name_kind w = cond (eqb (reserved_of w) 0) 21 25
+name_kind w = cond (is_some (reserved_of w)) 25 21
 
 -- ---- What was begun.
 unfoldable pub finished : List ℕ → Begun → (to : ℕ) → ℕ

@@ -2,14 +2,13 @@
 // comments. What a character is, and what it does to a token that was begun, stands in two tables.
 #![tactic(auto)]
 
-ghost use Rattle.std.specs.Prelude.{◌≡◌, ◌<◌, length};
+ghost use Rattle.std.specs.Prelude.{◌≡◌, position};
 ghost use Rattle.std.proofs.Math.Seq.{slice};
 ghost use Rattle.notation_rules.specs.Letters.{same_word};
-ghost use Rattle.notation_scan.specs.Scanned.{char_of, next_of, begin_of, final_of, more_of, reserved_of, word_kind, name_kind, advanced, whole_at, finished, scanned};
-
-use words::casts::{byte_index, index, wide_byte};
+ghost use Rattle.notation_scan.specs.Scanned.{char_of, next_of, begin_of, final_of, more_of, words, reserved_of, word_kind, name_kind, advanced, whole_at, finished, token, nothing, scanned};
 
 // The tokens' numbers where they are not those of the printed marks and signs (0 to 20). What cannot be read has the number of its cause more.
+// No enum: the tables of specs/Scanned and notation_same's `token_of`, of which the theorem `tokens_same` speaks, count by these numbers.
 pub const BINDS: u32 = 21;
 
 pub const USES: u32 = 22;
@@ -36,6 +35,7 @@ pub struct Token {
 }
 
 // What was begun: one of the states below, the token of its first character, the number so far, where it begins, and its second character.
+// No enum of states: the tables `nexts` and `finals` of specs/Scanned and notation_same's `State` count by these numbers.
 #[derive(Clone, Copy)]
 pub struct Begun {
     pub state: u32,
@@ -57,8 +57,16 @@ const NAME: u32 = 6;
 
 const FULL: u32 = 10;
 
+// In an entry of CHARS what a character is stands below this, and the token that it makes above.
+const SPLIT: u32 = 16;
+
+// What a character can be, and the states.
+const CLASSES: u32 = 10;
+
+const STATES: u32 = 11;
+
 // A character: 0 white space, 1 the end of a line, 2 `$`, 3 `_`, 4 a digit, 5 a letter, 6 `+`, 7 `:`, 8 `-`, 9 another; and 16 times the token that
-// it makes, twice where it is `+` or `:`.
+// it makes, twice where it is `+` or `:`. Packed as `chars` of specs/Scanned has them, of which notation_same's `Told` speaks.
 const CHARS: [u32; 256] = [
     409, 409, 409, 409, 409, 409, 409, 409, 409, 400, 401, 409, 409, 400, 409, 409, 409, 409, 409,
     409, 409, 409, 409, 409, 409, 409, 409, 409, 409, 409, 409, 409, 400, 41, 409, 25, 402, 409,
@@ -94,211 +102,203 @@ const BEGIN: [u32; 10] = [0, 0, 5, 10, 2, 4, 7, 8, 9, 10];
 // What was begun as a token.
 const FINAL: [u32; 11] = [24, 24, 23, 24, 22, 25, 21, 3, 25, 4, 24];
 
+#[tactic(auto, unfolding(crate::specs::Scanned::char_of))]
 fn char_of(c: u8) -> u32
     ensures { result ≡ char_of c }
 {
-    let i = byte_index(c);
-    CHARS[i]
+    CHARS[usize::from(c)]
 }
 
+#[tactic(auto, unfolding(crate::specs::Scanned::next_of))]
 fn next_of(state: u32, c: u32) -> u32
     ensures { result ≡ next_of state c }
 {
-    let i = index((state % 11 * 10 + c % 16 % 10) % 110);
-    NEXT[i]
+    NEXT[((state % STATES * CLASSES + c % SPLIT % CLASSES) % (STATES * CLASSES)) as usize]
 }
 
+#[tactic(auto, unfolding(crate::specs::Scanned::begin_of))]
 fn begin_of(c: u32) -> u32
     ensures { result ≡ begin_of c }
 {
-    let i = index(c % 16 % 10);
-    BEGIN[i]
+    BEGIN[(c % SPLIT % CLASSES) as usize]
 }
 
+#[tactic(auto, unfolding(crate::specs::Scanned::final_of))]
 fn final_of(state: u32) -> u32
     ensures { result ≡ final_of state }
 {
-    let i = index(state % 11);
-    FINAL[i]
+    FINAL[(state % STATES) as usize]
 }
 
 // A number with one more digit; one that is too large stays so.
+#[tactic(auto, unfolding(crate::specs::Scanned::more_of))]
 fn more(value: u64, c: u8) -> u64
     ensures { result ≡ more_of value c }
 {
     if LARGEST < value {
         return value;
     }
-    value * 10 + wide_byte(c) % 48
+    value * 10 + u64::from(c % b'0')
 }
 
 // Whether two words have the same letters.
+#[tactic(auto, using(crate::proofs::Laws::same_is))]
 pub fn same(a: &[u8], b: &[u8]) -> bool
     ensures { result ≡ same_word a.now b.now }
 {
-    if a.len() != b.len() {
-        return false;
-    }
-    let mut i: usize = 0;
-    while i < a.len() {
-        if a[i] != b[i] {
-            return false;
-        }
-        i += 1;
-    }
-    true
+    a == b
 }
 
 // A part of a text; nothing where it has none.
 pub fn part(s: &[u8], a: usize, e: usize) -> &[u8]
     ensures { result.now ≡ slice a e s.now }
 {
-    if s.len() < e {
-        if s.len() < a {
-            return &s[0..0];
-        }
-        return &s[a..];
-    }
-    if e < a {
-        return &s[0..0];
-    }
-    &s[a..e]
+    s.get(a..e.min(s.len())).unwrap_or(&[])
 }
 
-// The mark that a word is; 0 where it is a name.
-fn reserved(w: &[u8]) -> u32
+// The words of the notation, in the order of their marks.
+const WORDS: [&[u8]; 7] = [
+    b"something",
+    b"integer",
+    b"list",
+    b"multiset",
+    b"matchAll",
+    b"as",
+    b"with",
+];
+
+// The mark of the first of them.
+const SOMETHING: u32 = 10;
+
+// The place of a word among these.
+#[tactic(auto, unfolding(notation_rules::specs::Letters::spell_mark))]
+fn place_of(w: &[u8]) -> Option<usize>
+    ensures { result ≡ position (λ x. same_word x w.now) words }
+{
+    WORDS.iter().position(|word| same(word, w))
+}
+
+// The mark that a word is, where it is no name.
+#[tactic(auto, unfolding(crate::specs::Scanned::reserved_of))]
+fn reserved(w: &[u8]) -> Option<u32>
     ensures { result ≡ reserved_of w.now }
 {
-    if same(b"something", w) {
-        return 10;
-    }
-    if same(b"integer", w) {
-        return 11;
-    }
-    if same(b"list", w) {
-        return 12;
-    }
-    if same(b"multiset", w) {
-        return 13;
-    }
-    if same(b"matchAll", w) {
-        return 14;
-    }
-    if same(b"as", w) {
-        return 15;
-    }
-    if same(b"with", w) {
-        return 16;
-    }
-    0
+    let place = place_of(w)?;
+    Some(SOMETHING + place as u32)
 }
 
 // A word's token.
+#[tactic(auto, unfolding(crate::specs::Scanned::word_kind))]
 fn word_kind(w: &[u8]) -> u32
     ensures { result ≡ word_kind w.now }
 {
-    let m = reserved(w);
-    if m == 0 {
-        return USES;
-    }
-    m
+    reserved(w).unwrap_or(USES)
 }
 
 // The token of `$` and a name, which is no word of the notation.
+#[tactic(auto, unfolding(crate::specs::Scanned::name_kind))]
 fn name_kind(w: &[u8]) -> u32
     ensures { result ≡ name_kind w.now }
 {
-    if reserved(w) == 0 {
-        return BINDS;
+    if reserved(w).is_none() {
+        BINDS
+    } else {
+        NO_SIGN
     }
-    NO_SIGN
 }
 
-// What was begun, as a token that ends here.
-fn finish(text: &[u8], b: Begun, to: usize) -> u32
-    ensures { result ≡ finished text.now b to }
-{
-    let state = b.state;
-    if state == FULL {
-        return b.kind;
+impl Begun {
+    // Nothing, from an index on.
+    #[tactic(auto, unfolding(crate::specs::Scanned::nothing))]
+    fn nothing(at: usize) -> Begun
+        ensures { result ≡ nothing at }
+    {
+        Begun {
+            state: BLANK,
+            kind: END,
+            value: 0,
+            from: at,
+            name: at,
+        }
     }
-    if state == DIGITS {
-        return if LARGEST < b.value { NO_NUMBER } else { NUMBER };
-    }
-    if state == WORD {
-        return word_kind(part(text, b.from, to));
-    }
-    if state == NAME {
-        return name_kind(part(text, b.name, to));
-    }
-    final_of(state)
-}
 
-// Whether what was begun is a token that ends before this character.
-fn whole_at(b: Begun, c: u8) -> bool
-    ensures { result ≡ whole_at b c }
-{
-    if b.state <= COMMENT {
-        return false;
+    // The number of the token that ends here.
+    #[tactic(auto, unfolding(crate::specs::Scanned::finished))]
+    fn finish(self, text: &[u8], to: usize) -> u32
+        ensures { result ≡ finished text.now self to }
+    {
+        match self.state {
+            FULL => self.kind,
+            DIGITS => if LARGEST < self.value {
+                NO_NUMBER
+            } else {
+                NUMBER
+            },
+            WORD => word_kind(part(text, self.from, to)),
+            NAME => name_kind(part(text, self.name, to)),
+            state => final_of(state),
+        }
     }
-    next_of(b.state, char_of(c)) == STOP
-}
 
-// What is begun with this character: it goes on, or it is anew. The character stands at i, and the next at e.
-fn advance(b: Begun, c: u8, i: usize, e: usize) -> Begun
-    ensures { result ≡ advanced b c i e }
-{
-    let k = char_of(c);
-    let n = next_of(b.state, k);
-    if n == STOP {
-        return Begun {
-            state: begin_of(k),
-            kind: k / 16,
-            value: more(0, c),
-            from: i,
-            name: e,
-        };
+    // The token that ends here.
+    #[tactic(auto, unfolding(crate::specs::Scanned::token))]
+    fn token(self, text: &[u8], to: usize) -> Token
+        ensures { result ≡ token text.now self to }
+    {
+        Token {
+            kind: self.finish(text, to),
+            value: self.value,
+            from: self.from,
+            name: self.name,
+            to,
+        }
     }
-    Begun {
-        state: n,
-        kind: b.kind,
-        value: more(b.value, c),
-        from: b.from,
-        name: b.name,
+
+    // Whether this is a token that ends before this character.
+    #[tactic(auto, unfolding(crate::specs::Scanned::whole_at))]
+    fn is_whole(self, c: u8) -> bool
+        ensures { result ≡ whole_at self c }
+    {
+        COMMENT < self.state && next_of(self.state, char_of(c)) == STOP
+    }
+
+    // What is begun with this character: it goes on, or it is anew. The character stands at i, and the next at e.
+    #[tactic(auto, unfolding(crate::specs::Scanned::advanced))]
+    fn advance(self, c: u8, i: usize, e: usize) -> Begun
+        ensures { result ≡ advanced self c i e }
+    {
+        let k = char_of(c);
+        let n = next_of(self.state, k);
+        if n == STOP {
+            return Begun {
+                state: begin_of(k),
+                kind: k / SPLIT,
+                value: more(0, c),
+                from: i,
+                name: e,
+            };
+        }
+        Begun {
+            state: n,
+            value: more(self.value, c),
+            ..self
+        }
     }
 }
 
 // The first token from an index on, or the end of the text.
+#[tactic(auto, using(crate::proofs::Laws::scan_rules))]
 pub fn scan(text: &[u8], at: usize) -> Token
     ensures { result ≡ scanned text.now at }
 {
-    let mut b = Begun {
-        state: BLANK,
-        kind: END,
-        value: 0,
-        from: at,
-        name: at,
-    };
-    let mut i = at;
-    while i < text.len() {
+    let end = at.max(text.len());
+    let mut begun = Begun::nothing(at);
+    for i in at..end {
         let c = text[i];
-        if whole_at(b, c) {
-            return Token {
-                kind: finish(text, b, i),
-                value: b.value,
-                from: b.from,
-                name: b.name,
-                to: i,
-            };
+        if begun.is_whole(c) {
+            return begun.token(text, i);
         }
-        b = advance(b, c, i, i + 1);
-        i += 1;
+        begun = begun.advance(c, i, i + 1);
     }
-    Token {
-        kind: finish(text, b, i),
-        value: b.value,
-        from: b.from,
-        name: b.name,
-        to: i,
-    }
+    begun.token(text, end)
 }

@@ -2,24 +2,25 @@
 use Rattle.std.specs.Prelude.{ℕ, zero, suc, ◌+◌, ◌-◌, ◌/◌, ◌%◌, ◌≤◌, ◌≡◌, refl, Bool, true, false, cond, List, eqb, leb, ℤ}
 use Rattle.std.proofs.Common.{arith, to_z}
 use Rattle.std.specs.Int.{w32}
-use Rattle.notation_step.specs.Stepped.{inserted, Puts, puts, putting_some, heading, bits_of, entry_at, put_at, Pile, piled, pushed, reach_of, placed, settling, settled, refused, headed_of, View, view, tag_bits, mode_bits, tag_word, next_place, appended, appending, too_large, signing, closing, crowded, comma_stand, comma_stack, sectioned, taking, action_at, stepped}
+use Rattle.notation_step.specs.Stepped.{inserted, Puts, puts, putting_some, heading, bits_of, waiting_at, put_at, piled, pushed, reach_of, placed, settling, settled, refused, bare_by, View, view, tag_bits, mode_bits, tag_word, next_place, appended, appending, too_large, signing, closing, crowded, comma_stand, comma_stack, sectioned, taking, action_at, stepped}
 use Rattle.notation_step.specs.declared.Stand.{Stand}
+use Rattle.notation_step.specs.declared.Waiting.{Waiting}
 
-pub settling_len : (stack : List ℕ) (s : Stand) (reach top start : ℕ) → (settling stack s reach top start).len ≡ s.len
+pub settling_len : (stack : List Waiting) (s : Stand) (reach top start : ℕ) → (settling stack s reach top start).len ≡ s.len
 unfolding settling placed
 settling_len stack s reach zero start = refl
-settling_len stack s reach (suc top) start = go (leb (entry_at stack 0 top % 8) reach) (settling_len stack s reach top (entry_at stack 16384 top))
+settling_len stack s reach (suc top) start = go (leb ((waiting_at stack top).tight % 8) reach) (settling_len stack s reach top (waiting_at stack top).start)
   where
-    go : (t : Bool) → (settling stack s reach top (entry_at stack 16384 top)).len ≡ s.len → (cond t (placed s (suc top) start) (settling stack s reach top (entry_at stack 16384 top))).len ≡ s.len
+    go : (t : Bool) → (settling stack s reach top (waiting_at stack top).start).len ≡ s.len → (cond t (placed s (suc top) start) (settling stack s reach top (waiting_at stack top).start)).len ≡ s.len
     go true e = refl
     go false e = e
 
-pub settling_top : (stack : List ℕ) (s : Stand) (reach top start : ℕ) → (settling stack s reach top start).top ≤ top
+pub settling_top : (stack : List Waiting) (s : Stand) (reach top start : ℕ) → (settling stack s reach top start).top ≤ top
 unfolding settling placed
 settling_top stack s reach zero start = omega arith
-settling_top stack s reach (suc top) start = go (leb (entry_at stack 0 top % 8) reach) (settling_top stack s reach top (entry_at stack 16384 top))
+settling_top stack s reach (suc top) start = go (leb ((waiting_at stack top).tight % 8) reach) (settling_top stack s reach top (waiting_at stack top).start)
   where
-    go : (t : Bool) → (settling stack s reach top (entry_at stack 16384 top)).top ≤ top → (cond t (placed s (suc top) start) (settling stack s reach top (entry_at stack 16384 top))).top ≤ suc top
+    go : (t : Bool) → (settling stack s reach top (waiting_at stack top).start).top ≤ top → (cond t (placed s (suc top) start) (settling stack s reach top (waiting_at stack top).start)).top ≤ suc top
     go true e = omega arith
     go false e = omega arith
 
@@ -31,19 +32,19 @@ some_len ws len some u = go (eqb some 0)
     go true = omega arith
     go false = omega arith
 
-head_len : (ws : List ℤ) (len start some tag parts : ℕ) → (heading ws len start some tag parts).len ≤ len + 2
+head_len : (ws : List ℤ) (len start : ℕ) (bare : Bool) (tag parts : ℕ) → (heading ws len start bare tag parts).len ≤ len + 2
 unfolding heading puts
-head_len ws len start some tag parts = go (eqb some 0)
+head_len ws len start bare tag parts = go bare
   where
     go : (t : Bool) → (cond t (puts ws len) (puts (inserted (inserted ws len start (to_z w32 parts)) (len + 1) start (to_z w32 tag)) (len + 2))).len ≤ len + 2
     go true = omega arith
     go false = omega arith
 
-push_top : (stack : List ℕ) (top some start : ℕ) → (pushed stack top some start).top ≤ top + 1
+push_top : (stack : List Waiting) (top some start : ℕ) → (pushed stack top some start).top ≤ top + 1
 unfolding pushed piled
 push_top stack top some start = go (eqb some 0)
   where
-    go : (t : Bool) → (cond t (piled stack top) (piled (put_at (put_at (put_at stack 0 top ((some % 16 + 15) % 16)) 16384 top start) 32768 top 0) (top + 1))).top ≤ top + 1
+    go : (t : Bool) → (cond t (piled stack top) (piled (put_at stack top (record { tight = (some % 16 + 15) % 16; start = start; parts = 0 })) (top + 1))).top ≤ top + 1
     go true = omega arith
     go false = omega arith
 
@@ -56,11 +57,11 @@ either : (s : Stand) (t : Bool) (x y : View) → Near s x → Near s y → Near 
 either s true x y a b = a
 either s false x y a b = b
 
-refused_near : (stack : List ℕ) (ws : List ℤ) (s : Stand) (c : ℕ) → Near s (view (refused s c) stack ws)
+refused_near : (stack : List Waiting) (ws : List ℤ) (s : Stand) (c : ℕ) → Near s (view (refused s c) stack ws)
 unfolding view refused
 refused_near stack ws s c = record { len = omega arith; top = omega arith }
 
-appended_near : (stack : List ℕ) (ws : List ℤ) (s : Stand) (a value : ℕ) → Near s (appended stack ws s a value)
+appended_near : (stack : List Waiting) (ws : List ℤ) (s : Stand) (a value : ℕ) → Near s (appended stack ws s a value)
 unfolding appended view
 appended_near stack ws s a value =
     let n : Puts = putting_some ws s.len (tag_bits a) (tag_word a) in
@@ -70,22 +71,22 @@ appended_near stack ws s a value =
     let z = some_len m.words m.len (a / 16384 % 2) 0 in
     record { len = omega arith; top = push_top stack s.top (a / 32768 % 16) s.len }
 
-appending_near : (stack : List ℕ) (ws : List ℤ) (s : Stand) (a value : ℕ) → Near s (appending stack ws s a value)
+appending_near : (stack : List Waiting) (ws : List ℤ) (s : Stand) (a value : ℕ) → Near s (appending stack ws s a value)
 unfolding appending
 appending_near stack ws s a value = either s (too_large (mode_bits a) value) (view (refused s 8) stack ws) (appended stack ws s a value) (refused_near stack ws s 8) (appended_near stack ws s a value)
 
-signing_near : (stack : List ℕ) (ws : List ℤ) (s : Stand) (a : ℕ) → Near s (signing stack ws s a)
+signing_near : (stack : List Waiting) (ws : List ℤ) (s : Stand) (a : ℕ) → Near s (signing stack ws s a)
 unfolding signing view
 signing_near stack ws s a = record { len = omega arith; top = push_top stack s.top (a / 32768 % 16) s.start }
 
-closing_near : (stack : List ℕ) (ws : List ℤ) (s : Stand) (a more : ℕ) → Near s (closing stack ws s a more)
+closing_near : (stack : List Waiting) (ws : List ℤ) (s : Stand) (a more : ℕ) → Near s (closing stack ws s a more)
 unfolding closing view
 closing_near stack ws s a more =
     let j : ℕ = s.top - 1 in
-    let h = head_len ws s.len (entry_at stack 16384 j) (headed_of (entry_at stack 0 j) (entry_at stack 32768 j)) (tag_word a) (bits_of 0 (entry_at stack 32768 j % 1048576 + more)) in
+    let h = head_len ws s.len (waiting_at stack j).start (bare_by (waiting_at stack j).tight (waiting_at stack j).parts) (tag_word a) (bits_of 0 ((waiting_at stack j).parts % 1048576 + more)) in
     record { len = omega arith; top = omega arith }
 
-comma_near : (stack : List ℕ) (ws : List ℤ) (s : Stand) (a : ℕ) → Near s (view (comma_stand stack s a) (comma_stack stack s) ws)
+comma_near : (stack : List Waiting) (ws : List ℤ) (s : Stand) (a : ℕ) → Near s (view (comma_stand stack s a) (comma_stack stack s) ws)
 unfolding view comma_stand refused
 comma_near stack ws s a = go (crowded stack s)
   where
@@ -93,11 +94,11 @@ comma_near stack ws s a = go (crowded stack s)
     go true = record { len = omega arith; top = omega arith }
     go false = record { len = omega arith; top = omega arith }
 
-section_near : (stack : List ℕ) (ws : List ℤ) (s : Stand) (a : ℕ) → Near s (view (sectioned s a) stack ws)
+section_near : (stack : List Waiting) (ws : List ℤ) (s : Stand) (a : ℕ) → Near s (view (sectioned s a) stack ws)
 unfolding view sectioned
 section_near stack ws s a = record { len = omega arith; top = omega arith }
 
-taking_near : (stack : List ℕ) (ws : List ℤ) (s : Stand) (a value : ℕ) → Near s (taking stack ws s a value)
+taking_near : (stack : List Waiting) (ws : List ℤ) (s : Stand) (a value : ℕ) → Near s (taking stack ws s a value)
 unfolding taking
 taking_near stack ws s a value =
     either s (eqb (a % 8) 1) (appending stack ws s a value) _ (appending_near stack ws s a value)
@@ -107,7 +108,7 @@ taking_near stack ws s a value =
     (either s (eqb (a % 8) 5) (closing stack ws s a 0) _ (closing_near stack ws s a 0)
     (either s (eqb (a % 8) 6) (view (sectioned s a) stack ws) (view (refused s 2) stack ws) (section_near stack ws s a) (refused_near stack ws s 2))))))
 
-pub stepped_near : (stack : List ℕ) (ws : List ℤ) (s : Stand) (kind value : ℕ) → Near s (stepped stack ws s kind value)
+pub stepped_near : (stack : List Waiting) (ws : List ℤ) (s : Stand) (kind value : ℕ) → Near s (stepped stack ws s kind value)
 unfolding stepped settled
 stepped_near stack ws s kind value =
     let t : Stand = settled stack s (reach_of s.place kind) in

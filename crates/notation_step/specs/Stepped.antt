@@ -1,8 +1,9 @@
 -- What the code of the automaton computes.
-use Rattle.std.specs.Prelude.{ℕ, zero, suc, ◌+◌, ◌-◌, ◌*◌, ◌/◌, ◌%◌, Bool, true, false, cond, List, [], ◌∷◌, ◌++◌, length, get_or, drop, take, set, eqb, ltb, leb, ℤ}
+use Rattle.std.specs.Prelude.{ℕ, zero, suc, ◌+◌, ◌-◌, ◌*◌, ◌/◌, ◌%◌, Bool, false, cond, List, [], ◌∷◌, ◌++◌, get_or, drop, take, set, eqb, ltb, leb, ℤ}
 use Rattle.std.specs.Int.{w32}
 use Rattle.std.proofs.Common.{to_z}
 use Rattle.notation_step.specs.declared.Stand.{Stand}
+use Rattle.notation_step.specs.declared.Waiting.{Waiting}
 
 -- The code's tables.
 abbrev pub actions : List ℕ
@@ -39,41 +40,44 @@ unfoldable pub putting_some : List ℤ → (len some u : ℕ) → Puts
 unfolding puts inserted
 putting_some ws len some u = cond (eqb some 0) (puts ws len) (puts (inserted ws len len (to_z w32 u)) (len + 1))
 
-unfoldable pub heading : List ℤ → (len start some tag parts : ℕ) → Puts
+unfoldable pub heading : List ℤ → (len start : ℕ) → (bare : Bool) → (tag parts : ℕ) → Puts
 unfolding puts inserted
-heading ws len start some tag parts = cond (eqb some 0) (puts ws len) (puts (inserted (inserted ws len start (to_z w32 parts)) (len + 1) start (to_z w32 tag)) (len + 2))
+heading ws len start bare tag parts = cond bare (puts ws len) (puts (inserted (inserted ws len start (to_z w32 parts)) (len + 1) start (to_z w32 tag)) (len + 2))
 
 -- The bits of a number's word.
 unfoldable pub bits_of : (mode value : ℕ) → ℕ
 bits_of mode value = cond (eqb mode 2) ((4294967296 - value % 4294967296) % 4294967296) (value % 4294967296)
 
 -- ---- What waits.
-unfoldable pub entry_at : List ℕ → (section j : ℕ) → ℕ
-entry_at stack section j = cond (ltb j 16384) (get_or stack (section + j) 0) 0
+abbrev pub nothing : Waiting
+nothing = record { tight = 0; start = 0; parts = 0 }
 
-unfoldable pub put_at : List ℕ → (section j x : ℕ) → List ℕ
-put_at stack section j x = cond (ltb j 16384) (set stack (section + j) x) stack
+unfoldable pub waiting_at : List Waiting → (j : ℕ) → Waiting
+waiting_at stack j = cond (ltb j 16384) (get_or stack j nothing) nothing
+
+unfoldable pub put_at : List Waiting → (j : ℕ) → Waiting → List Waiting
+put_at stack j x = cond (ltb j 16384) (set stack j x) stack
 
 pub record Pile : Type 0 where
-  pub stack : List ℕ
+  pub stack : List Waiting
   pub top : ℕ
 
-unfoldable pub piled : List ℕ → ℕ → Pile
+unfoldable pub piled : List Waiting → ℕ → Pile
 piled stack top = record { stack = stack; top = top }
 
-unfoldable pub pushed : List ℕ → (top some start : ℕ) → Pile
+unfoldable pub pushed : List Waiting → (top some start : ℕ) → Pile
 unfolding piled put_at
-pushed stack top some start = cond (eqb some 0) (piled stack top) (piled (put_at (put_at (put_at stack 0 top ((some % 16 + 15) % 16)) 16384 top start) 32768 top 0) (top + 1))
+pushed stack top some start = cond (eqb some 0) (piled stack top) (piled (put_at stack top (record { tight = (some % 16 + 15) % 16; start = start; parts = 0 })) (top + 1))
 
 -- ---- Tables.
 unfoldable pub reach_of : (place kind : ℕ) → ℕ
 reach_of place kind = cond (eqb place 9) 0 (cond (eqb place 20) (get_or reaches (kind % 24) 0) 9)
 
-unfoldable pub shade_of : List ℕ → (top : ℕ) → ℕ
-unfolding entry_at
+unfoldable pub shade_of : List Waiting → (top : ℕ) → ℕ
+unfolding waiting_at
 shade_of stack top = cond (eqb top 0) 0
-    (cond (eqb (entry_at stack 0 (top - 1)) 0) 1
-    (cond (eqb (entry_at stack 0 (top - 1)) 8) (cond (eqb (entry_at stack 32768 (top - 1)) 0) 3 2) 0))
+    (cond (eqb (waiting_at stack (top - 1)).tight 0) 1
+    (cond (eqb (waiting_at stack (top - 1)).tight 8) (cond (eqb (waiting_at stack (top - 1)).parts 0) 3 2) 0))
 
 unfoldable pub row_of : (place shade : ℕ) → ℕ
 row_of place shade = get_or rows ((place % 22 * 4 + shade % 4) % 88) 0
@@ -86,12 +90,12 @@ unfoldable pub placed : Stand → (top start : ℕ) → Stand
 placed s top start = record { place = s.place; top = top; len = s.len; start = start; matcher = s.matcher; pattern = s.pattern; cause = s.cause }
 
 -- All that is tighter ends here, from the top down.
-unfoldable pub settling : List ℕ → Stand → (reach : ℕ) → (top start : ℕ) → Stand
-unfolding placed entry_at
+unfoldable pub settling : List Waiting → Stand → (reach : ℕ) → (top start : ℕ) → Stand
+unfolding placed waiting_at
 settling stack s reach zero start = placed s 0 start
-settling stack s reach (suc top) start = cond (leb (entry_at stack 0 top % 8) reach) (placed s (suc top) start) (settling stack s reach top (entry_at stack 16384 top))
+settling stack s reach (suc top) start = cond (leb ((waiting_at stack top).tight % 8) reach) (placed s (suc top) start) (settling stack s reach top (waiting_at stack top).start)
 
-unfoldable pub settled : List ℕ → Stand → (reach : ℕ) → Stand
+unfoldable pub settled : List Waiting → Stand → (reach : ℕ) → Stand
 unfolding settling
 settled stack s reach = settling stack s reach s.top s.start
 
@@ -101,15 +105,16 @@ refused s c = record { place = s.place; top = s.top; len = s.len; start = s.star
 unfoldable pub start_of : Stand → (tag : ℕ) → ℕ
 start_of s tag = cond (eqb tag 0) s.start s.len
 
-unfoldable pub headed_of : (kind count : ℕ) → ℕ
-headed_of kind count = cond (eqb kind 0) (cond (eqb count 0) 0 1) 1
+-- Whether a bracket's end has no words.
+unfoldable pub bare_by : (kind count : ℕ) → Bool
+bare_by kind count = cond (eqb kind 0) (eqb count 0) false
 
 pub record View : Type 0 where
   pub stand : Stand
-  pub stack : List ℕ
+  pub stack : List Waiting
   pub words : List ℤ
 
-unfoldable pub view : Stand → List ℕ → List ℤ → View
+unfoldable pub view : Stand → List Waiting → List ℤ → View
 view s stack words = record { stand = s; stack = stack; words = words }
 
 -- The bits of an action.
@@ -125,7 +130,7 @@ mode_bits a = a / 4096 % 4
 abbrev pub tag_word : ℕ → ℕ
 tag_word a = (tag_bits a + 15) % 16
 
-unfoldable pub appended : List ℕ → List ℤ → Stand → (a value : ℕ) → View
+unfoldable pub appended : List Waiting → List ℤ → Stand → (a value : ℕ) → View
 unfolding view putting_some bits_of pushed start_of
 appended stack words s a value =
     let n : Puts = putting_some words s.len (tag_bits a) (tag_word a) in
@@ -137,44 +142,44 @@ appended stack words s a value =
 unfoldable pub too_large : (mode value : ℕ) → Bool
 too_large mode value = cond (eqb mode 1) (leb 2147483648 value) (cond (eqb mode 2) (ltb 2147483648 value) false)
 
-unfoldable pub appending : List ℕ → List ℤ → Stand → (a value : ℕ) → View
+unfoldable pub appending : List Waiting → List ℤ → Stand → (a value : ℕ) → View
 unfolding appended refused view too_large
 appending stack words s a value = cond (too_large (mode_bits a) value) (view (refused s 8) stack words) (appended stack words s a value)
 
-unfoldable pub signing : List ℕ → List ℤ → Stand → (a : ℕ) → View
+unfoldable pub signing : List Waiting → List ℤ → Stand → (a : ℕ) → View
 unfolding view inserted pushed
 signing stack words s a =
     let q : Pile = pushed stack s.top (a / 32768 % 16) s.start in
     view (record { place = next_place a; top = q.top; len = s.len + 1; start = s.start; matcher = s.matcher; pattern = s.pattern; cause = 0 }) q.stack (inserted words s.len s.start (to_z w32 (tag_word a)))
 
-unfoldable pub closing : List ℕ → List ℤ → Stand → (a more : ℕ) → View
-unfolding view heading headed_of entry_at bits_of
+unfoldable pub closing : List Waiting → List ℤ → Stand → (a more : ℕ) → View
+unfolding view heading bare_by waiting_at bits_of
 closing stack words s a more =
     let j : ℕ = s.top - 1 in
-    let h : Puts = heading words s.len (entry_at stack 16384 j) (headed_of (entry_at stack 0 j) (entry_at stack 32768 j)) (tag_word a) (bits_of 0 (entry_at stack 32768 j % 1048576 + more)) in
-    view (record { place = next_place a; top = j; len = h.len; start = entry_at stack 16384 j; matcher = s.matcher; pattern = s.pattern; cause = 0 }) stack h.words
+    let h : Puts = heading words s.len (waiting_at stack j).start (bare_by (waiting_at stack j).tight (waiting_at stack j).parts) (tag_word a) (bits_of 0 ((waiting_at stack j).parts % 1048576 + more)) in
+    view (record { place = next_place a; top = j; len = h.len; start = (waiting_at stack j).start; matcher = s.matcher; pattern = s.pattern; cause = 0 }) stack h.words
 
 -- Whether a comma is one too many.
 unfoldable pub crowded_by : (kind count : ℕ) → Bool
 crowded_by kind count = cond (eqb kind 0) (leb 3 count) false
 
-unfoldable pub crowded : List ℕ → Stand → Bool
-unfolding entry_at crowded_by
-crowded stack s = crowded_by (entry_at stack 0 (s.top - 1)) (entry_at stack 32768 (s.top - 1))
+unfoldable pub crowded : List Waiting → Stand → Bool
+unfolding waiting_at crowded_by
+crowded stack s = crowded_by (waiting_at stack (s.top - 1)).tight (waiting_at stack (s.top - 1)).parts
 
-unfoldable pub comma_stand : List ℕ → Stand → (a : ℕ) → Stand
+unfoldable pub comma_stand : List Waiting → Stand → (a : ℕ) → Stand
 unfolding crowded refused
 comma_stand stack s a = cond (crowded stack s) (refused s 9)
     (record { place = next_place a; top = s.top; len = s.len; start = s.start; matcher = s.matcher; pattern = s.pattern; cause = 0 })
 
-unfoldable pub comma_stack : List ℕ → Stand → List ℕ
-unfolding crowded put_at entry_at
-comma_stack stack s = cond (crowded stack s) stack (put_at stack 32768 (s.top - 1) (entry_at stack 32768 (s.top - 1) % 1048576 + 1))
+unfoldable pub comma_stack : List Waiting → Stand → List Waiting
+unfolding crowded put_at waiting_at
+comma_stack stack s = cond (crowded stack s) stack (put_at stack (s.top - 1) (record { tight = (waiting_at stack (s.top - 1)).tight; start = (waiting_at stack (s.top - 1)).start; parts = (waiting_at stack (s.top - 1)).parts % 1048576 + 1 }))
 
 unfoldable pub sectioned : Stand → (a : ℕ) → Stand
 sectioned s a = record { place = next_place a; top = s.top; len = s.len; start = s.start; matcher = s.pattern; pattern = s.len; cause = 0 }
 
-unfoldable pub taking : List ℕ → List ℤ → Stand → (a value : ℕ) → View
+unfoldable pub taking : List Waiting → List ℤ → Stand → (a value : ℕ) → View
 unfolding view appending signing closing comma_stand comma_stack sectioned refused
 taking stack words s a value = cond (eqb (a % 8) 1) (appending stack words s a value)
     (cond (eqb (a % 8) 2) (signing stack words s a)
@@ -184,15 +189,15 @@ taking stack words s a value = cond (eqb (a % 8) 1) (appending stack words s a v
     (cond (eqb (a % 8) 6) (view (sectioned s a) stack words)
     (view (refused s 2) stack words))))))
 
-unfoldable pub action_at : List ℕ → Stand → (kind : ℕ) → ℕ
+unfoldable pub action_at : List Waiting → Stand → (kind : ℕ) → ℕ
 unfolding action_of row_of shade_of
 action_at stack s kind = action_of (row_of s.place (shade_of stack s.top)) kind
 
-unfoldable pub stepped : List ℕ → List ℤ → Stand → (kind value : ℕ) → View
+unfoldable pub stepped : List Waiting → List ℤ → Stand → (kind value : ℕ) → View
 unfolding view refused taking action_at settled reach_of
 stepped stack words s kind value = cond (leb 24 kind) (view (refused s (kind - 24)) stack words)
     (taking stack words (settled stack s (reach_of s.place kind)) (action_at stack (settled stack s (reach_of s.place kind)) kind) value)
 
-unfoldable pub end_of : List ℕ → Stand → ℕ
+unfoldable pub end_of : List Waiting → Stand → ℕ
 unfolding settled
 end_of stack s = cond (ltb 0 (settled stack s 0).top) 4 (get_or ends (s.place % 22) 0)

@@ -2,13 +2,12 @@
 // part once its sign or its bracket's end is read. What each place does with each token stands in one table.
 #![tactic(auto)]
 
-ghost use Rattle.std.specs.Prelude.{◌≡◌, ◌<◌, ◌≤◌, ◌^◌, ◌-◌};
+ghost use Rattle.std.specs.Prelude.{◌≡◌, ◌<◌, ◌≤◌, ◌^◌, ◌-◌, ◌/◌, ◌%◌};
 ghost use Rattle.std.specs.Int.{w32};
 ghost use Rattle.std.proofs.Common.{to_z};
-ghost use Rattle.notation_step.specs.Stepped.{inserted, puts, putting_some, bits_of, entry_at, put_at, reach_of, shade_of, row_of, action_of, settled, refused as Stepped·refused, start_of, piled, pushed, view, appending, too_large, signing, heading, headed_of, crowded_by, closing, comma_stand, comma_stack, sectioned, taking, stepped, end_of};
+ghost use Rattle.notation_step.specs.Stepped.{inserted, puts, putting_some, bits_of, waiting_at, put_at, reach_of, shade_of, row_of, action_of, settled, refused as Stepped·refused, start_of, piled, pushed, view, appending, too_large, signing, heading, bare_by, next_place, tag_bits, tag_word, mode_bits, crowded_by, closing, comma_stand, comma_stack, sectioned, taking, stepped, end_of};
 
-use words::casts::{index, wide_index};
-use words::{bits, of_bits};
+use std::mem;
 
 // Where the automaton stands: the place; how many wait; the words so far, and where those of what was read last begin; where the matcher's and the
 // pattern's begin; and why the text is refused, 0 where it is not.
@@ -26,27 +25,36 @@ pub struct Stand {
 // At most so many wait at once, in a text of as many characters.
 pub const FRAMES: usize = 16384;
 
-// What waits, in three sections: how tight it is (0 a round bracket, 1 to 4 signs, 5 `list` and `multiset`, 8 a square bracket); where its words begin; how
-// many of its parts are read.
-pub type Stack = [usize; 49152];
+// What waits: how tight it is (0 a round bracket, 1 to 4 signs, 5 `list` and `multiset`, 8 a square bracket: numbers, since the table `actions` of the specs
+// holds them); where its words begin; how many of its parts are read.
+#[derive(Clone, Copy)]
+pub struct Waiting {
+    pub tight: usize,
+    pub start: usize,
+    pub parts: usize,
+}
 
-const STARTS: usize = 16384;
+pub const NOTHING: Waiting = Waiting {
+    tight: 0,
+    start: 0,
+    parts: 0,
+};
 
-const COUNTS: usize = 32768;
+pub type Stack = [Waiting; 16384];
 
 const ROUND: usize = 0;
 
 const SQUARE: usize = 8;
 
-// The places. Three more rows of the table are places inside a bracket: 2 after a `[`, 5 and 6, 10, 21 after a part.
+// The places. Three more rows of the table are places inside a bracket: 2 after a `[`, 5 and 6, 10, 21 after a part. Places, what is done and causes are
+// numbers, since the tables of the specs (`actions`, `rows`, `ends`) and theorems of notation_grammar (`Follows`, `Finished`, `At`) hold them.
 pub const START: u32 = 0;
 
 const MATCHER_READ: u32 = 9;
 
 const PATTERN_READ: u32 = 20;
 
-// What a place does with a token, 24 to a row, the bits from the lowest: 3 what is done (0 nothing: it cannot stand here); 5 the next place; 4 the tag, one
-// more; 2 which number (1 plain, 2 behind a minus, 3 a variable's); 1 whether a 0 follows; 4 what waits then, one more.
+// What a place does with a token, 24 to a row, by the bits that Action reads.
 const ACTIONS: [u32; 528] = [
     0, 0, 0, 0, 0, 0, 0, 0, 0, 0, 0, 0, 0, 0, 9, 62, 0, 0, 0, 0, 0, 0, 0, 0, 0, 0, 0, 0, 25, 0,
     32777, 0, 294921, 0, 0, 0, 0, 0, 0, 0, 0, 0, 0, 0, 0, 0, 0, 4385, 0, 0, 0, 0, 25, 0, 32777, 0,
@@ -122,24 +130,74 @@ const WRONG: u32 = 24;
 
 const LARGEST: u64 = 2147483648;
 
+// What a place does with a token, in the bits of the table's entry: numbers, since theorems of notation_grammar speak of the entries.
+#[derive(Clone, Copy)]
+struct Action(u32);
+
+impl Action {
+    // One of APPEND to SECTION; any other: the token cannot stand here.
+    fn done(self) -> u32
+        ensures { result ≡ self.0 % 8 }
+    {
+        self.0 % 8
+    }
+
+    fn next_place(self) -> u32
+        ensures { result ≡ next_place self.0 }
+    {
+        self.0 / 8 % 32
+    }
+
+    // One more than the tag; 0: none.
+    fn some_tag(self) -> u32
+        ensures { result ≡ tag_bits self.0 }
+    {
+        self.0 / 256 % 16
+    }
+
+    fn tag(self) -> u32
+        ensures { result ≡ tag_word self.0 }
+    {
+        (self.some_tag() + 15) % 16
+    }
+
+    // Which number follows: 1 plain, 2 behind a minus, 3 a variable's; 0: none.
+    fn mode(self) -> u32
+        ensures { result ≡ mode_bits self.0 }
+    {
+        self.0 / 4096 % 4
+    }
+
+    // Whether a 0 follows.
+    fn zero(self) -> u32
+        ensures { result ≡ self.0 / 16384 % 2 }
+    {
+        self.0 / 16384 % 2
+    }
+
+    // One more than how tight it is that waits then; 0: nothing.
+    fn waits(self) -> u32
+        ensures { result ≡ self.0 / 32768 % 16 }
+    {
+        self.0 / 32768 % 16
+    }
+}
+
 // Puts the word of these bits before the words from an index on, of so many. What does not fit is lost.
 fn insert(words: &mut [i32], len: usize, at: usize, u: u32)
     ensures { words.new ≡ inserted words.old len at (to_z w32 u) }
 {
-    let mut j = at;
-    let mut c = u;
-    while j < words.len() {
+    let mut carried = u.cast_signed();
+    for j in at..words.len() {
         if len < j {
             return;
         }
-        let x = bits(words[j]);
-        words[j] = of_bits(c);
-        c = x;
-        j += 1;
+        carried = mem::replace(&mut words[j], carried);
     }
 }
 
 // A word behind the others, where there is one.
+#[tactic(auto, unfolding(crate::specs::Stepped::putting_some))]
 fn put_some(words: &mut [i32], len: usize, some: u32, u: u32) -> usize
     requires { len < 2 ^ 40 }
     ensures { puts words.new result ≡ putting_some words.old len some u }
@@ -152,6 +210,7 @@ fn put_some(words: &mut [i32], len: usize, some: u32, u: u32) -> usize
 }
 
 // The bits of a number's word.
+#[tactic(auto, unfolding(crate::specs::Stepped::bits_of))]
 fn bits_of(mode: u32, value: u64) -> u32
     ensures { result ≡ bits_of mode value }
 {
@@ -161,123 +220,96 @@ fn bits_of(mode: u32, value: u64) -> u32
     (value % 4294967296) as u32
 }
 
-// What stands in a section for the j-th that waits.
-fn entry(stack: &Stack, section: usize, j: usize) -> usize
-    requires { section ≤ 32768 }
-    ensures { result ≡ entry_at stack.now section j }
+// The j-th that waits.
+#[tactic(auto, unfolding(crate::specs::Stepped::waiting_at))]
+fn waiting_at(stack: &Stack, j: usize) -> Waiting
+    ensures { result ≡ waiting_at stack.now j }
 {
-    if j < FRAMES {
-        return stack[section + j];
-    }
-    0
+    if j < FRAMES { stack[j] } else { NOTHING }
 }
 
-fn put_entry(stack: &mut Stack, section: usize, j: usize, x: usize)
-    requires { section ≤ 32768 }
-    ensures { stack.new ≡ put_at stack.old section j x }
+#[tactic(auto, unfolding(crate::specs::Stepped::put_at))]
+fn put(stack: &mut Stack, j: usize, x: Waiting)
+    ensures { stack.new ≡ put_at stack.old j x }
 {
     if j < FRAMES {
-        stack[section + j] = x;
+        stack[j] = x;
     }
 }
 
 // How far a token reaches back from a place: nowhere but after a matcher or a pattern.
+#[tactic(auto, unfolding(crate::specs::Stepped::reach_of))]
 fn reach_of(place: u32, kind: u32) -> usize
     ensures { result ≡ reach_of place kind }
 {
-    if place == MATCHER_READ {
-        return 0;
+    match place {
+        MATCHER_READ => 0,
+        PATTERN_READ => REACH[(kind % 24) as usize],
+        _ => 9,
     }
-    if place == PATTERN_READ {
-        let i = index(kind % 24);
-        return REACH[i];
-    }
-    9
 }
 
 // All that is tighter ends here.
+#[tactic(auto, unfolding(crate::specs::Stepped::settled, crate::specs::Stepped::settling, crate::specs::Stepped::placed))]
 fn settle(stack: &Stack, s: Stand, reach: usize) -> Stand
     ensures { result ≡ settled stack.now s reach }
 {
-    let mut top = s.top;
     let mut start = s.start;
-    while 0 < top {
-        if entry(stack, 0, top - 1) % 8 <= reach {
+    for j in (0..s.top).rev() {
+        let last = waiting_at(stack, j);
+        if last.tight % 8 <= reach {
             return Stand {
-                place: s.place,
-                top,
-                len: s.len,
+                top: j + 1,
                 start,
-                matcher: s.matcher,
-                pattern: s.pattern,
-                cause: s.cause,
+                ..s
             };
         }
-        start = entry(stack, STARTS, top - 1);
-        top -= 1;
+        start = last.start;
     }
-    Stand {
-        place: s.place,
-        top: 0,
-        len: s.len,
-        start,
-        matcher: s.matcher,
-        pattern: s.pattern,
-        cause: s.cause,
-    }
+    Stand { top: 0, start, ..s }
 }
 
 // What waits last, as the rows tell it apart.
+#[tactic(auto, unfolding(crate::specs::Stepped::shade_of))]
 fn shade_of(stack: &Stack, top: usize) -> u32
     ensures { result ≡ shade_of stack.now top }
 {
     if top == 0 {
         return 0;
     }
-    let kind = entry(stack, 0, top - 1);
-    if kind == ROUND {
-        return 1;
+    let last = waiting_at(stack, top - 1);
+    match last.tight {
+        ROUND => 1,
+        SQUARE if last.parts == 0 => 3,
+        SQUARE => 2,
+        _ => 0,
     }
-    if kind == SQUARE {
-        return if entry(stack, COUNTS, top - 1) == 0 {
-            3
-        } else {
-            2
-        };
-    }
-    0
 }
 
+#[tactic(auto, unfolding(crate::specs::Stepped::row_of))]
 fn row_of(place: u32, shade: u32) -> u32
     ensures { result ≡ row_of place shade }
 {
-    let i = index((place % 22 * 4 + shade % 4) % 88);
-    ROWS[i]
+    ROWS[((place % 22 * 4 + shade % 4) % 88) as usize]
 }
 
-fn action_of(row: u32, kind: u32) -> u32
-    ensures { result ≡ action_of row kind }
+#[tactic(auto, unfolding(crate::specs::Stepped::action_of))]
+fn action_of(row: u32, kind: u32) -> Action
+    ensures { result.0 ≡ action_of row kind }
 {
-    let i = index((row % 22 * 24 + kind % 24) % 528);
-    ACTIONS[i]
+    Action(ACTIONS[((row % 22 * 24 + kind % 24) % 528) as usize])
 }
 
 // The same, refused.
+#[tactic(auto, unfolding(crate::specs::Stepped::refused))]
 fn refused(s: Stand, cause: u32) -> Stand
     ensures { result ≡ Stepped·refused s cause }
 {
-    Stand {
-        place: s.place,
-        top: s.top,
-        len: s.len,
-        start: s.start,
-        matcher: s.matcher,
-        pattern: s.pattern,
-        cause,
-    }
+    Stand { cause, ..s }
 }
 
 // Where the words of what is read begin: a tag begins them.
+#[tactic(auto, unfolding(crate::specs::Stepped::start_of))]
 fn start_of(s: Stand, tag: u32) -> usize
     ensures { result ≡ start_of s tag }
 {
@@ -285,6 +317,7 @@ fn start_of(s: Stand, tag: u32) -> usize
 }
 
 // Something more waits, where there is something.
+#[tactic(auto, unfolding(crate::specs::Stepped::pushed))]
 fn push(stack: &mut Stack, top: usize, some: u32, start: usize) -> usize
     requires { top < 2 ^ 40 }
     ensures { piled stack.new result ≡ pushed stack.old top some start }
@@ -292,65 +325,66 @@ fn push(stack: &mut Stack, top: usize, some: u32, start: usize) -> usize
     if some == 0 {
         return top;
     }
-    put_entry(stack, 0, top, index((some % 16 + 15) % 16));
-    put_entry(stack, STARTS, top, start);
-    put_entry(stack, COUNTS, top, 0);
+    let more = Waiting {
+        tight: ((some % 16 + 15) % 16) as usize,
+        start,
+        parts: 0,
+    };
+    put(stack, top, more);
     top + 1
 }
 
 // Whether a number is out of range, plain or behind a minus.
+#[tactic(auto, unfolding(crate::specs::Stepped::too_large))]
 fn too_large(mode: u32, value: u64) -> bool
     ensures { result ≡ too_large mode value }
 {
-    if mode == 1 {
-        return LARGEST <= value;
+    match mode {
+        1 => LARGEST <= value,
+        2 => LARGEST < value,
+        _ => false,
     }
-    if mode == 2 {
-        return LARGEST < value;
-    }
-    false
 }
 
 // Words behind the others, and something that waits.
-fn append(stack: &mut Stack, words: &mut [i32], s: Stand, a: u32, value: u64) -> Stand
+#[tactic(auto, unfolding(crate::specs::Stepped::appending, crate::specs::Stepped::appended, crate::specs::Stepped::puts, crate::specs::Stepped::piled, crate::specs::Stepped::view))]
+fn append(stack: &mut Stack, words: &mut [i32], s: Stand, a: Action, value: u64) -> Stand
     requires { (s.len < 2 ^ 32) × (s.top < 2 ^ 32) }
-    ensures { view result stack.new words.new ≡ appending stack.old words.old s a value }
+    ensures { view result stack.new words.new ≡ appending stack.old words.old s a.0 value }
 {
-    let tag = a / 256 % 16;
-    let mode = a / 4096 % 4;
+    let tag = a.some_tag();
+    let mode = a.mode();
     if too_large(mode, value) {
         return refused(s, OUT_OF_RANGE);
     }
-    let n = put_some(words, s.len, tag, (tag + 15) % 16);
+    let n = put_some(words, s.len, tag, a.tag());
     let m = put_some(words, n, mode, bits_of(mode, value));
-    let len = put_some(words, m, a / 16384 % 2, 0);
-    let top = push(stack, s.top, a / 32768 % 16, s.len);
+    let len = put_some(words, m, a.zero(), 0);
+    let top = push(stack, s.top, a.waits(), s.len);
     Stand {
-        place: a / 8 % 32,
+        place: a.next_place(),
         top,
         len,
         start: start_of(s, tag),
-        matcher: s.matcher,
-        pattern: s.pattern,
         cause: 0,
+        ..s
     }
 }
 
 // A sign: its tag goes before its first part, and it waits for the second.
-fn sign(stack: &mut Stack, words: &mut [i32], s: Stand, a: u32) -> Stand
+#[tactic(auto, unfolding(crate::specs::Stepped::signing, crate::specs::Stepped::piled, crate::specs::Stepped::view))]
+fn sign(stack: &mut Stack, words: &mut [i32], s: Stand, a: Action) -> Stand
     requires { (s.len < 2 ^ 32) × (s.top < 2 ^ 32) }
-    ensures { view result stack.new words.new ≡ signing stack.old words.old s a }
+    ensures { view result stack.new words.new ≡ signing stack.old words.old s a.0 }
 {
-    insert(words, s.len, s.start, (a / 256 % 16 + 15) % 16);
-    let top = push(stack, s.top, a / 32768 % 16, s.start);
+    insert(words, s.len, s.start, a.tag());
+    let top = push(stack, s.top, a.waits(), s.start);
     Stand {
-        place: a / 8 % 32,
+        place: a.next_place(),
         top,
         len: s.len + 1,
-        start: s.start,
-        matcher: s.matcher,
-        pattern: s.pattern,
         cause: 0,
+        ..s
     }
 }
 
@@ -358,30 +392,24 @@ fn sign(stack: &mut Stack, words: &mut [i32], s: Stand, a: u32) -> Stand
 fn below(top: usize) -> usize
     ensures { result ≡ top - 1 }
 {
-    if top == 0 {
-        return 0;
-    }
-    top - 1
+    top.saturating_sub(1)
 }
 
-// Whether a bracket's end has words: not that of a round bracket around one part.
-fn headed(kind: usize, count: usize) -> u32
-    ensures { result ≡ headed_of kind count }
+// Whether a bracket's end has no words: that of a round bracket around one part.
+#[tactic(auto, unfolding(crate::specs::Stepped::bare_by))]
+fn is_bare(kind: usize, count: usize) -> bool
+    ensures { result ≡ bare_by kind count }
 {
-    if kind == ROUND {
-        if count == 0 {
-            return 0;
-        }
-    }
-    1
+    kind == ROUND && count == 0
 }
 
 // A tag and the number of its parts before the words from an index on, where there are any.
-fn put_head(words: &mut [i32], len: usize, start: usize, some: u32, tag: u32, parts: u32) -> usize
+#[tactic(auto, unfolding(crate::specs::Stepped::heading))]
+fn put_head(words: &mut [i32], len: usize, start: usize, bare: bool, tag: u32, parts: u32) -> usize
     requires { len < 2 ^ 32 }
-    ensures { puts words.new result ≡ heading words.old len start some tag parts }
+    ensures { puts words.new result ≡ heading words.old len start bare tag parts }
 {
-    if some == 0 {
+    if bare {
         return len;
     }
     insert(words, len, start, parts);
@@ -390,102 +418,89 @@ fn put_head(words: &mut [i32], len: usize, start: usize, some: u32, tag: u32, pa
 }
 
 // A bracket ends, with one part more or none.
-fn close(stack: &Stack, words: &mut [i32], s: Stand, a: u32, more: u64) -> Stand
+#[tactic(auto, unfolding(crate::specs::Stepped::closing, crate::specs::Stepped::puts, crate::specs::Stepped::view))]
+fn close(stack: &Stack, words: &mut [i32], s: Stand, a: Action, more: u64) -> Stand
     requires { (s.len < 2 ^ 32) × (more ≤ 1) }
-    ensures { view result stack.now words.new ≡ closing stack.now words.old s a more }
+    ensures { view result stack.now words.new ≡ closing stack.now words.old s a.0 more }
 {
     let j = below(s.top);
-    let start = entry(stack, STARTS, j);
-    let count = entry(stack, COUNTS, j);
-    let some = headed(entry(stack, 0, j), count);
-    let tag = (a / 256 % 16 + 15) % 16;
-    let parts = bits_of(0, wide_index(count % 1048576) + more);
-    let len = put_head(words, s.len, start, some, tag, parts);
+    let last = waiting_at(stack, j);
+    let bare = is_bare(last.tight, last.parts);
+    let parts = bits_of(0, (last.parts % 1048576) as u64 + more);
+    let len = put_head(words, s.len, last.start, bare, a.tag(), parts);
     Stand {
-        place: a / 8 % 32,
+        place: a.next_place(),
         top: j,
         len,
-        start,
-        matcher: s.matcher,
-        pattern: s.pattern,
+        start: last.start,
         cause: 0,
+        ..s
     }
 }
 
 // Whether a comma is one too many: a round bracket has at most four parts.
+#[tactic(auto, unfolding(crate::specs::Stepped::crowded_by))]
 fn crowded(kind: usize, count: usize) -> bool
     ensures { result ≡ crowded_by kind count }
 {
-    if kind == ROUND {
-        return 3 <= count;
-    }
-    false
+    kind == ROUND && 3 <= count
 }
 
 // A part more is read.
-fn comma(stack: &mut Stack, s: Stand, a: u32) -> Stand
-    ensures { (result ≡ comma_stand stack.old s a) × (stack.new ≡ comma_stack stack.old s) }
+#[tactic(auto, unfolding(crate::specs::Stepped::comma_stand, crate::specs::Stepped::comma_stack, crate::specs::Stepped::crowded))]
+fn comma(stack: &mut Stack, s: Stand, a: Action) -> Stand
+    ensures { (result ≡ comma_stand stack.old s a.0) × (stack.new ≡ comma_stack stack.old s) }
 {
     let j = below(s.top);
-    let count = entry(stack, COUNTS, j);
-    if crowded(entry(stack, 0, j), count) {
+    let last = waiting_at(stack, j);
+    if crowded(last.tight, last.parts) {
         return refused(s, OVER_LIMIT);
     }
-    put_entry(stack, COUNTS, j, count % 1048576 + 1);
+    let longer = Waiting {
+        parts: last.parts % 1048576 + 1,
+        ..last
+    };
+    put(stack, j, longer);
     Stand {
-        place: a / 8 % 32,
-        top: s.top,
-        len: s.len,
-        start: s.start,
-        matcher: s.matcher,
-        pattern: s.pattern,
+        place: a.next_place(),
         cause: 0,
+        ..s
     }
 }
 
 // The matcher or the pattern begins.
-fn section(s: Stand, a: u32) -> Stand
-    ensures { result ≡ sectioned s a }
+#[tactic(auto, unfolding(crate::specs::Stepped::sectioned))]
+fn section(s: Stand, a: Action) -> Stand
+    ensures { result ≡ sectioned s a.0 }
 {
     Stand {
-        place: a / 8 % 32,
-        top: s.top,
-        len: s.len,
-        start: s.start,
+        place: a.next_place(),
         matcher: s.pattern,
         pattern: s.len,
         cause: 0,
+        ..s
     }
 }
 
 // What the table says.
-fn take(stack: &mut Stack, words: &mut [i32], s: Stand, a: u32, value: u64) -> Stand
+#[tactic(auto, unfolding(crate::specs::Stepped::taking))]
+fn take(stack: &mut Stack, words: &mut [i32], s: Stand, a: Action, value: u64) -> Stand
     requires { (s.len < 2 ^ 32) × (s.top < 2 ^ 32) }
-    ensures { view result stack.new words.new ≡ taking stack.old words.old s a value }
+    ensures { view result stack.new words.new ≡ taking stack.old words.old s a.0 value }
 {
-    let done = a % 8;
-    if done == APPEND {
-        return append(stack, words, s, a, value);
+    match a.done() {
+        APPEND => append(stack, words, s, a, value),
+        SIGN => sign(stack, words, s, a),
+        CLOSE => close(stack, words, s, a, 1),
+        COMMA => comma(stack, s, a),
+        EMPTY => close(stack, words, s, a, 0),
+        SECTION => section(s, a),
+        _ => refused(s, MISPLACED),
     }
-    if done == SIGN {
-        return sign(stack, words, s, a);
-    }
-    if done == CLOSE {
-        return close(stack, words, s, a, 1);
-    }
-    if done == COMMA {
-        return comma(stack, s, a);
-    }
-    if done == EMPTY {
-        return close(stack, words, s, a, 0);
-    }
-    if done == SECTION {
-        return section(s, a);
-    }
-    refused(s, MISPLACED)
 }
 
 // A token is taken up.
+#[tactic(auto, unfolding(crate::specs::Stepped::stepped, crate::specs::Stepped::action_at))]
 pub fn step(stack: &mut Stack, words: &mut [i32], s: Stand, kind: u32, value: u64) -> Stand
     requires { (s.len < 2 ^ 32) × (s.top < 2 ^ 32) }
     ensures { view result stack.new words.new ≡ stepped stack.old words.old s kind value }
@@ -499,6 +514,7 @@ pub fn step(stack: &mut Stack, words: &mut [i32], s: Stand, kind: u32, value: u6
 }
 
 // Why the text may not end here; 0 where it may.
+#[tactic(auto, unfolding(crate::specs::Stepped::end_of))]
 pub fn finish(stack: &Stack, s: Stand) -> u32
     ensures { result ≡ end_of stack.now s }
 {
@@ -506,6 +522,5 @@ pub fn finish(stack: &Stack, s: Stand) -> u32
     if 0 < t.top {
         return BRACKET_OPEN;
     }
-    let i = index(s.place % 22);
-    ENDS[i]
+    ENDS[(s.place % 22) as usize]
 }

@@ -1,20 +1,37 @@
 -- What the code writes of a matcher, a pattern or a target, from its words.
-use Rattle.std.specs.Prelude.{ℕ, zero, suc, ◌+◌, ◌*◌, ◌/◌, ◌%◌, ◌^◌, ◌-◌, Bool, true, false, cond, List, [], ◌∷◌, ◌++◌, length, get_or, eqb, ltb, ℤ, pos}
+use Rattle.std.specs.Prelude.{ℕ, zero, suc, ◌+◌, ◌*◌, ◌/◌, ◌%◌, ◌-◌, ◌≡◌, Option, Some, None, cond, List, [], ◌∷◌, ◌++◌, length, get_or, eqb, ltb, ℤ, pos}
 use Rattle.std.specs.Int.{w32}
 use Rattle.std.proofs.Common.{of_z}
 use Rattle.words.specs.Words.{tag_at}
 use Rattle.notation_print.specs.Inks.{Sheet, draw}
+use Rattle.notation_print.specs.Pens.{sheet_of, Stays}
+use Rattle.notation_print.specs.declared.Pen.{Pen}
+use Rattle.notation_write.specs.declared.Node.{Node}
+use Rattle.notation_write.specs.declared.Operands.{Operands}
+use Rattle.notation_write.specs.declared.Operands.TheVariants.{Nothing, OneNumber, OneVariable, VariableAndNumber}
 
--- What each tag is written as: the code's table.
-abbrev pub nodes : List ℕ
-nodes = 2242511139453796359 ∷ 2242511139453935367 ∷ 2242511139453862151 ∷ 2242511139453993223 ∷ 657244070619383815 ∷ 2238573805528162051 ∷ 2238855280504872707 ∷ 505811641233835527 ∷ 2239135651674988290 ∷ 2239416022845103873 ∷ 2242515554696954375 ∷ 2242511139453798919 ∷ 2242511139453799175 ∷ 2242522177536527361 ∷ 2242522177536527617 ∷ 505820471686596103 ∷ 2242511139453804295 ∷ 2242511139453804295 ∷ 2242511139453804295 ∷ 2242511139453804295 ∷ 2242511139453804295 ∷ 2242511139453804295 ∷ 2242511139453869831 ∷ 649944490215213063 ∷ 505829302139356679 ∷ 2242511139453804295 ∷ 2242511139453804295 ∷ 2242511139453804295 ∷ 2242511139453804295 ∷ 2242511139453804295 ∷ 2242511139453804295 ∷ 2242511139453804295 ∷ 2242511139453804295 ∷ []
+-- A tag that there is not: the table's other rows differ from it.
+abbrev pub no_tag : Node
+no_tag = record { level = 7; begins = None; operands = Nothing; parts = Some 0; first = 0; others = 0; between = None; ends = None }
 
-unfoldable pub node_of : (what tag : ℕ) → ℕ
-node_of what tag = get_or nodes ((what % 24 / 8 * 11 + tag % 11) % 33) 0
+-- What each tag is written as: the code's table, eleven rows for a pattern, for a matcher and for a target.
+abbrev pub nodes : List Node
+nodes =
+    record no_tag { begins = Some 0 } ∷ record no_tag { operands = OneVariable } ∷ record no_tag { begins = Some 1; operands = OneNumber }
+    ∷ record no_tag { begins = Some 1; operands = VariableAndNumber } ∷ record no_tag { begins = Some 8; ends = Some 9 }
+    ∷ record no_tag { level = 3; parts = Some 2; first = 4; others = 3; between = Some 17 } ∷ record no_tag { level = 3; parts = Some 2; first = 4; others = 3; between = Some 18 }
+    ∷ record no_tag { begins = Some 6; parts = None; first = 1; others = 1; between = Some 5; ends = Some 7 }
+    ∷ record no_tag { level = 2; parts = Some 2; first = 3; others = 2; between = Some 19 } ∷ record no_tag { level = 1; parts = Some 2; first = 2; others = 1; between = Some 20 }
+    ∷ record no_tag { begins = Some 2; parts = Some 1; first = 4; others = 4 }
+    ∷ record no_tag { begins = Some 10 } ∷ record no_tag { begins = Some 11 } ∷ record no_tag { level = 1; begins = Some 12; parts = Some 1; first = 10; others = 10 }
+    ∷ record no_tag { level = 1; begins = Some 13; parts = Some 1; first = 10; others = 10 }
+    ∷ record no_tag { begins = Some 6; parts = None; first = 9; others = 9; between = Some 5; ends = Some 7 } ∷ no_tag ∷ no_tag ∷ no_tag ∷ no_tag ∷ no_tag ∷ no_tag
+    ∷ record no_tag { operands = OneNumber } ∷ record no_tag { begins = Some 8; parts = None; first = 17; others = 17; between = Some 5; ends = Some 9 }
+    ∷ record no_tag { begins = Some 6; parts = None; first = 17; others = 17; between = Some 5; ends = Some 7 }
+    ∷ no_tag ∷ no_tag ∷ no_tag ∷ no_tag ∷ no_tag ∷ no_tag ∷ no_tag ∷ no_tag ∷ []
 
--- One of a node's eight bytes: what its place counts.
-unfoldable pub field : (node place : ℕ) → ℕ
-field node place = node / place % 256
+unfoldable pub node_of : (what tag : ℕ) → Node
+node_of what tag = get_or nodes ((what % 24 / 8 * 11 + tag % 11) % 33) no_tag
 
 unfoldable pub ahead : List ℤ → (at n : ℕ) → ℕ
 ahead ws at n = cond (ltb at (length ws)) (at + n) at
@@ -23,12 +40,19 @@ unfoldable pub bits_at : List ℤ → (at n : ℕ) → ℕ
 unfolding ahead
 bits_at ws at n = cond (ltb (ahead ws at n) (length ws)) (of_z w32 (get_or ws (ahead ws at n) (pos 0))) 0
 
-unfoldable pub head_of : (leaf count : ℕ) → ℕ
-head_of leaf count = cond (eqb count 255) 2 (cond (eqb leaf 0) 1 (cond (eqb leaf 3) 3 2))
+-- The words in front of the parts.
+unfoldable pub head_of : Operands → (parts : Option ℕ) → ℕ
+head_of Nothing None = 2
+head_of Nothing (Some n) = 1
+head_of OneNumber parts = 2
+head_of OneVariable parts = 2
+head_of VariableAndNumber None = 2
+head_of VariableAndNumber (Some n) = 3
 
-unfoldable pub count_of : List ℤ → (at count : ℕ) → ℕ
+unfoldable pub count_of : List ℤ → (at : ℕ) → (parts : Option ℕ) → ℕ
 unfolding bits_at
-count_of ws at count = cond (eqb count 255) (bits_at ws at 1 % 256) count
+count_of ws at None = bits_at ws at 1 % 256
+count_of ws at (Some n) = n
 
 -- ---- Tokens, put one behind the other.
 pub data Ink : Type 0 where
@@ -39,8 +63,13 @@ unfolding draw
 draws s [] = s
 draws s (ink k v ∷ is) = draws (draw s k v) is
 
-unfoldable pub optional : ℕ → List Ink
-optional kind = cond (eqb kind 31) [] (ink kind 0 ∷ [])
+-- A pen puts them behind what stands on its page.
+abbrev pub Puts : (old new : Pen) → List Ink → Type 0
+Puts old new is = Stays old new × (sheet_of new ≡ draws (sheet_of old) is)
+
+unfoldable pub optional : Option ℕ → List Ink
+optional None = []
+optional (Some kind) = ink kind 0 ∷ []
 
 unfoldable pub signed : ℕ → List Ink
 signed u = cond (ltb u 2147483648) (ink 23 u ∷ []) (ink 4 0 ∷ ink 23 (4294967295 - u + 1) ∷ [])
@@ -52,20 +81,23 @@ unfoldable pub valued : (v u : ℕ) → List Ink
 unfolding plus signed
 valued v u = cond (eqb u 0) (ink 22 v ∷ []) (ink 6 0 ∷ ink 22 v ∷ (plus u ++ (signed u ++ (ink 7 0 ∷ []))))
 
-unfoldable pub leaf : List ℤ → (at leaf : ℕ) → List Ink
+unfoldable pub leaf : List ℤ → (at : ℕ) → Operands → List Ink
 unfolding bits_at signed valued
-leaf ws at l = cond (eqb l 1) (signed (bits_at ws at 1)) (cond (eqb l 2) (ink 21 (bits_at ws at 1) ∷ []) (cond (eqb l 3) (valued (bits_at ws at 1) (bits_at ws at 2)) []))
+leaf ws at Nothing = []
+leaf ws at OneNumber = signed (bits_at ws at 1)
+leaf ws at OneVariable = ink 21 (bits_at ws at 1) ∷ []
+leaf ws at VariableAndNumber = valued (bits_at ws at 1) (bits_at ws at 2)
 
 unfoldable pub bracket : (own what kind : ℕ) → List Ink
 bracket own what kind = cond (ltb own (what % 8)) (ink kind 0 ∷ []) []
 
-unfoldable pub front : List ℤ → (at what node : ℕ) → List Ink
-unfolding bracket optional leaf field
-front ws at what node = bracket (field node 1) what 6 ++ (optional (field node 256) ++ leaf ws at (field node 65536))
+unfoldable pub front : List ℤ → (at what : ℕ) → Node → List Ink
+unfolding bracket optional leaf
+front ws at what node = bracket node.level what 6 ++ (optional node.begins ++ leaf ws at node.operands)
 
-unfoldable pub behind : (what node : ℕ) → List Ink
-unfolding bracket optional field
-behind what node = optional (field node (256 ^ 7)) ++ bracket (field node 1) what 7
+unfoldable pub behind : (what : ℕ) → Node → List Ink
+unfolding bracket optional
+behind what node = optional node.ends ++ bracket node.level what 7
 
 -- ---- What stands at an index, and where it ends.
 pub record Written : Type 0 where
@@ -73,7 +105,7 @@ pub record Written : Type 0 where
   pub end : ℕ
 
 -- n parts from an index on, the first written as `part` behind the token `first`, the others as `rest` behind `between`.
-unfoldable pub parts : ((at what : ℕ) → Written) → (rest between n at part first : ℕ) → Written
+unfoldable pub parts : ((at what : ℕ) → Written) → (rest : ℕ) → (between : Option ℕ) → (n at part : ℕ) → (first : Option ℕ) → Written
 unfolding optional
 parts f rest between zero at part first = record { inks = []; end = at }
 parts f rest between (suc n) at part first = record {
@@ -81,10 +113,10 @@ parts f rest between (suc n) at part first = record {
   end = (parts f rest between n (f at part).end rest between).end;
 }
 
-unfoldable pub within : List ℤ → ((at what : ℕ) → Written) → (at what node : ℕ) → Written
-unfolding front behind parts count_of ahead head_of field
+unfoldable pub within : List ℤ → ((at what : ℕ) → Written) → (at what : ℕ) → Node → Written
+unfolding front behind parts count_of ahead head_of
 within ws f at what node =
-    let p : Written = parts f (field node (256 ^ 5)) (field node (256 ^ 6)) (count_of ws at (field node (256 ^ 3))) (ahead ws at (head_of (field node 65536) (field node (256 ^ 3)))) (field node (256 ^ 4)) 31 in
+    let p : Written = parts f node.others node.between (count_of ws at node.parts) (ahead ws at (head_of node.operands node.parts)) node.first None in
     record { inks = front ws at what node ++ (p.inks ++ behind what node); end = p.end }
 
 unfoldable pub written : List ℤ → (depth at what : ℕ) → Written

@@ -4,68 +4,16 @@
 ghost use Rattle.std.specs.Prelude.{◌≡◌, ◌<◌};
 ghost use Rattle.notation_print.specs.Pages.{page};
 ghost use Rattle.notation_print.specs.Inks.{sheet};
-ghost use Rattle.notation_write.specs.Written.{bits_at, node_of, field, ahead as Written·ahead, head_of, count_of, draws, optional, signed, plus, valued, leaf as Written·leaf, bracket, front, behind, written, units_inks, rule_inks};
+ghost use Rattle.notation_write.specs.Written.{bits_at, node_of, ahead as Written·ahead, head_of, count_of, draws, Puts, optional, signed, plus, valued, leaf as Written·leaf, bracket, front, behind, written, units_inks, rule_inks};
 
 use notation_print::{
-    AS, AT_ONCE, BINDS, CLOSING, MATCH_ALL, MINUS, NUMBER, OPENING, PLUS, Pen, USES, WITH, put,
+    AND, AS, BANG, BINDS, CLOSING, COMMA, CONS, HASH, INTEGER, JOIN, LEFT, LIST, MATCH_ALL, MINUS,
+    MULTISET, NUMBER, OPENING, OR, PLUS, Pen, RIGHT, SOMETHING, UNDERSCORE, USES, WITH,
 };
-use words::casts::index;
-use words::{MINUS_ONE, NEGATIVE, bits, tag_at};
-
-// Where the next word stands, and the pen.
-#[derive(Drop)]
-pub struct Spot {
-    pub at: usize,
-    pub pen: Pen,
-}
-
-// For each tag of a pattern, a matcher and a target, eleven each, eight bytes from the lowest: its level (in brackets where a tighter one is asked), the
-// token it begins with, what its operands are (0 none, 1 a number, 2 a variable, 3 a variable and a number), how many parts it has (255: as its next
-// word says), what the first part and the others are written as, the token between two and the token at the end. 31 is no token.
-const NODES: [u64; 33] = [
-    0x1f1f000000000007, // `_`
-    0x1f1f000000021f07, // `$x`
-    0x1f1f000000010107, // `#c`
-    0x1f1f000000030107, // `#x`, `#(x + c)`
-    0x091f000000000807, // `[]`
-    0x1f11030402001f03, // `::`
-    0x1f12030402001f03, // `++`
-    0x07050101ff000607, // a tuple
-    0x1f13020302001f02, // `&`
-    0x1f14010202001f01, // `|`
-    0x1f1f040401000207, // `!`
-    0x1f1f000000000a07, // `something`
-    0x1f1f000000000b07, // `integer`
-    0x1f1f0a0a01000c01, // `list M`
-    0x1f1f0a0a01000d01, // `multiset M`
-    0x07050909ff000607, // a tuple
-    0x1f1f000000001f07, // no tag
-    0x1f1f000000001f07, // no tag
-    0x1f1f000000001f07, // no tag
-    0x1f1f000000001f07, // no tag
-    0x1f1f000000001f07, // no tag
-    0x1f1f000000001f07, // no tag
-    0x1f1f000000011f07, // an integer
-    0x09051111ff000807, // a collection
-    0x07051111ff000607, // a tuple
-    0x1f1f000000001f07, // no tag
-    0x1f1f000000001f07, // no tag
-    0x1f1f000000001f07, // no tag
-    0x1f1f000000001f07, // no tag
-    0x1f1f000000001f07, // no tag
-    0x1f1f000000001f07, // no tag
-    0x1f1f000000001f07, // no tag
-    0x1f1f000000001f07, // no tag
-];
-
-// How many tags stand one inside the other at most: in 256 words of a pattern, in a matcher and in a target with the last one in each.
-const PATTERN_DEPTH: u32 = 256;
-
-const MATCHER_DEPTH: u32 = 5;
-
-const TARGET_DEPTH: u32 = 9;
+use words::tag_at;
 
 // What the parts of a pattern, a matcher and a target are written as: eight times the form, and the level.
+// No enum: the contract of `write` speaks of every number.
 pub const PATTERN: u32 = 1;
 
 pub const MATCHER: u32 = 9;
@@ -82,248 +30,414 @@ const TAGS: u32 = 11;
 
 const ROWS: u32 = 3 * TAGS;
 
-// What each of a node's eight bytes counts.
-const LEVEL: u64 = 1;
-
-const BEGINS: u64 = 256;
-
-const OPERANDS: u64 = 65536;
-
-const PARTS: u64 = 16777216;
-
-const FIRST: u64 = 4294967296;
-
-const OTHERS: u64 = 1099511627776;
-
-const BETWEEN: u64 = 281474976710656;
-
-const ENDS: u64 = 72057594037927936;
-
-const BYTE: u64 = 256;
-
-// What the operands are.
-const NOTHING: u32 = 0;
-
-const ONE_NUMBER: u32 = 1;
-
-const ONE_VARIABLE: u32 = 2;
-
-const VARIABLE_AND_NUMBER: u32 = 3;
-
-const NO_TOKEN: u32 = 31;
-
-// As many parts as the next word says, modulo COUNTS.
-const COUNTED: u32 = 255;
-
-const COUNTS: u32 = 256;
-
-fn node_of(what: u32, tag: u32) -> u64
-    ensures { result ≡ node_of what tag }
-{
-    let k = index((what % KINDS / LEVELS * TAGS + tag % TAGS) % ROWS);
-    NODES[k]
+// The words between a tag and its parts.
+#[derive(Clone, Copy)]
+pub enum Operands {
+    Nothing,
+    OneNumber,
+    OneVariable,
+    VariableAndNumber,
 }
 
-// One of a node's eight bytes.
-fn byte_of(node: u64, shift: u64) -> u32
-    requires { 0 < shift }
-    ensures { result ≡ field node shift }
+// What a tag is written as: its level (in brackets where a tighter one is asked), the token it begins with, its operands, how many parts it has (as its
+// next word says, where there is no number), what the first part and the others are written as, the token between two and the token at the end.
+#[derive(Clone, Copy)]
+pub struct Node {
+    pub level: u32,
+    pub begins: Option<u32>,
+    pub operands: Operands,
+    pub parts: Option<u32>,
+    pub first: u32,
+    pub others: u32,
+    pub between: Option<u32>,
+    pub ends: Option<u32>,
+}
+
+// A tag that there is not: the others differ from it.
+const NO_TAG: Node = Node {
+    level: 7,
+    begins: None,
+    operands: Operands::Nothing,
+    parts: Some(0),
+    first: 0,
+    others: 0,
+    between: None,
+    ends: None,
+};
+
+// What each tag of a pattern, a matcher and a target is written as, eleven each.
+static NODES: [Node; 33] = [
+    // `_`
+    Node {
+        begins: Some(UNDERSCORE),
+        ..NO_TAG
+    },
+    // `$x`
+    Node {
+        operands: Operands::OneVariable,
+        ..NO_TAG
+    },
+    // `#c`
+    Node {
+        begins: Some(HASH),
+        operands: Operands::OneNumber,
+        ..NO_TAG
+    },
+    // `#x`, `#(x + c)`
+    Node {
+        begins: Some(HASH),
+        operands: Operands::VariableAndNumber,
+        ..NO_TAG
+    },
+    // `[]`
+    Node {
+        begins: Some(LEFT),
+        ends: Some(RIGHT),
+        ..NO_TAG
+    },
+    // `::`
+    Node {
+        level: 3,
+        parts: Some(2),
+        first: 4,
+        others: 3,
+        between: Some(CONS),
+        ..NO_TAG
+    },
+    // `++`
+    Node {
+        level: 3,
+        parts: Some(2),
+        first: 4,
+        others: 3,
+        between: Some(JOIN),
+        ..NO_TAG
+    },
+    // a tuple
+    Node {
+        begins: Some(OPENING),
+        parts: None,
+        first: PATTERN,
+        others: PATTERN,
+        between: Some(COMMA),
+        ends: Some(CLOSING),
+        ..NO_TAG
+    },
+    // `&`
+    Node {
+        level: 2,
+        parts: Some(2),
+        first: 3,
+        others: 2,
+        between: Some(AND),
+        ..NO_TAG
+    },
+    // `|`
+    Node {
+        level: 1,
+        parts: Some(2),
+        first: 2,
+        others: 1,
+        between: Some(OR),
+        ..NO_TAG
+    },
+    // `!`
+    Node {
+        begins: Some(BANG),
+        parts: Some(1),
+        first: 4,
+        others: 4,
+        ..NO_TAG
+    },
+    // `something`
+    Node {
+        begins: Some(SOMETHING),
+        ..NO_TAG
+    },
+    // `integer`
+    Node {
+        begins: Some(INTEGER),
+        ..NO_TAG
+    },
+    // `list M`
+    Node {
+        level: 1,
+        begins: Some(LIST),
+        parts: Some(1),
+        first: MATCHER + 1,
+        others: MATCHER + 1,
+        ..NO_TAG
+    },
+    // `multiset M`
+    Node {
+        level: 1,
+        begins: Some(MULTISET),
+        parts: Some(1),
+        first: MATCHER + 1,
+        others: MATCHER + 1,
+        ..NO_TAG
+    },
+    // a tuple
+    Node {
+        begins: Some(OPENING),
+        parts: None,
+        first: MATCHER,
+        others: MATCHER,
+        between: Some(COMMA),
+        ends: Some(CLOSING),
+        ..NO_TAG
+    },
+    NO_TAG,
+    NO_TAG,
+    NO_TAG,
+    NO_TAG,
+    NO_TAG,
+    NO_TAG,
+    // an integer
+    Node {
+        operands: Operands::OneNumber,
+        ..NO_TAG
+    },
+    // a collection
+    Node {
+        begins: Some(LEFT),
+        parts: None,
+        first: TARGET,
+        others: TARGET,
+        between: Some(COMMA),
+        ends: Some(RIGHT),
+        ..NO_TAG
+    },
+    // a tuple
+    Node {
+        begins: Some(OPENING),
+        parts: None,
+        first: TARGET,
+        others: TARGET,
+        between: Some(COMMA),
+        ends: Some(CLOSING),
+        ..NO_TAG
+    },
+    NO_TAG,
+    NO_TAG,
+    NO_TAG,
+    NO_TAG,
+    NO_TAG,
+    NO_TAG,
+    NO_TAG,
+    NO_TAG,
+];
+
+// How many tags stand one inside the other at most: in 256 words of a pattern, in a matcher and in a target with the last one in each.
+const PATTERN_DEPTH: u32 = 256;
+
+const MATCHER_DEPTH: u32 = 5;
+
+const TARGET_DEPTH: u32 = 9;
+
+// The bits of the largest number.
+const LARGEST: u32 = i32::MAX as u32;
+
+// As many parts as the next word says, modulo COUNTS.
+const COUNTS: u32 = 256;
+
+fn node_of(what: u32, tag: u32) -> &'static Node
+    ensures { result.now ≡ node_of what tag }
 {
-    (node / shift % BYTE) as u32
+    &NODES[((what % KINDS / LEVELS * TAGS + tag % TAGS) % ROWS) as usize]
 }
 
 // An index n words further on, or the same past the end.
+#[tactic(auto, unfolding(crate::specs::Written::ahead))]
 fn ahead(ws: &[i32], at: usize, n: usize) -> usize
     requires { n < 4 }
     ensures { result ≡ Written·ahead ws.now at n }
 {
-    if at < ws.len() {
-        return at + n;
-    }
-    at
+    if at < ws.len() { at + n } else { at }
 }
 
 // The bits of the word n words further on; 0 where there is none.
+#[tactic(auto, unfolding(crate::specs::Written::bits_at))]
 fn bits_at(ws: &[i32], at: usize, n: usize) -> u32
     requires { n < 4 }
     ensures { result ≡ bits_at ws.now at n }
 {
     let i = ahead(ws, at, n);
     if i < ws.len() {
-        return bits(ws[i]);
+        ws[i].cast_unsigned()
+    } else {
+        0
     }
-    0
 }
 
-// How many words stand before the parts.
-fn head_of(leaf: u32, count: u32) -> usize
-    ensures { result ≡ head_of leaf count }
-{
-    if count == COUNTED {
-        return 2;
+impl Node {
+    // How many words stand before the parts.
+    #[tactic(auto, unfolding(crate::specs::Written::head_of))]
+    fn head(&self) -> usize
+        ensures value { result ≡ head_of self.now.operands self.now.parts }
+        ensures few { result < 4 }
+    {
+        match (self.operands, self.parts) {
+            (Operands::Nothing, Some(_)) => 1,
+            (Operands::VariableAndNumber, Some(_)) => 3,
+            _ => 2,
+        }
     }
-    if leaf == NOTHING {
-        return 1;
-    }
-    if leaf == VARIABLE_AND_NUMBER {
-        return 3;
-    }
-    2
-}
 
-// How many parts there are.
-fn count_of(ws: &[i32], at: usize, count: u32) -> u32
-    ensures { result ≡ count_of ws.now at count }
-{
-    if count == COUNTED {
-        return bits_at(ws, at, 1) % COUNTS;
+    // How many parts there are.
+    #[tactic(auto, unfolding(crate::specs::Written::count_of))]
+    fn count(&self, ws: &[i32], at: usize) -> u32
+        ensures { result ≡ count_of ws.now at self.now.parts }
+    {
+        match self.parts {
+            Some(count) => count,
+            None => bits_at(ws, at, 1) % COUNTS,
+        }
     }
-    count
 }
 
 // A token, where there is one.
-fn put_token(out: &mut [u8], pen: Pen, kind: u32) -> Pen
-    ensures { sheet out.new result.at result.last ≡ draws (sheet out.old pen.at pen.last) (optional kind) }
+#[tactic(auto, unfolding(crate::specs::Written::optional, crate::specs::Written::draws))]
+fn put_token(pen: &mut Pen, kind: Option<u32>)
+    ensures { Puts pen.old pen.new (optional kind) }
 {
-    if kind == NO_TOKEN {
-        return pen;
+    if let Some(kind) = kind {
+        pen.put(kind, 0);
     }
-    put(out, pen, kind, 0)
 }
 
 // A number with its sign, from its bits.
-fn put_signed(out: &mut [u8], pen: Pen, u: u32) -> Pen
-    ensures { sheet out.new result.at result.last ≡ draws (sheet out.old pen.at pen.last) (signed u) }
+#[tactic(auto, unfolding(crate::specs::Written::signed, crate::specs::Written::draws))]
+fn put_signed(pen: &mut Pen, u: u32)
+    ensures { Puts pen.old pen.new (signed u) }
 {
-    if u < NEGATIVE {
-        return put(out, pen, NUMBER, u);
+    if u <= LARGEST {
+        pen.put(NUMBER, u);
+    } else {
+        pen.put(MINUS, 0);
+        pen.put(NUMBER, u.wrapping_neg());
     }
-    let p = put(out, pen, MINUS, 0);
-    put(out, p, NUMBER, MINUS_ONE - u + 1)
 }
 
 // A plus before a number that has no minus.
-fn put_plus(out: &mut [u8], pen: Pen, u: u32) -> Pen
-    ensures { sheet out.new result.at result.last ≡ draws (sheet out.old pen.at pen.last) (plus u) }
+#[tactic(auto, unfolding(crate::specs::Written::plus, crate::specs::Written::draws))]
+fn put_plus(pen: &mut Pen, u: u32)
+    ensures { Puts pen.old pen.new (plus u) }
 {
-    if u < NEGATIVE {
-        return put(out, pen, PLUS, 0);
+    if u <= LARGEST {
+        pen.put(PLUS, 0);
     }
-    pen
 }
 
 // A variable's value, plus a number where that is not 0.
-fn put_value(out: &mut [u8], pen: Pen, v: u32, u: u32) -> Pen
-    ensures { sheet out.new result.at result.last ≡ draws (sheet out.old pen.at pen.last) (valued v u) }
+#[tactic(auto, using(crate::proofs::Laws::append_rules), unfolding(crate::specs::Written::valued, crate::specs::Written::draws))]
+fn put_value(pen: &mut Pen, v: u32, u: u32)
+    ensures { Puts pen.old pen.new (valued v u) }
 {
     if u == 0 {
-        return put(out, pen, USES, v);
+        pen.put(USES, v);
+    } else {
+        pen.put(OPENING, 0);
+        pen.put(USES, v);
+        put_plus(pen, u);
+        put_signed(pen, u);
+        pen.put(CLOSING, 0);
     }
-    let p = put(out, pen, OPENING, 0);
-    let q = put(out, p, USES, v);
-    let r = put_plus(out, q, u);
-    let s = put_signed(out, r, u);
-    put(out, s, CLOSING, 0)
 }
 
 // A tag's operands.
-fn put_leaf(ws: &[i32], at: usize, leaf: u32, out: &mut [u8], pen: Pen) -> Pen
-    ensures { sheet out.new result.at result.last ≡ draws (sheet out.old pen.at pen.last) (Written·leaf ws.now at leaf) }
+#[tactic(auto, unfolding(crate::specs::Written::leaf, crate::specs::Written::draws))]
+fn put_leaf(ws: &[i32], at: usize, operands: Operands, pen: &mut Pen)
+    ensures { Puts pen.old pen.new (Written·leaf ws.now at operands) }
 {
-    if leaf == ONE_NUMBER {
-        return put_signed(out, pen, bits_at(ws, at, 1));
+    match operands {
+        Operands::Nothing => {}
+        Operands::OneNumber => put_signed(pen, bits_at(ws, at, 1)),
+        Operands::OneVariable => pen.put(BINDS, bits_at(ws, at, 1)),
+        Operands::VariableAndNumber => put_value(pen, bits_at(ws, at, 1), bits_at(ws, at, 2)),
     }
-    if leaf == ONE_VARIABLE {
-        return put(out, pen, BINDS, bits_at(ws, at, 1));
-    }
-    if leaf == VARIABLE_AND_NUMBER {
-        return put_value(out, pen, bits_at(ws, at, 1), bits_at(ws, at, 2));
-    }
-    pen
 }
 
 // A bracket, where the tag's level is looser than the one that is asked.
-fn put_bracket(out: &mut [u8], pen: Pen, own: u32, what: u32, kind: u32) -> Pen
-    ensures { sheet out.new result.at result.last ≡ draws (sheet out.old pen.at pen.last) (bracket own what kind) }
+#[tactic(auto, unfolding(crate::specs::Written::bracket, crate::specs::Written::draws))]
+fn put_bracket(pen: &mut Pen, own: u32, what: u32, kind: u32)
+    ensures { Puts pen.old pen.new (bracket own what kind) }
 {
     if own < what % LEVELS {
-        return put(out, pen, kind, 0);
+        pen.put(kind, 0);
     }
-    pen
 }
 
 // What stands before the parts.
-fn put_front(ws: &[i32], at: usize, what: u32, node: u64, out: &mut [u8], pen: Pen) -> Pen
-    ensures { sheet out.new result.at result.last ≡ draws (sheet out.old pen.at pen.last) (front ws.now at what node) }
+#[tactic(auto, using(crate::proofs::Laws::append_rules), unfolding(crate::specs::Written::front))]
+fn put_front(ws: &[i32], at: usize, what: u32, node: &Node, pen: &mut Pen)
+    ensures { Puts pen.old pen.new (front ws.now at what node.now) }
 {
-    let p = put_bracket(out, pen, byte_of(node, LEVEL), what, OPENING);
-    let q = put_token(out, p, byte_of(node, BEGINS));
-    put_leaf(ws, at, byte_of(node, OPERANDS), out, q)
+    put_bracket(pen, node.level, what, OPENING);
+    put_token(pen, node.begins);
+    put_leaf(ws, at, node.operands, pen);
 }
 
 // What stands behind them.
-fn put_back(what: u32, node: u64, out: &mut [u8], pen: Pen) -> Pen
-    ensures { sheet out.new result.at result.last ≡ draws (sheet out.old pen.at pen.last) (behind what node) }
+#[tactic(auto, using(crate::proofs::Laws::append_rules), unfolding(crate::specs::Written::behind))]
+fn put_back(what: u32, node: &Node, pen: &mut Pen)
+    ensures { Puts pen.old pen.new (behind what node.now) }
 {
-    let p = put_token(out, pen, byte_of(node, ENDS));
-    put_bracket(out, p, byte_of(node, LEVEL), what, CLOSING)
+    put_token(pen, node.ends);
+    put_bracket(pen, node.level, what, CLOSING);
 }
 
-// What stands at an index, written; so many may stand one inside the other.
-pub fn write(ws: &[i32], at: usize, what: u32, depth: u32, out: &mut [u8], pen: Pen) -> Spot
-    ensures { (sheet out.new result.pen.at result.pen.last ≡ draws (sheet out.old pen.at pen.last) (written ws.now depth at what).inks) × (result.at ≡ (written ws.now depth at what).end) }
+// What stands at an index, written, and the index behind it; so many may stand one inside the other.
+pub fn write(ws: &[i32], at: usize, what: u32, depth: u32, pen: &mut Pen) -> usize
+    ensures drawn { Puts pen.old pen.new (written ws.now depth at what).inks }
+    ensures end { result ≡ (written ws.now depth at what).end }
 {
     if depth == 0 {
-        return Spot { at, pen };
+        return at;
     }
     let node = node_of(what, tag_at(ws, at));
-    let mut p = put_front(ws, at, what, node, out, pen);
-    let count = byte_of(node, PARTS);
-    let mut left = count_of(ws, at, count);
-    let mut e = ahead(ws, at, head_of(byte_of(node, OPERANDS), count));
-    let mut part = byte_of(node, FIRST);
-    let mut between = NO_TOKEN;
-    while 0 < left {
-        let q = put_token(out, p, between);
-        let s = write(ws, e, part, depth - 1, out, q);
-        e = s.at;
-        p = s.pen;
-        part = byte_of(node, OTHERS);
-        between = byte_of(node, BETWEEN);
-        left -= 1;
+    put_front(ws, at, what, node, pen);
+    let mut next = ahead(ws, at, node.head());
+    let mut part = node.first;
+    let mut between = None;
+    for _ in 0..node.count(ws, at) {
+        put_token(pen, between);
+        next = write(ws, next, part, depth - 1, pen);
+        part = node.others;
+        between = node.between;
     }
-    let r = put_back(what, node, out, p);
-    Spot { at: e, pen: r }
+    put_back(what, node, pen);
+    next
 }
 
 // `matchAll` and the units, where there are any.
-fn put_units(ts: &[i32], out: &mut [u8], pen: Pen) -> Pen
-    ensures { sheet out.new result.at result.last ≡ draws (sheet out.old pen.at pen.last) (units_inks ts.now) }
+#[tactic(auto, unfolding(crate::specs::Written::units_inks, crate::specs::Written::draws))]
+fn put_units(ts: &[i32], pen: &mut Pen)
+    ensures { Puts pen.old pen.new (units_inks ts.now) }
 {
-    if ts.len() == 0 {
-        return pen;
+    if !ts.is_empty() {
+        pen.put(MATCH_ALL, 0);
+        write(ts, 0, TARGET, TARGET_DEPTH, pen);
     }
-    let p = put(out, pen, MATCH_ALL, 0);
-    let s = write(ts, 0, TARGET, TARGET_DEPTH, out, p);
-    s.pen
 }
 
-// A rule from its words, and its units where there are any, written from the page's start. What is given back is the text's length, or the page's
-// where that is less.
+// A rule from its words, and its units where there are any.
+fn put_rule(ms: &[i32], ps: &[i32], ts: &[i32], pen: &mut Pen)
+    ensures { Puts pen.old pen.new (rule_inks ms.now ps.now ts.now) }
+{
+    put_units(ts, pen);
+    pen.put(AS, 0);
+    write(ms, 0, MATCHER, MATCHER_DEPTH, pen);
+    pen.put(WITH, 0);
+    write(ps, 0, PATTERN, PATTERN_DEPTH, pen);
+}
+
+// A rule, and its units where there are any, written from the page's start. What is given back is the text's length, or the page's where that is less.
+#[tactic(auto, using(crate::proofs::Laws::on_page))]
 pub fn write_rule(ms: &[i32], ps: &[i32], ts: &[i32], out: &mut [u8]) -> usize
     ensures { page out.new result ≡ (draws (sheet out.old 0 0) (rule_inks ms.now ps.now ts.now)).on }
 {
-    let p = put_units(
-        ts,
-        out,
-        Pen {
-            at: 0,
-            last: AT_ONCE,
-        },
-    );
-    let q = put(out, p, AS, 0);
-    let m = write(ms, 0, MATCHER, MATCHER_DEPTH, out, q);
-    let r = put(out, m.pen, WITH, 0);
-    let s = write(ps, 0, PATTERN, PATTERN_DEPTH, out, r);
-    s.pen.at
+    let mut pen = Pen::new(out);
+    put_rule(ms, ps, ts, &mut pen);
+    pen.at
 }

@@ -23,8 +23,7 @@ use Rattle.program_rules.specs.Made.{cond_le, op_most}
 use Rattle.program_rules.specs.Bounds.{few, few_part, by_few, reserved_length, lines_few}
 use Rattle.program_parts.proofs.Laws.{operands_le}
 use Rattle.program_lay.proofs.Closing.{resumed_close, opened}
-use Rattle.program.specs.declared.lay.Cursor.{Cursor}
-use Rattle.program.specs.Pass.{cursor, Outcome, laying, ahead, outcome, Within}
+use Rattle.program.specs.Pass.{Progress, cursor, Outcome, laying, ahead, outcome, Within}
 use Rattle.program.proofs.Stack.{waiting_push, pair_sum, slot_top, waiting_pop, Left, pop_left}
 
 -- ---- Lines.
@@ -99,7 +98,7 @@ after m p n at ts pc = resumed m ts pc (λ j us q. lines_from m n j us q (drop (
 
 -- ---- What is known of the tag at the cursor.
 
-pub record Tagged (m p : List ℤ) (u s b : List ℕ) (c : Cursor) (t : Columns) (k o n : ℕ) : Type 0 where
+pub record Tagged (m p : List ℤ) (u s b : List ℕ) (c : Progress) (t : Columns) (k o n : ℕ) : Type 0 where
   pub fits : Within u s b c
   pub brief : length m ≤ 64
   pub short : length p ≤ 256
@@ -109,7 +108,7 @@ pub record Tagged (m p : List ℤ) (u s b : List ℕ) (c : Cursor) (t : Columns)
   pub skip : n ≡ operands_of o
   pub low : (outcome m p u s b c t).lines < entries
 
-module _ {m p : List ℤ} {u s b : List ℕ} {c : Cursor} {t : Columns} {k o n : ℕ} (T : Tagged m p u s b c t k o n) where
+module _ {m p : List ℤ} {u s b : List ℕ} {c : Progress} {t : Columns} {k o n : ℕ} (T : Tagged m p u s b c t k o n) where
   slot_is : slot_of (waiting_at u s b c.depth) ≡ get_or s c.depth 0
   slot_is = slot_top u s b c.depth T.fits.bottom
 
@@ -194,7 +193,7 @@ module _ {m p : List ℤ} {u s b : List ℕ} {c : Cursor} {t : Columns} {k o n :
 
 -- ---- A tag without parts, and the ends that wait on top.
 
-pub record Closed (m p : List ℤ) (u s b : List ℕ) (c : Cursor) (t : Columns) (n d pc : ℕ) (t' : Columns) : Type 0 where
+pub record Closed (m p : List ℤ) (u s b : List ℕ) (c : Progress) (t : Columns) (n d pc : ℕ) (t' : Columns) : Type 0 where
   pub rest : outcome m p u s b c t ≡ laying pc (after m p n c.at (waiting_at u s b d) pc) t'
   pub low : pc < entries
   pub later : c.pc ≤ pc
@@ -205,7 +204,7 @@ pub record Closed (m p : List ℤ) (u s b : List ℕ) (c : Cursor) (t : Columns)
   pub brief : length m ≤ 64
   pub inside : c.at < length p
 
-module _ {m p : List ℤ} {u s b : List ℕ} {c : Cursor} {t : Columns} {k o n : ℕ} (T : Tagged m p u s b c t k o n) (l : o ≤ 7) where
+module _ {m p : List ℤ} {u s b : List ℕ} {c : Progress} {t : Columns} {k o n : ℕ} (T : Tagged m p u s b c t k o n) (l : o ≤ 7) where
   leaf_lines : ahead m p u s b c ≡ strip_lines k o c.i ++ (leaf_line o c.i (get_or s c.depth 0) (drop (c.at + 1) p) ∷ after m p n c.at (waiting_at u s b c.depth) (suc (c.pc + length (strip_lines k o c.i))))
   unfolding ahead after tag_at
   leaf_lines =
@@ -238,14 +237,14 @@ module _ {m p : List ℤ} {u s b : List ℕ} {c : Cursor} {t : Columns} {k o n :
     pub close_asks : (c.depth < 257) × ((get_or b 0 0 ≡ 0) × (q + length (close_lines s b c.depth) < entries))
     close_asks = (omega (arith, T.fits.deep, T.inside, T.short), (T.fits.floor, close_low))
 
-    pub closes : (d : ℕ) (t' : Columns) → d + length (close_lines s b c.depth) ≡ c.depth → t' ≡ laid q (close_lines s b c.depth) t₁
-        → Closed m p u s b c t n d (q + (c.depth - d)) t'
-    closes d t' h x =
+    pub closes : (d end : ℕ) (t' : Columns) → end ≡ q + length (close_lines s b c.depth) → d + length (close_lines s b c.depth) ≡ c.depth → t' ≡ laid q (close_lines s b c.depth) t₁
+        → Closed m p u s b c t n d end t'
+    closes d end t' g h x =
         let y : c.depth - length (close_lines s b c.depth) ≡ d = omega arith in
-        let z : q + length (close_lines s b c.depth) ≡ q + (c.depth - d) = omega arith in
+        let z : q + length (close_lines s b c.depth) ≡ end = sym g in
         let f = close_low in
         record {
-          rest = leaf_rest ∙ ap (λ ls. laying q ls t₁) close_lines_lem ∙ rw (y, z) (laying_on q (q + (c.depth - d)) (close_lines s b c.depth) _ t₁ t' (sym z) x);
+          rest = leaf_rest ∙ ap (λ ls. laying q ls t₁) close_lines_lem ∙ rw (y, z) (laying_on q end (close_lines s b c.depth) _ t₁ t' g x);
           low = omega arith;
           later = omega arith;
           lower = omega arith;
@@ -256,7 +255,7 @@ module _ {m p : List ℤ} {u s b : List ℕ} {c : Cursor} {t : Columns} {k o n :
           inside = T.inside;
         }
 
-module _ {m p : List ℤ} {u s b : List ℕ} {c : Cursor} {t : Columns} {n d pc : ℕ} {t' : Columns} (C : Closed m p u s b c t n d pc t') where
+module _ {m p : List ℤ} {u s b : List ℕ} {c : Progress} {t : Columns} {n d pc : ℕ} {t' : Columns} (C : Closed m p u s b c t n d pc t') where
   pub close_fits : Fits w64 pc
   close_fits = record { fits = omega (arith, C.low) }
 
@@ -325,7 +324,7 @@ module _ {m p : List ℤ} {u s b : List ℕ} {c : Cursor} {t : Columns} {n d pc 
 
 -- ---- The pass as a whole, over the table t₀.
 
-pub record Passing (m p : List ℤ) (t₀ : Columns) (u s b : List ℕ) (c : Cursor) (t : Columns) : Type 0 where
+pub record Passing (m p : List ℤ) (t₀ : Columns) (u s b : List ℕ) (c : Progress) (t : Columns) : Type 0 where
   pub fits : Within u s b c
   pub whole : outcome m p u s b c t ≡ laying 0 (lines_of m p) t₀
 
@@ -345,11 +344,11 @@ start m p t u s b h l k e f = record {
   whole = refl;
 }
 
-pub goes_on_lem : {m p : List ℤ} {t₀ : Columns} {u s b u' s' b' : List ℕ} {c c' : Cursor} {t t' : Columns} → Passing m p t₀ u s b c t
+pub goes_on_lem : {m p : List ℤ} {t₀ : Columns} {u s b u' s' b' : List ℕ} {c c' : Progress} {t t' : Columns} → Passing m p t₀ u s b c t
     → Within u' s' b' c' → outcome m p u' s' b' c' t' ≡ outcome m p u s b c t → Passing m p t₀ u' s' b' c' t'
 goes_on_lem P W e = record { fits = W; whole = e ∙ P.whole }
 
-module _ {m p : List ℤ} {t₀ : Columns} {u s b : List ℕ} {c : Cursor} {t : Columns} (P : Passing m p t₀ u s b c t) (short : length p ≤ 256) where
+module _ {m p : List ℤ} {t₀ : Columns} {u s b : List ℕ} {c : Progress} {t : Columns} (P : Passing m p t₀ u s b c t) (short : length p ≤ 256) where
   pub lines_low : (outcome m p u s b c t).lines < entries
   unfolding laying
   lines_low = rw P.whole (omega (arith, lines_few m p short))

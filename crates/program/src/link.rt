@@ -1,5 +1,7 @@
 // The second pass: where the next state stands, from the last line to the first.
-ghost use Rattle.std.specs.Prelude.{◌≡◌, suc, ◌+◌, ◌-◌, ◌<◌, ◌≤◌, cond, eqb};
+#![tactic(auto, using(crate::proofs::link::Loops::linking_rules, crate::proofs::link::Loops::keeping_rules))]
+
+ghost use Rattle.std.specs.Prelude.{◌≡◌, suc, ◌+◌, ◌-◌, ◌<◌, ◌≤◌, cond, eqb, get_or, replicate};
 ghost use Rattle.words.specs.Words.{entries};
 ghost use Rattle.tables.specs.Line.{columns_of};
 ghost use Rattle.program_rules.specs.Lines.{binding};
@@ -69,24 +71,51 @@ pub fn lowered(o: u16, depth: usize) -> usize
     ensures { result ≡ lower o depth }
 {
     if takes_place(o) {
-        if depth == 0 { 0 } else { depth - 1 }
+        depth.saturating_sub(1)
     } else {
         depth
     }
 }
 
-// The places kept after this line: how many.
-pub fn keep(o: u16, pc: usize, land: u16, depth: usize, kept: &mut [u16; KEPT]) -> usize
-    requires fact_1 { pc < entries }
-    requires fact_2 { depth < entries }
-    ensures { pile kept.new result ≡ piled o pc land (pile kept.old depth) }
-{
-    let d = lowered(o, depth);
-    if keeps_place(o) {
-        kept[d + 1] = place_by(o, pc, land);
-        return d + 1;
+// The places kept, up to a depth; the entry 0 is none's.
+#[derive(Drop)]
+struct Kept {
+    places: [u16; KEPT],
+    depth: usize,
+}
+
+impl Kept {
+    fn none() -> Kept
+        ensures { result ≡ record { places = replicate 651 0; depth = 0 } }
+    {
+        Kept {
+            places: [0; KEPT],
+            depth: 0,
+        }
     }
-    d
+
+    // The last place kept.
+    fn last(&self) -> u16
+        requires { self.now.depth < 651 }
+        ensures { result ≡ get_or self.now.places self.now.depth 0 }
+    {
+        self.places[self.depth]
+    }
+
+    // The places kept after this line.
+    fn keep(&mut self, o: u16, pc: usize, land: u16)
+        requires at { pc < entries }
+        requires deep { self.old.depth < entries }
+        ensures { pile self.new.places self.new.depth ≡ piled o pc land (pile self.old.places self.old.depth) }
+    {
+        let d = lowered(o, self.depth);
+        if keeps_place(o) {
+            self.places[d + 1] = place_by(o, pc, land);
+            self.depth = d + 1;
+        } else {
+            self.depth = d;
+        }
+    }
 }
 
 // How many variables there are with this one.
@@ -104,22 +133,19 @@ fn link_kept(end: usize, vars: usize, lines: &mut Lines) -> usize
     ensures fact_1 { result ≡ vars + bindings_in (ops_in (columns_of lines.old).op 0 end) }
     ensures fact_2 { columns_of lines.new ≡ linked_in end (columns_of lines.old) }
 {
-    let mut kept = [0u16; KEPT];
-    let mut depth: usize = 0;
+    let mut kept = Kept::none();
     let mut n = vars;
-    let mut pc = end;
-    let mut land = pc as u16;
-    while 0 < pc {
-        pc -= 1;
+    let mut land = end as u16;
+    for pc in (0..end).rev() {
         let o = op_at(lines, pc);
         if o < OR {
             put_to(lines, pc, land);
             land = pc as u16;
             n = counted(n, o);
         } else {
-            let x = kept[depth];
+            let x = kept.last();
             put_to(lines, pc, to_by(o, land, x));
-            depth = keep(o, pc, land, depth, &mut kept);
+            kept.keep(o, pc, land);
             land = land_by(o, pc, land, x);
         }
     }
@@ -134,15 +160,12 @@ pub fn link(last: usize, lines: &mut Lines) -> usize
     ensures fact_2 { columns_of lines.new ≡ linked_in (suc last) (columns_of lines.old) }
 {
     let mut n: usize = 0;
-    let mut pc = last + 1;
-    while 0 < pc {
-        let land = pc as u16;
-        let o = op_at(lines, pc - 1);
+    for pc in (0..last + 1).rev() {
+        let o = op_at(lines, pc);
         if OR <= o {
-            return link_kept(pc, n, lines);
+            return link_kept(pc + 1, n, lines);
         }
-        pc -= 1;
-        put_to(lines, pc, land);
+        put_to(lines, pc, (pc + 1) as u16);
         n = counted(n, o);
     }
     n

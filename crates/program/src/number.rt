@@ -1,4 +1,6 @@
 // The numbers of the slots: each line that divides has one, and each line that is reserved after a tuple's. Those below 16 are the variables'.
+#![tactic(auto, using(crate::proofs::Numbering::numbering_rules, crate::proofs::Numbering::width_rules))]
+
 ghost use Rattle.std.specs.Prelude.{◌≡◌, suc, ◌<◌, ◌≤◌};
 ghost use Rattle.words.specs.Words.{entries};
 ghost use Rattle.tables.specs.Line.{columns_of};
@@ -36,13 +38,10 @@ pub fn number(last: usize, lines: &mut Lines)
 {
     let mut next = FIRST;
     let mut left: u16 = 0;
-    let mut pc: usize = 0;
-    while pc <= last {
-        let here = pc;
-        left = width(op_at(lines, here), left);
-        pc += 1;
+    for pc in 0..last + 1 {
+        left = width(op_at(lines, pc), left);
         if 0 < left {
-            put_arg(lines, here, next);
+            put_arg(lines, pc, next);
             next += 1;
             left -= 1;
         }

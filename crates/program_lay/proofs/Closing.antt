@@ -14,8 +14,11 @@ use mir.Val.{Fits}
 use Rattle.words.specs.Words.{entries}
 use Rattle.tables.specs.declared.line.Line.{Line}
 use Rattle.tables.specs.Line.{Columns, written}
-use Rattle.program_rules.specs.Lines.{Waiting, waits, close_line, resumed, laid}
-use Rattle.program_rules.specs.Stack.{waiting_at, close_lines}
+use Rattle.program_rules.specs.Lines.{Waiting, close_line, resumed, laid}
+use Rattle.std.specs.Prelude.{Some, None}
+use Rattle.program_rules.specs.Stack.{Stack, stack, waiting_at, close_lines}
+use Rattle.program_parts.specs.declared.Part.{Part}
+use Rattle.program_parts.specs.Parts.{Ended}
 use Rattle.program_rules.specs.Made.{resumed_end}
 
 close_more : (s b : List ℕ) (d : ℕ) → 3 < get_or b (suc d) 0 → close_lines s b (suc d) ≡ close_line (get_or b (suc d) 0) (get_or s (suc d) 0) ∷ close_lines s b d
@@ -89,7 +92,68 @@ module _ (depth pc : ℕ) (s b : List ℕ) (t₀ t : Columns) (d q : ℕ) (c : C
   unfolding laid
   closing_laid h = sym (c.whole ∙ rw (close_none s b d h))
 
-pub ruleset closing_rules = (closing_start, closing_less, closing_some, closing_next, closing_low, closing_fits, closing_index, closing_done, closing_laid, rules)
+-- The same with the ends taken away one by one, over the stack w₀.
+pub record Ending (w₀ w : Stack) (pc q : ℕ) (t₀ t : Columns) : Type 0 where
+  pub closing : Closing w₀.depth pc w₀.slots w₀.behind t₀ t w.depth q
+  pub same : w ≡ stack w₀.under w₀.slots w₀.behind w.depth
+
+pub ending_start : (w : Stack) (pc : ℕ) (t : Columns) → Ending w w pc pc t t
+ending_start w pc t = record { closing = closing_start w.depth pc w.slots w.behind t; same = refl }
+
+module _ (w₀ w w' : Stack) (pc q : ℕ) (t₀ t : Columns) (c : Ending w₀ w pc q t₀ t) where
+  behind_same : (k : ℕ) → get_or w.behind k 0 ≡ get_or w₀.behind k 0
+  behind_same k = ap (λ (x : Stack). get_or x.behind k 0) c.same
+
+  slot_same : (k : ℕ) → get_or w.slots k 0 ≡ get_or w₀.slots k 0
+  slot_same k = ap (λ (x : Stack). get_or x.slots k 0) c.same
+
+  pub ending_shallow : w₀.depth < 257 → w.depth < 257
+  ending_shallow h = closing_index _ _ _ _ _ _ _ _ c.closing h
+
+  pub ending_floor : get_or w₀.behind 0 0 ≡ 0 → get_or w.behind 0 0 ≡ 0
+  ending_floor e = behind_same 0 ∙ e
+
+  module _ (e : get_or w₀.behind 0 0 ≡ 0) where
+    module _ (p : Part) (o : Ended w (Some p) w') where
+      more : 3 < get_or w₀.behind w.depth 0
+      more = rw (← behind_same w.depth) o.0
+
+      pub ending_less : w'.depth < w.depth
+      ending_less = let d : w'.depth ≡ w.depth - 1 = ap (λ (x : Stack). x.depth) o.3 in rw d (closing_less w₀.behind w.depth e more)
+
+      pub ending_low : pc + length (close_lines w₀.slots w₀.behind w₀.depth) < entries → q < entries
+      ending_low l = closing_low _ _ _ _ _ _ _ _ c.closing e more l
+
+      pub ending_fits : pc + length (close_lines w₀.slots w₀.behind w₀.depth) < entries → Fits w64 (q + 1)
+      ending_fits l = closing_fits _ _ _ _ _ _ _ _ c.closing e more l
+
+      pub ending_next : (t' : Columns) → t' ≡ written q (close_line p.behind p.slot) t → Ending w₀ w' pc (q + 1) t₀ t'
+      ending_next t' h =
+          let b : p.behind ≡ get_or w₀.behind w.depth 0 = o.1 ∙ behind_same w.depth in
+          let s : p.slot ≡ get_or w₀.slots w.depth 0 = o.2 ∙ slot_same w.depth in
+          let d : w'.depth ≡ w.depth - 1 = ap (λ (x : Stack). x.depth) o.3 in
+          record {
+            closing = rw d (closing_next _ _ _ _ _ _ _ _ c.closing t' e more (rw (b, s) at h));
+            same = o.3 ∙ (λ i. stack (ap (λ (x : Stack). x.under) c.same i) (ap (λ (x : Stack). x.slots) c.same i) (ap (λ (x : Stack). x.behind) c.same i) (sym d i));
+          }
+
+    module _ (o : Ended w None w') where
+      most : get_or w₀.behind w.depth 0 ≤ 3
+      most = rw (← behind_same w.depth) o.0
+
+      pub ending_place : q ≡ pc + length (close_lines w₀.slots w₀.behind w₀.depth)
+      ending_place = let d = closing_done _ _ _ _ _ _ _ _ c.closing most in let l = c.closing.level in omega arith
+
+      pub ending_depth : w'.depth + length (close_lines w₀.slots w₀.behind w₀.depth) ≡ w₀.depth
+      ending_depth = rw o.1 (closing_done _ _ _ _ _ _ _ _ c.closing most)
+
+      pub ending_same : w' ≡ stack w₀.under w₀.slots w₀.behind w'.depth
+      ending_same = rw o.1 c.same
+
+      pub ending_laid : t ≡ laid pc (close_lines w₀.slots w₀.behind w₀.depth) t₀
+      ending_laid = closing_laid _ _ _ _ _ _ _ _ c.closing most
+
+pub ruleset closing_rules = (ending_start, ending_shallow, ending_floor, ending_less, ending_low, ending_fits, ending_next, ending_place, ending_depth, ending_same, ending_laid, rules)
 
 -- ---- What waits then.
 

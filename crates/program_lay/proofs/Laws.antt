@@ -61,32 +61,29 @@ pub record Reserving (e pc : ℕ) (t₀ t : Columns) (q left : ℕ) : Type 0 whe
   pub whole : laid pc (reserved_lines e) t₀ ≡ laid q (reserved_lines left) t
   pub place : q + left ≡ pc + e
 
-pub reserving_start : (e pc : ℕ) (t : Columns) → Reserving e pc t t pc e
-reserving_start e pc t = record { whole = refl; place = refl }
+pub reserving_start : (e pc x : ℕ) (t : Columns) → x ≡ e → Reserving e pc t t pc (pc + x - pc)
+reserving_start e pc x t h = let y : pc + x - pc ≡ e = omega arith in rw y (record { whole = refl; place = refl })
 
-module _ (e pc : ℕ) (t₀ t : Columns) (q left : ℕ) (r : Reserving e pc t₀ t q left) where
-  pub reserving_next : (t' : Columns) → 0 < left → t' ≡ written q reserved_line t → Reserving e pc t₀ t' (q + 1) (left - 1)
+-- Up to the place `end`.
+module _ (e pc end : ℕ) (t₀ t : Columns) (q : ℕ) (r : Reserving e pc t₀ t q (end - q)) where
+  pub reserving_next : (t' : Columns) → q < end → t' ≡ written q reserved_line t → Reserving e pc t₀ t' (q + 1) (end - (q + 1))
   unfolding laid reserved_lines
-  reserving_next t' h w = record { whole = r.whole ∙ go left h ∙ rw (add-one q, w); place = (let p = r.place in omega arith) }
+  reserving_next t' h w =
+      let z : end - (q + 1) ≡ end - q - 1 = omega arith in
+      rw z (record { whole = r.whole ∙ go (end - q) (omega arith) ∙ rw (add-one q, w); place = (let p = r.place in omega arith) })
     where
       go : (k : ℕ) → 0 < k → laid q (reserved_lines k) t ≡ laid (suc q) (reserved_lines (k - 1)) (written q reserved_line t)
       go zero z = absurd (omega arith)
       go (suc k) z = let y : suc k - 1 ≡ k = omega arith in rw y
 
-  pub reserving_end : left ≤ 0 → q ≡ pc + e
-  reserving_end h = let p = r.place in omega arith
-
-  pub reserving_laid : left ≤ 0 → t ≡ laid pc (reserved_lines e) t₀
+  pub reserving_laid : end ≤ q → t ≡ laid pc (reserved_lines e) t₀
   unfolding laid reserved_lines
-  reserving_laid h = let z : left ≡ 0 = omega arith in sym (r.whole ∙ rw z)
+  reserving_laid h = let z : end - q ≡ 0 = omega arith in sym (r.whole ∙ rw z)
 
-  pub reserving_low : pc + e < entries → 0 < left → q < entries
+  pub reserving_low : pc + e < entries → q < end → q < entries
   reserving_low h z = let p = r.place in omega arith
 
-  pub reserving_fits : pc + e < entries → 0 < left → Fits w64 (q + 1)
-  reserving_fits h z = let p = r.place in record { fits = omega arith }
-
-pub ruleset reserve_rules = (reserving_start, reserving_next, reserving_end, reserving_laid, reserving_low, reserving_fits, rules)
+pub ruleset reserve_rules = (reserving_start, reserving_next, reserving_laid, reserving_low, rules)
 
 pub divide_laid : (t u w : Columns) (pc e e' f o i : ℕ) → u ≡ written pc (line (o + e') f 0 i (pos 0)) t → e' ≡ e → w ≡ laid (pc + 1) (reserved_lines e) u
     → w ≡ laid pc (line (o + e) f 0 i (pos 0) ∷ reserved_lines e) t

@@ -1,5 +1,5 @@
 // Lines, written in their table.
-#![tactic(auto)]
+#![tactic(auto, using(crate::proofs::Laws::put_rules, crate::proofs::Laws::reserve_rules, crate::proofs::Laws::divide_rules, crate::proofs::Laws::leaf_rules))]
 
 pub mod ends;
 
@@ -12,13 +12,6 @@ use program_parts::tags::{arg_of, con_of, operands};
 use tables::instruction::{CONSTANT, SAME};
 use tables::line::{Line, Lines, put_line};
 
-// A number of a line.
-fn half(x: u8) -> u16
-    ensures { result ≡ x }
-{
-    x as u16
-}
-
 // One line.
 pub fn put(pc: usize, o: u16, f: u16, a: u16, i: u8, c: i32, lines: &mut Lines)
     requires { pc < entries }
@@ -28,7 +21,7 @@ pub fn put(pc: usize, o: u16, f: u16, a: u16, i: u8, c: i32, lines: &mut Lines)
         op: o,
         from: f,
         arg: a,
-        mat: half(i),
+        mat: u16::from(i),
         con: c,
     };
     put_line(lines, pc, l);
@@ -89,14 +82,11 @@ pub fn reserve(e: u8, pc: usize, lines: &mut Lines) -> usize
     ensures fact_1 { result ≡ pc + e }
     ensures fact_2 { columns_of lines.new ≡ laid pc (reserved_lines e) (columns_of lines.old) }
 {
-    let mut q = pc;
-    let mut left = e;
-    while 0 < left {
+    let end = pc + usize::from(e);
+    for q in pc..end {
         put(q, SAME, 0, 0, 0, 0, lines);
-        q += 1;
-        left -= 1;
     }
-    q
+    end
 }
 
 // The line of a tag with parts, and those reserved after it: the place after them.
@@ -106,6 +96,6 @@ pub fn divide(o: u16, e: u8, f: u16, i: u8, pc: usize, lines: &mut Lines) -> usi
     ensures fact_1 { result ≡ suc pc + e }
     ensures fact_2 { columns_of lines.new ≡ laid pc (line (o + e) f 0 i (pos 0) ∷ reserved_lines e) (columns_of lines.old) }
 {
-    put(pc, o + half(e), f, 0, i, 0, lines);
+    put(pc, o + u16::from(e), f, 0, i, 0, lines);
     reserve(e, pc + 1, lines)
 }

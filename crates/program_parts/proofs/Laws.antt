@@ -9,7 +9,7 @@ use borrow.Author.Rules.{rules}
 use borrow.Author.Tests.{ne_eqb, lt-ltb, le-ltb, eq-eqb}
 use lib.Dec.{eqb, ltb}
 use lib.ListN.{length, get_or, drop, set, length-drop, drop_of_length-le, get_or-eq_default}
-use lib.Seq.{get_or-drop}
+use lib.Seq.{get_or-drop, map-set_same}
 use lib.IntN.{ℤ, pos, negsuc}
 use mir.Syntax.{w8}
 use mir.Val.{Fits}
@@ -18,6 +18,12 @@ use Rattle.matchers.specs.Places.{width_of, parts_by, spans, spans_wide, matcher
 use Rattle.program_rules.specs.Lines.{ops_under, op_of, operands_of, beyond_two, reserved_by, arg_of, con_of, first_under, second_under}
 use Rattle.program_rules.specs.Made.{cond_le}
 use Rattle.program_rules.specs.Stack.{stack, popped}
+use Rattle.program_parts.specs.declared.Part.{Part}
+use Rattle.program_parts.specs.declared.Parts.{Parts}
+use Rattle.program_parts.specs.Parts.{no_part, unders, slots, behinds, stack_of, pushed, Ended}
+use Rattle.std.specs.Prelude.{Some, None}
+use Rattle.std.proofs.Math.ListN.{get_or-map}
+use Rattle.std.proofs.lemmas.List.{map-set}
 
 -- ---- Tables.
 
@@ -151,20 +157,79 @@ pub ruleset under_rules = (under_high, under_join, under_tuple, under_cons, unde
 
 -- ---- The stack.
 
-pub pop_last : (ms : List ℤ) (u s n : List ℕ) (d : ℕ) → get_or n d 0 ≡ 0 → stack u s n (d - 1) ≡ popped ms (stack u s n d)
+pop_last : (ms : List ℤ) (u s n : List ℕ) (d : ℕ) → get_or n d 0 ≡ 0 → stack u s n (d - 1) ≡ popped ms (stack u s n d)
 unfolding popped
 pop_last ms u s n d e = rw e
 
-pub pop_else : (ms : List ℤ) (u s n : List ℕ) (d : ℕ) → get_or n d 0 ≡ 3 → stack u s (set n d 4) d ≡ popped ms (stack u s n d)
+pop_else : (ms : List ℤ) (u s n : List ℕ) (d : ℕ) → get_or n d 0 ≡ 3 → stack u s (set n d 4) d ≡ popped ms (stack u s n d)
 unfolding popped
 pop_else ms u s n d e = rw e
 
-pub pop_next : (ms : List ℤ) (u s n : List ℕ) (d i : ℕ) → (get_or n d 0 ≡ 0 → ⊥) → (get_or n d 0 ≡ 3 → ⊥) → i ≡ matcher_end ms (get_or u d 0)
+pop_next : (ms : List ℤ) (u s n : List ℕ) (d i : ℕ) → (get_or n d 0 ≡ 0 → ⊥) → (get_or n d 0 ≡ 3 → ⊥) → i ≡ matcher_end ms (get_or u d 0)
     → stack (set u d i) (set s d (get_or s d 0 + 1)) (set n d (get_or n d 0 - 1)) d ≡ popped ms (stack u s n d)
 unfolding popped
 pop_next ms u s n d i h g e = rw (ne_eqb (get_or n d 0) 0 h, ne_eqb (get_or n d 0) 3 g, e)
 
-pub ruleset pop_rules = (pop_last, pop_else, pop_next, rules)
+module _ (w : Parts) where
+  abbrev d : ℕ
+  d = w.depth
+
+  abbrev on_top : Part
+  on_top = get_or w.waiting w.depth no_part
+
+  slot_is : get_or (slots w.waiting) d 0 ≡ on_top.slot
+  slot_is = get_or-map (λ (p : Part). p.slot) w.waiting d no_part
+
+  under_is : get_or (unders w.waiting) d 0 ≡ on_top.under
+  under_is = get_or-map (λ (p : Part). p.under) w.waiting d no_part
+
+  behind_is : get_or (behinds w.waiting) d 0 ≡ on_top.behind
+  behind_is = get_or-map (λ (p : Part). p.behind) w.waiting d no_part
+
+  pub push_is : (p : Part) → stack_of (record { waiting = set w.waiting (d + 1) p; depth = d + 1 }) ≡ pushed p (stack_of w)
+  push_is p i = stack
+      (map-set (λ (q : Part). q.under) w.waiting (d + 1) p i)
+      (map-set (λ (q : Part). q.slot) w.waiting (d + 1) p i)
+      (map-set (λ (q : Part). q.behind) w.waiting (d + 1) p i)
+      (d + 1)
+
+  pub end_low : get_or (behinds w.waiting) 0 0 ≡ 0 → 3 < on_top.behind → 1 ≤ d
+  end_low e h = go d (rw behind_is h)
+    where
+      go : (k : ℕ) → 3 < get_or (behinds w.waiting) k 0 → 1 ≤ k
+      go zero g = absurd (omega arith)
+      go (suc k) g = omega arith
+
+  pub end_none : on_top.behind ≤ 3 → Ended (stack_of w) None (stack_of w)
+  end_none h = (rw behind_is h, refl)
+
+  pub end_some : 3 < on_top.behind → Ended (stack_of w) (Some on_top) (stack_of (record { waiting = w.waiting; depth = d - 1 }))
+  end_some h = (rw behind_is h, sym behind_is, sym slot_is, refl)
+
+  pub pop_to_lower : (ms : List ℤ) → on_top.behind ≡ 0 → stack_of (record { waiting = w.waiting; depth = d - 1 }) ≡ popped ms (stack_of w)
+  pop_to_lower ms e = pop_last ms _ _ _ d (behind_is ∙ e)
+
+  pub pop_to_end : (ms : List ℤ) → on_top.behind ≡ 3
+      → stack_of (record { waiting = set w.waiting d (record { slot = on_top.slot; under = on_top.under; behind = 4 }); depth = d }) ≡ popped ms (stack_of w)
+  pop_to_end ms e =
+      (λ i. stack
+      (map-set_same (λ (q : Part). q.under) w.waiting d (record { slot = on_top.slot; under = on_top.under; behind = 4 }) no_part refl i)
+      (map-set_same (λ (q : Part). q.slot) w.waiting d (record { slot = on_top.slot; under = on_top.under; behind = 4 }) no_part refl i)
+      (map-set (λ (q : Part). q.behind) w.waiting d (record { slot = on_top.slot; under = on_top.under; behind = 4 }) i)
+      d)
+      ∙ pop_else ms _ _ _ d (behind_is ∙ e)
+
+  pub pop_to_next : (ms : List ℤ) (j : ℕ) → (on_top.behind ≡ 0 → ⊥) → (on_top.behind ≡ 3 → ⊥) → j ≡ matcher_end ms on_top.under
+      → stack_of (record { waiting = set w.waiting d (record { slot = on_top.slot + 1; under = j; behind = on_top.behind - 1 }); depth = d }) ≡ popped ms (stack_of w)
+  pop_to_next ms j h g e =
+      (λ i. stack
+      (map-set (λ (q : Part). q.under) w.waiting d (record { slot = on_top.slot + 1; under = j; behind = on_top.behind - 1 }) i)
+      ((map-set (λ (q : Part). q.slot) w.waiting d (record { slot = on_top.slot + 1; under = j; behind = on_top.behind - 1 }) ∙ ap (λ x. set (slots w.waiting) d (x + 1)) (sym slot_is)) i)
+      ((map-set (λ (q : Part). q.behind) w.waiting d (record { slot = on_top.slot + 1; under = j; behind = on_top.behind - 1 }) ∙ ap (λ x. set (behinds w.waiting) d (x - 1)) (sym behind_is)) i)
+      d)
+      ∙ pop_next ms _ _ _ d j (λ z. h (sym behind_is ∙ z)) (λ z. g (sym behind_is ∙ z)) (e ∙ ap (matcher_end ms) (sym under_is))
+
+pub ruleset pop_rules = (push_is, end_low, end_none, end_some, pop_to_lower, pop_to_end, pop_to_next, rules)
 
 pub by_same : {A : Type 0} (o k : ℕ) (x y : A) → o ≡ k → x ≡ cond (eqb o k) x y
 by_same o k x y e = rw (e, eq-eqb k k refl)

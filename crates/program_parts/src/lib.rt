@@ -1,29 +1,30 @@
-// The matchers of parts, and the parts that wait: three arrays up to a depth, one for each number of a part.
+// The matchers of parts, and the parts that wait.
 #![tactic(auto)]
 
 pub mod tags;
 
-ghost use Rattle.std.specs.Prelude.{◌≡◌, cond, ◌+◌, ◌<◌, ◌≤◌, length, get_or, eqb};
+ghost use Rattle.std.specs.Prelude.{◌≡◌, cond, ◌+◌, ◌-◌, ◌<◌, ◌≤◌, length, get_or, eqb, replicate};
 ghost use Rattle.matchers.specs.Places.{matcher_end};
 ghost use Rattle.program_rules.specs.Lines.{behind_by, first_under, second_under};
 ghost use Rattle.program_rules.specs.Stack.{stack, popped};
+ghost use Rattle.program_parts.specs.Parts.{stack_of, pushed, Ended};
 
 use matchers::matcher_end;
 use tables::instruction::{JOIN, NOT, OR, PAIR, QUADRUPLE};
 
-// A matcher's index.
-pub fn wide(x: u8) -> usize
-    ensures { result ≡ x }
-{
-    x as usize
-}
+// What waits in place of a part: the second side of an or, the end of an or, and the end of the search inside a not.
+pub const OTHER_SIDE: u8 = 3;
+
+pub const END_OF_OR: u8 = 4;
+
+pub const END_OF_NOT: u8 = 5;
 
 // Where the matcher ends whose tag is at an index.
 pub fn end_of(m: &[i32], i: u8) -> u8
     requires { length m.now ≤ 64 }
     ensures { result ≡ matcher_end m.now i }
 {
-    let e = matcher_end(m, wide(i));
+    let e = matcher_end(m, usize::from(i));
     e as u8
 }
 
@@ -63,7 +64,7 @@ pub fn from_by(o: u16, f: u16) -> u16
     if o == NOT { f } else { 0 }
 }
 
-// The slot and the number of what waits after a tag with parts, e places being reserved.
+// The slot of what waits after a tag with parts.
 pub fn slot_by(o: u16, pc: usize, f: u16) -> u16
     requires { pc < 1000 }
     ensures { result ≡ cond (eqb o 15) f pc }
@@ -71,41 +72,114 @@ pub fn slot_by(o: u16, pc: usize, f: u16) -> u16
     if o == OR { f } else { pc as u16 }
 }
 
+// The number of what waits after a tag with parts, e places being reserved.
 pub fn behind_by(o: u16, e: u8) -> u8
     ensures { result ≡ behind_by o e }
 {
     match o {
-        OR => 3,
-        NOT => 5,
+        OR => OTHER_SIDE,
+        NOT => END_OF_NOT,
         _ => e,
     }
 }
 
-// The part that waits at a depth waits no longer: the depth of what waits then.
-pub fn pop(
-    m: &[i32],
+// As many parts can wait as a pattern has words; the entry 0 is no part's.
+const PARTS: usize = 257;
+
+// A part that waits: the slot where its value will be, the index of its matcher, and how many parts of the same tuple wait behind it. In place of that
+// number stands what is no part, as `waits` has it.
+#[derive(Clone, Copy)]
+pub struct Part {
+    pub slot: u16,
+    pub under: u8,
+    pub behind: u8,
+}
+
+// The parts that wait, up to a depth.
+#[derive(Drop)]
+pub struct Parts {
+    waiting: [Part; PARTS],
     depth: usize,
-    under: &mut [u8; 257],
-    slots: &mut [u16; 257],
-    behind: &mut [u8; 257],
-) -> usize
-    requires fact_1 { length m.now ≤ 64 }
-    requires fact_2 { (0 < depth) × (depth < 257) × (get_or slots.old depth 0 < 1000) }
-    ensures { stack under.new slots.new behind.new result ≡ popped m.now (stack under.old slots.old behind.old depth) }
-{
-    let n = behind[depth];
-    if n == 0 {
-        return depth - 1;
+}
+
+impl Parts {
+    pub fn none() -> Parts
+        ensures { stack_of result ≡ stack (replicate 257 0) (replicate 257 0) (replicate 257 0) 0 }
+    {
+        let no_part = Part {
+            slot: 0,
+            under: 0,
+            behind: 0,
+        };
+        Parts {
+            waiting: [no_part; PARTS],
+            depth: 0,
+        }
     }
-    if n == 3 {
-        behind[depth] = 4;
-        return depth;
+
+    // Whether no part waits.
+    pub fn is_empty(&self) -> bool
+        ensures { result ≡ eqb self.now.depth 0 }
+    {
+        self.depth == 0
     }
-    let i = under[depth];
-    let c = slots[depth];
-    let j = end_of(m, i);
-    under[depth] = j;
-    slots[depth] = c + 1;
-    behind[depth] = n - 1;
-    depth
+
+    // The part on top.
+    pub fn top(&self) -> Part
+        requires { self.now.depth < 257 }
+        ensures slot { result.slot ≡ get_or (stack_of self.now).slots self.now.depth 0 }
+        ensures under { result.under ≡ get_or (stack_of self.now).under self.now.depth 0 }
+        ensures behind { result.behind ≡ get_or (stack_of self.now).behind self.now.depth 0 }
+    {
+        self.waiting[self.depth]
+    }
+
+    #[tactic(auto, using(crate::proofs::Laws::pop_rules))]
+    pub fn push(&mut self, part: Part)
+        requires { self.old.depth + 1 < 257 }
+        ensures { stack_of self.new ≡ pushed part (stack_of self.old) }
+    {
+        let d = self.depth + 1;
+        self.waiting[d] = part;
+        self.depth = d;
+    }
+
+    // What waits on top, taken away where it is the end of an or or of what is inside a not.
+    #[tactic(auto, using(crate::proofs::Laws::pop_rules))]
+    pub fn take_end(&mut self) -> Option<Part>
+        requires shallow { self.old.depth < 257 }
+        requires floor { get_or (stack_of self.old).behind 0 0 ≡ 0 }
+        ensures { Ended (stack_of self.old) result (stack_of self.new) }
+    {
+        let top = self.waiting[self.depth];
+        if top.behind <= OTHER_SIDE {
+            return None;
+        }
+        self.depth -= 1;
+        Some(top)
+    }
+
+    // The part on top waits no longer: the one behind it does, or what lies below.
+    #[tactic(auto, using(crate::proofs::Laws::pop_rules))]
+    pub fn pop(&mut self, m: &[i32])
+        requires brief { length m.now ≤ 64 }
+        requires some { 0 < self.old.depth }
+        requires shallow { self.old.depth < 257 }
+        requires low { get_or (stack_of self.old).slots self.old.depth 0 < 1000 }
+        ensures { stack_of self.new ≡ popped m.now (stack_of self.old) }
+    {
+        let d = self.depth;
+        let part = self.waiting[d];
+        match part.behind {
+            0 => self.depth = d - 1,
+            OTHER_SIDE => self.waiting[d].behind = END_OF_OR,
+            more => {
+                self.waiting[d] = Part {
+                    slot: part.slot + 1,
+                    under: end_of(m, part.under),
+                    behind: more - 1,
+                };
+            }
+        }
+    }
 }

@@ -5,28 +5,28 @@ ghost use Rattle.program_rules.specs.Lines.{op_of, operands_of, beyond_two, rese
 use tables::instruction::{
     AND, BIND, CONSTANT, DROP, END, EQUAL, JOIN, LIST_CONS, MULTISET_CONS, NIL, NOT, OR, PAIR, SUM,
 };
-use words::tag_at;
+use words::{matcher, pattern, tag_at};
 
 // The instruction of a pattern's tag under a matcher's.
 pub fn op_of(t: u32, k: u32) -> u16
     ensures { result ≡ op_of t k }
 {
     match t {
-        0 => DROP,
-        1 => BIND,
-        2 => CONSTANT,
-        3 => { if k == 1 { SUM } else { EQUAL } }
-        4 => NIL,
-        5 => match k {
-            2 => LIST_CONS,
-            3 => MULTISET_CONS,
+        pattern::WILDCARD => DROP,
+        pattern::VARIABLE => BIND,
+        pattern::CONSTANT => CONSTANT,
+        pattern::VALUE => { if k == matcher::INTEGER { SUM } else { EQUAL } }
+        pattern::NIL => NIL,
+        pattern::CONS => match k {
+            matcher::LIST => LIST_CONS,
+            matcher::MULTISET => MULTISET_CONS,
             _ => END,
         },
-        6 => JOIN,
-        7 => { if k == 4 { PAIR } else { END } }
-        8 => AND,
-        9 => OR,
-        10 => NOT,
+        pattern::JOIN => JOIN,
+        pattern::TUPLE => { if k == matcher::TUPLE { PAIR } else { END } }
+        pattern::AND => AND,
+        pattern::OR => OR,
+        pattern::NOT => NOT,
         _ => END,
     }
 }

@@ -3,5 +3,4 @@ pub mod Costs
 pub mod Products
 pub mod Counted
 pub mod Pile
-pub mod Turns
 pub mod Sums

@@ -1,25 +1,24 @@
 -- The lines of a rule that is accepted have none that can fail exactly if its pattern is always true.
 use Prim.Native.Nat.{ℕ, zero, suc, ◌+◌, ◌-◌, ◌≤◌, ◌<◌}
-use Rattle.std.proofs.Common.{arith, add-one, ◌∙◌, append_assoc, append-nil, ne_eqb}
+use Rattle.std.proofs.Common.{arith, add-one, ◌∙◌, append_assoc, append-nil}
 use Rattle.std.proofs.Math.Decide.{dec_le}
 use Rattle.std.specs.Prelude.{◌≡◌, Bool, List, [], ◌∷◌, ◌++◌, eqb, get_or, ℤ}
 use Rattle.std.proofs.Math.Path.{refl, sym, ap}
 use Rattle.std.proofs.Math.Bool.{true, false, cond}
 use Rattle.rules.specs.Forms.{Matcher, tuple_of, Matchers, ◌▸ᵐ◌, tuple, Patterns, no_patterns, ◌▸ᵖ◌, countᵖ}
-use Rattle.rules.specs.Fit.{is_something, element, members}
+use Rattle.rules.specs.Fit.{is_something, members}
 use Rattle.rules.specs.Always.{tags, tags_all, none_fails, always_true}
 use Rattle.rules.specs.Services.{accepted, Rule, rule_of}
 use Rattle.forms.specs.Faults.{WellFormed, rule_accepted}
 use Rattle.words.specs.Words.{entries}
-use Rattle.program_rules.specs.Points.{Test, as_constant, as_value, as_nil, tested, test_by, Kind, list_cons, multiset_cons, joins, whole, over, first_by, loose_wildcard, loose_variable}
+use Rattle.program_rules.specs.Points.{as_constant, as_value, as_nil, tested, test_by, Kind, list_cons, multiset_cons, joins, whole, over, first_by, loose_wildcard, loose_variable}
 use Rattle.program_rules.specs.Points.{Instr, strip, keep, other, close, drop, bind, test, split, apart, choice, deny, cut_at, end, Item, item, or_else, end_or, stop}
-use Rattle.program_rules.specs.Points.{Point, point, else_place, end_place, cutting, finish, reserve, beyond, beside, reserved, first_of, others_of, items, parted}
+use Rattle.program_rules.specs.Points.{Point, point, else_place, end_place, cutting, finish, reserve, beyond, beside, reserved, others_of, items, parted}
 use Rattle.program_rules.specs.Points.{Follows, strips, drops, binds, tests, splits, aparts, keeps, chooses, denies, cuts, elses, closes, reserves, ends, after_end_lem}
 use Rattle.program_rules.specs.Length.{instrs}
-use Rattle.program_rules.specs.Program.{follow_of, point_at, program}
+use Rattle.program_rules.specs.Program.{follow_of, point_at}
 use Rattle.tables.specs.declared.line.Line.{Line}
 use Rattle.tables.specs.Line.{Columns}
-use Rattle.program_rules.specs.Lines.{end_line}
 use Rattle.program_rules.specs.Meaning.{Means, means_end, means_strip, means_drop, means_bind, means_constant, means_integer, means_value, means_nil, means_list, means_multiset, means_join, means_tuple, means_keep, means_choice, means_deny, means_cut, means_other, means_close}
 use Rattle.program_rules.specs.Accepted.{follows, last_beyond}
 use Rattle.program_rules.specs.Columns.{line_in, Holds}

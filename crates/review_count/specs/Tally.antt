@@ -1,9 +1,9 @@
 -- Document 01, section 6, and document 02, No. 3 and No. 12: review's count as a sum over the lines of a rule's program. A line where a state stands is one
 -- step, and so is the end.
-use Rattle.std.specs.Prelude.{ℕ, zero, suc, ◌+◌, ◌-◌, ◌*◌, ◌^◌, Bool, cond, List, [], ◌∷◌, get_or, eqb, ltb}
+use Rattle.std.specs.Prelude.{ℕ, zero, suc, ◌+◌, ◌-◌, ◌*◌, ◌^◌, cond, Option, Some, None, List, [], ◌∷◌, get_or, eqb, ltb}
 use Rattle.words.specs.Words.{entries}
 use Rattle.review_count.specs.declared.count.Tally.{Tally}
-use Rattle.review_count.specs.declared.count.Tally.TheVariants.{Count, TooBig}
+use Rattle.review_count.specs.declared.count.Laid.{Laid}
 use Rattle.review_count.specs.declared.count.Turn.{Turn}
 use Rattle.review_count.specs.declared.count.Turn.TheVariants.{Stay, Rest, Anew, Same, Take}
 
@@ -21,10 +21,6 @@ reserved_after o = cond (eqb o 12) 1 (cond (eqb o 13) 2 0)
 
 -- ---- What waits, the last first: the second part of a cons, a join or an and, the later parts of a tuple, the second side of an or, and the ends of an or
 -- and a not; each with the product before the line that laid it aside, and with the number of conses taken from its collection.
-
-pub record Laid : Type 0 where
-  pub product : ℕ
-  pub taken : ℕ
 
 abbrev pub aside : ℕ → ℕ → Laid
 aside e t = record { product = e; taken = t }
@@ -126,5 +122,8 @@ unfoldable pub whole_product : (most : ℕ) (ops : List ℕ) → ℕ
 whole_product most ops = product_from most ops (along 1 0 0 []) 0 0 entries
 
 -- The count and that product, unless the count passes 4,294,967,295.
-unfoldable pub within : (count product : ℕ) → Tally
-within n p = cond (ltb n (2 ^ 32)) (Count n p) TooBig
+abbrev pub tally : (count product : ℕ) → Tally
+tally n p = record { count = n; product = p }
+
+unfoldable pub within : (count product : ℕ) → Option Tally
+within n p = cond (ltb n (2 ^ 32)) (Some (tally n p)) None

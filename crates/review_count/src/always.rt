@@ -9,33 +9,26 @@ use tables::line::{Lines, op_at};
 use words::ENTRIES;
 
 // Whether a line is that of a tag that can fail: a constant, a value, nil, cons, not.
+#[tactic(auto, unfolding(crate::specs::Scan::line_fails))]
 fn line_fails(o: u16) -> bool
     ensures { result ≡ line_fails o }
 {
-    match o {
-        CONSTANT..=MULTISET_CONS => true,
-        NOT => true,
-        _ => false,
-    }
+    matches!(o, CONSTANT..=MULTISET_CONS | NOT)
 }
 
 // Whether a rule is always true: a scan over the tags of its pattern, line by line up to the end.
+#[tactic(auto, using(crate::proofs::always::Scanned::own_rules))]
 pub fn always_true(lines: &Lines) -> bool
     ensures { result ≡ none_from (columns_of lines.now).op 0 entries }
 {
-    let mut pc: usize = 0;
-    let verdict = loop {
-        if ENTRIES <= pc {
-            break true;
-        }
+    for pc in 0..ENTRIES {
         let o = op_at(lines, pc);
         if o == END {
-            break true;
+            return true;
         }
         if line_fails(o) {
-            break false;
+            return false;
         }
-        pc += 1;
-    };
-    verdict
+    }
+    true
 }

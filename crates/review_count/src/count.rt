@@ -12,12 +12,27 @@ use tables::instruction::{
 use tables::line::{Lines, op_at};
 use words::ENTRIES;
 
+// The largest count that review tells.
+const LARGEST_COUNT: u64 = 4294967295;
+
 // The count, and the product of all factors.
-#[derive(Drop)]
-pub enum Tally {
-    Count(u64, u64),
-    TooBig,
+#[derive(Clone, Copy)]
+pub struct Tally {
+    pub count: u64,
+    pub product: u64,
 }
+
+// What waits: the product before the line that laid it aside, and how many conses are taken from its collection.
+#[derive(Clone, Copy)]
+pub struct Laid {
+    pub product: u64,
+    pub taken: u16,
+}
+
+const NOTHING: Laid = Laid {
+    product: 0,
+    taken: 0,
+};
 
 // What a line does with what waits: nothing; it lays aside the rest of a cons, a part that begins anew, or one on the same collection; or the next part
 // is the one that was laid aside last.
@@ -31,51 +46,45 @@ pub enum Turn {
 }
 
 // What a line adds to the count.
+#[tactic(auto, unfolding(crate::specs::Tally::step_of))]
 fn step(o: u16, earlier: u64) -> u64
     ensures { result ≡ step_of o earlier }
 {
     match o {
-        OR_OTHER => 0,
-        OR_END => 0,
+        OR_OTHER | OR_END => 0,
         _ => earlier,
     }
 }
 
-// The cap less what is taken, never below 0.
-fn left(taken: u16, cap: u64) -> u64
-    ensures { result ≡ cap - taken }
-{
-    let t = taken as u64;
-    if t < cap { cap - t } else { 0 }
-}
-
 // The factor of a line, so many conses being taken from the collection there.
+#[tactic(auto, unfolding(crate::specs::Tally::factor_of))]
 fn factor(o: u16, taken: u16, cap: u64) -> u64
     requires { cap ≤ 64 }
     ensures { result ≡ factor_of cap taken o }
 {
     match o {
-        MULTISET_CONS => left(taken, cap),
+        MULTISET_CONS => cap.saturating_sub(u64::from(taken)),
         JOIN => cap + 1,
         _ => 1,
     }
 }
 
 // The product of the factors before the next line, `last` being the product that was laid aside with what was taken last.
+#[tactic(auto, unfolding(crate::specs::Tally::next_of, crate::specs::Tally::factor_of))]
 fn product(o: u16, earlier: u64, taken: u16, last: u64, cap: u64) -> u64
     requires fact_1 { cap ≤ 64 }
     requires fact_2 { earlier + last ≤ 281474976710656 }
     ensures { result ≡ next_of cap o earlier taken last }
 {
     match o {
-        NOT_END => last,
-        OR_OTHER => last,
+        NOT_END | OR_OTHER => last,
         OR_END => last + earlier,
         _ => earlier * factor(o, taken, cap),
     }
 }
 
 // How many places after a line are reserved for a tuple's parts.
+#[tactic(auto, unfolding(crate::specs::Tally::reserved_after))]
 fn reserved_after(o: u16) -> u8
     ensures { result ≡ reserved_after o }
 {
@@ -87,6 +96,7 @@ fn reserved_after(o: u16) -> u8
 }
 
 // What a line does with what waits.
+#[tactic(auto, unfolding(crate::specs::Tally::turn_of))]
 fn turn_of(o: u16) -> Turn
     ensures { result ≡ turn_of o }
 {
@@ -95,130 +105,118 @@ fn turn_of(o: u16) -> Turn
         DROP..=NIL => Turn::Take,
         LIST_CONS..=MULTISET_CONS => Turn::Rest,
         JOIN..=QUADRUPLE => Turn::Anew,
-        NOT_END => Turn::Take,
-        OR_END => Turn::Take,
+        NOT_END | OR_END => Turn::Take,
         _ => Turn::Same,
     }
 }
 
 // How many conses are taken from the collection of the part that is laid aside.
-fn laid(t: Turn, taken: u16) -> u16
+#[tactic(auto, unfolding(crate::specs::Tally::laid_of))]
+fn taken_aside(t: Turn, taken: u16) -> u16
     requires { taken < entries }
     ensures { result ≡ laid_of t taken }
 {
     match t {
-        Turn::Stay => 0,
         Turn::Rest => taken + 1,
-        Turn::Anew => 0,
         Turn::Same => taken,
-        Turn::Take => 0,
+        Turn::Stay | Turn::Anew | Turn::Take => 0,
     }
 }
 
-// The product that was laid aside last.
-fn top(depth: usize, kept: &[u64; ENTRIES]) -> u64
+// What was laid aside last.
+#[tactic(auto, unfolding(crate::specs::Pile::top_in))]
+fn top(depth: usize, waits: &[Laid; ENTRIES]) -> Laid
     requires { depth < entries }
-    ensures { result ≡ top_in kept.now depth }
+    ensures { result ≡ top_in waits.now depth }
 {
     if depth == 0 {
-        return 0;
+        return NOTHING;
     }
-    kept[depth - 1]
-}
-
-// The number that was laid aside last.
-fn top_taken(depth: usize, takens: &[u16; ENTRIES]) -> u16
-    requires { depth < entries }
-    ensures { result ≡ top_in takens.now depth }
-{
-    if depth == 0 {
-        return 0;
-    }
-    takens[depth - 1]
+    waits[depth - 1]
 }
 
 // The product that was laid aside with what the next line takes up.
-fn last_after(t: Turn, depth: usize, kept: &[u64; ENTRIES]) -> u64
-    requires { depth < entries }
-    ensures { result ≡ last_of t (top_in kept.now depth) }
+#[tactic(auto, unfolding(crate::specs::Tally::last_of))]
+fn last_after(t: Turn, top: u64) -> u64
+    ensures { result ≡ last_of t top }
 {
     match t {
-        Turn::Stay => 0,
-        Turn::Rest => 0,
-        Turn::Anew => 0,
-        Turn::Same => 0,
-        Turn::Take => top(depth, kept),
+        Turn::Take => top,
+        _ => 0,
     }
 }
 
 // How many conses are taken from the collection at the next line.
-fn taken_after(t: Turn, taken: u16, depth: usize, takens: &[u16; ENTRIES]) -> u16
-    requires { depth < entries }
-    ensures { result ≡ taken_of t taken (top_in takens.now depth) }
+#[tactic(auto, unfolding(crate::specs::Tally::taken_of))]
+fn taken_after(t: Turn, taken: u16, top: u16) -> u16
+    ensures { result ≡ taken_of t taken top }
 {
     match t {
-        Turn::Stay => taken,
-        Turn::Rest => 0,
-        Turn::Anew => 0,
-        Turn::Same => taken,
-        Turn::Take => top_taken(depth, takens),
+        Turn::Stay | Turn::Same => taken,
+        Turn::Rest | Turn::Anew => 0,
+        Turn::Take => top,
     }
 }
 
 // How much waits after a line.
+#[tactic(auto, unfolding(crate::specs::Pile::depth_by))]
 fn depth_after(t: Turn, depth: usize) -> usize
     requires { depth < entries }
     ensures { result ≡ depth_by t depth }
 {
     match t {
         Turn::Stay => depth,
-        Turn::Rest => depth + 1,
-        Turn::Anew => depth + 1,
-        Turn::Same => depth + 1,
-        Turn::Take => { if depth == 0 { 0 } else { depth - 1 } }
+        Turn::Rest | Turn::Anew | Turn::Same => depth + 1,
+        Turn::Take => depth.saturating_sub(1),
     }
 }
 
-// The count for a largest collection of `cap` elements. The sum never falls, so the first sum that is too big decides. `kept` and `takens` are what waits:
-// the product before the line that laid it aside, and how many conses are taken from its collection.
-pub fn tallied(lines: &Lines, cap: u64) -> Tally
+// The count for a largest collection of `cap` elements, none where it is too big. The sum never falls, so the first sum that is too big decides. `waits` is
+// what waits, up to a depth.
+#[tactic(auto, using(crate::proofs::count::Sums::own_rules))]
+pub fn tallied(lines: &Lines, cap: u64) -> Option<Tally>
     requires { cap ≤ 64 }
     ensures { result ≡ within (whole_sum cap (columns_of lines.now).op) (whole_product cap (columns_of lines.now).op) }
 {
-    let mut kept = [0u64; ENTRIES];
-    let mut takens = [0u16; ENTRIES];
+    let mut waits = [NOTHING; ENTRIES];
     let mut depth: usize = 0;
     let mut total: u64 = 0;
     let mut earlier: u64 = 1;
     let mut last: u64 = 0;
     let mut taken: u16 = 0;
     let mut skip: u8 = 0;
-    let mut pc: usize = 0;
-    while pc < ENTRIES {
-        let o = op_at(lines, pc);
-        pc += 1;
+    for pc in 0..ENTRIES {
         if 0 < skip {
             skip -= 1;
-            kept[depth] = 0;
-            takens[depth] = 0;
+            waits[depth] = NOTHING;
             depth += 1;
-        } else {
-            total += step(o, earlier);
-            if 4294967295 < total {
-                return Tally::TooBig;
-            }
-            if o == END {
-                return Tally::Count(total, earlier);
-            }
-            let t = turn_of(o);
-            kept[depth] = earlier;
-            takens[depth] = laid(t, taken);
-            earlier = product(o, earlier, taken, last, cap);
-            last = last_after(t, depth, &kept);
-            taken = taken_after(t, taken, depth, &takens);
-            depth = depth_after(t, depth);
-            skip = reserved_after(o);
+            continue;
         }
+        let o = op_at(lines, pc);
+        total += step(o, earlier);
+        if LARGEST_COUNT < total {
+            return None;
+        }
+        if o == END {
+            return Some(Tally {
+                count: total,
+                product: earlier,
+            });
+        }
+        let t = turn_of(o);
+        let above = top(depth, &waits);
+        waits[depth] = Laid {
+            product: earlier,
+            taken: taken_aside(t, taken),
+        };
+        earlier = product(o, earlier, taken, last, cap);
+        last = last_after(t, above.product);
+        taken = taken_after(t, taken, above.taken);
+        depth = depth_after(t, depth);
+        skip = reserved_after(o);
     }
-    Tally::Count(total, earlier)
+    Some(Tally {
+        count: total,
+        product: earlier,
+    })
 }

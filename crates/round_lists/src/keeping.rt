@@ -5,18 +5,13 @@ ghost use Rattle.tables.specs.Slot.{view_of};
 ghost use Rattle.round_table.specs.Entries.{Saved};
 ghost use Rattle.round_lists.specs.Lists.{waits_as, binds_as, Headed, Topped, Framed, Stored};
 
+use crate::{FIRST, HEAD};
 use round_table::slots::waiting_at;
 use round_table::{ENTRIES, put_entry};
 use search_step::State;
 use tables::line::Lines;
 use tables::slot::{Held, Slots, frame_at};
 use value_rows::Binding;
-
-// The first number of a slot that is no variable's.
-const FIRST: usize = 16;
-
-// Where the bindings and the slots start among the entries.
-const HEAD: usize = 3;
 
 // The values that wait.
 fn keep_slots(table: &mut [i32], base: usize, used: usize, slots: &Slots)
@@ -25,10 +20,8 @@ fn keep_slots(table: &mut [i32], base: usize, used: usize, slots: &Slots)
     requires fact_3 { 3 * (base + 275) ≤ length table.old }
     ensures { Saved table.old table.new base 16 used (waits_as slots.now) }
 {
-    let mut j: usize = FIRST;
-    while j < used {
+    for j in FIRST..used {
         put_entry(table, base + HEAD + j, waiting_at(slots, j));
-        j += 1;
     }
 }
 
@@ -38,15 +31,13 @@ fn keep_binds(table: &mut [i32], base: usize, n: usize, b: [Binding; 16])
     requires fact_2 { 3 * (base + 275) ≤ length table.old }
     ensures { Saved table.old table.new base 0 n (binds_as b) }
 {
-    let mut v: usize = 0;
-    while v < n {
+    for v in 0..n {
         let y = b[v];
         let h = Held {
             at: y.at,
             marks: y.marks,
         };
         put_entry(table, base + HEAD + v, h);
-        v += 1;
     }
 }
 

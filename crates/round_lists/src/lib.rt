@@ -3,3 +3,9 @@
 
 pub mod keeping;
 pub mod taking;
+
+// The first number of a slot that is no variable's.
+const FIRST: usize = 16;
+
+// Where the bindings and the slots start among the entries of a list.
+pub const HEAD: usize = 3;

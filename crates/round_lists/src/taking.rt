@@ -5,17 +5,12 @@ ghost use Rattle.tables.specs.Slot.{view_of, Slotted, Alone};
 ghost use Rattle.round_table.specs.Entries.{entry_at};
 ghost use Rattle.round_lists.specs.Taken.{Waited, Shut, Rebound, TakenOut, reopened};
 
+use crate::{FIRST, HEAD};
 use round_table::slots::{put_alone, put_waiting};
 use round_table::{ENTRIES, entry_at};
 use tables::line::Lines;
 use tables::slot::{Frame, Slots, held_at, put_frame};
 use value_rows::Binding;
-
-// The first number of a slot that is no variable's.
-const FIRST: usize = 16;
-
-// Where the bindings and the slots start among the entries.
-const HEAD: usize = 3;
 
 // The values wait in their slots.
 fn take_slots(table: &[i32], base: usize, used: usize, slots: &mut Slots)
@@ -25,10 +20,8 @@ fn take_slots(table: &[i32], base: usize, used: usize, slots: &mut Slots)
     requires fact_4 { 1360 ≤ length slots.old }
     ensures { Waited table.now base used slots.old slots.new }
 {
-    let mut j: usize = FIRST;
-    while j < used {
+    for j in FIRST..used {
         put_waiting(slots, j, entry_at(table, base + HEAD + j));
-        j += 1;
     }
 }
 
@@ -38,10 +31,8 @@ fn shut_slots(used: usize, slots: &mut Slots)
     requires fact_2 { 1360 ≤ length slots.old }
     ensures { Shut used slots.old slots.new }
 {
-    let mut j: usize = 0;
-    while j < used {
+    for j in 0..used {
         put_alone(slots, j);
-        j += 1;
     }
 }
 
@@ -52,14 +43,12 @@ fn take_binds(table: &[i32], base: usize, n: usize, given: [Binding; 16]) -> [Bi
     ensures { Rebound table.now base n given result }
 {
     let mut b = given;
-    let mut v: usize = 0;
-    while v < n {
+    for v in 0..n {
         let h = entry_at(table, base + HEAD + v);
         b[v] = Binding {
             at: h.at,
             marks: h.marks,
         };
-        v += 1;
     }
     b
 }

@@ -42,11 +42,9 @@ pub fn slots_used(lines: &Lines) -> usize
     ensures { Numbered (columns_of lines.now).arg 650 result }
 {
     let mut u: usize = VARIABLES;
-    let mut pc: usize = 0;
-    while pc < ENTRIES {
+    for pc in 0..ENTRIES {
         let a = arg_at(lines, pc);
         u = wider(u, a);
-        pc += 1;
     }
     u
 }

@@ -8,7 +8,6 @@ ghost use Rattle.round_sweep.specs.Frames.{Framing};
 use tables::instruction::{JOIN, OR};
 use tables::line::{Lines, op_at};
 use tables::slot::{Slots, frame_at};
-use words::casts::index;
 use words::marks::count;
 
 // A cons has one for each mark left, a join one for each longer front and its own, an or one.
@@ -26,7 +25,7 @@ pub fn choices_left(top: usize, lines: &Lines, slots: &Slots) -> usize
     }
     let f = frame_at(slots, lines, top - 1);
     if o == JOIN {
-        return index(count(f.whole - f.left)) + 1;
+        return count(f.whole - f.left) as usize + 1;
     }
-    index(count(f.left))
+    count(f.left) as usize
 }

@@ -2,10 +2,8 @@
 ghost use Rattle.std.specs.Prelude.{◌+◌, ◌*◌, ◌≤◌, length};
 ghost use Rattle.round_sweep.specs.Pulls.{Pulled};
 
+use round_lists::HEAD;
 use round_table::{ENTRIES, copy};
-
-// Where the slots start among the entries of a list.
-const HEAD: usize = 3;
 
 // From the lists behind `many` on, `left` of them, to those behind `fresh`; of each the entries that the rule uses.
 pub fn pull(table: &mut [i32], many: usize, fresh: usize, left: usize, used: usize)
@@ -17,14 +15,12 @@ pub fn pull(table: &mut [i32], many: usize, fresh: usize, left: usize, used: usi
     if fresh == many {
         return;
     }
-    let mut k: usize = 0;
-    while k < left {
+    for k in 0..left {
         copy(
             table,
             (many + k) * ENTRIES,
             (fresh + k) * ENTRIES,
             HEAD + used,
         );
-        k += 1;
     }
 }

@@ -32,15 +32,13 @@ pub fn sweep(
     ensures { SweptBy (env_by (columns_of lines.now) mt.now s.now terms) used terms.budget many first table.old slots.old room.old result table.new slots.new room.new }
 {
     let mut w = first;
-    let mut i: usize = 0;
-    while i < many {
+    for i in 0..many {
         if w.answer != 0 {
             return w;
         }
         w = turn(
             w, i, many, terms, used, mt, s, places, lines, slots, table, room,
         );
-        i += 1;
     }
     w
 }

@@ -1,6 +1,6 @@
 -- The entries of a lent table: three words each, a place and the two halves of marks.
-use Rattle.std.specs.Prelude.{ℕ, suc, ◌+◌, ◌*◌, ◌/◌, ◌%◌, ◌^◌, ◌≤◌, ◌<◌, ◌≡◌, refl, List, length, get_or, set, ℤ, pos}
-use Rattle.std.proofs.Common.{arith, sym, ap₂, ◌∙◌, to_z, of_z, Fits}
+use Rattle.std.specs.Prelude.{ℕ, ◌+◌, ◌*◌, ◌/◌, ◌%◌, ◌^◌, ◌≤◌, ◌<◌, ◌≡◌, List, length, get_or, set, ℤ, pos}
+use Rattle.std.proofs.Common.{arith, ap₂, ◌∙◌, to_z, of_z}
 use Rattle.std.proofs.Math.Path.{ap}
 use Rattle.std.proofs.Math.ListN.{length-set}
 use Rattle.std.proofs.Math.Seq.{get_or-set_same, get_or-set_other}

@@ -1,6 +1,6 @@
 // Document 02, No. 10: the waiting states, in a table of words that the game lends. A list of states that follow from one state is kept as its first state and
 // the choices left, at a fixed size: entries of three words, a place and the two halves of its marks.
-#![tactic(auto)]
+#![tactic(auto, using(crate::proofs::Laws::own_rules), unfolding(crate::specs::Entries::halves, crate::specs::Entries::word_at))]
 
 pub mod slots;
 
@@ -10,8 +10,6 @@ ghost use Rattle.std.proofs.Common.{to_z};
 ghost use Rattle.round_table.specs.Entries.{halves, word_at, entry_at, put_entry, Small, Copied};
 
 use tables::slot::Held;
-use words::casts::{index, wide};
-use words::{bits, of_bits};
 
 // The entries of a list of states: three of its first state and the open frame, then one for each binding and each slot.
 pub const ENTRIES: usize = 275;
@@ -23,7 +21,7 @@ pub const STATE_WORDS: usize = 825;
 fn joined(low: u32, high: u32) -> u64
     ensures { result ≡ halves low high }
 {
-    wide(low) + 4294967296 * wide(high)
+    u64::from(low) + 4294967296 * u64::from(high)
 }
 
 // The bits of a word of the table.
@@ -31,7 +29,7 @@ fn word_at(table: &[i32], i: usize) -> u32
     requires { i < length table.now }
     ensures { result ≡ word_at table.now i }
 {
-    bits(table[i])
+    table[i].cast_unsigned()
 }
 
 // A word of the table is written, from its bits.
@@ -39,7 +37,7 @@ fn put_word(table: &mut [i32], i: usize, u: u32)
     requires { i < length table.old }
     ensures { table.new ≡ set table.old i (to_z w32 u) }
 {
-    table[i] = of_bits(u);
+    table[i] = u.cast_signed();
 }
 
 // The entry at an index.
@@ -50,7 +48,7 @@ pub fn entry_at(table: &[i32], i: usize) -> Held
 {
     let k = 3 * i;
     Held {
-        at: index(word_at(table, k)),
+        at: word_at(table, k) as usize,
         marks: joined(word_at(table, k + 1), word_at(table, k + 2)),
     }
 }
@@ -72,10 +70,8 @@ pub fn copy(table: &mut [i32], from: usize, to: usize, n: usize)
     requires fact_2 { 3 * (from + n) ≤ length table.old }
     ensures { Copied table.old table.new from to n }
 {
-    let mut k: usize = 0;
-    while k < n {
+    for k in 0..n {
         let h = entry_at(table, from + k);
         put_entry(table, to + k, h);
-        k += 1;
     }
 }

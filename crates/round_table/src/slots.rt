@@ -1,4 +1,6 @@
 // The values that wait in a run's slots, by the numbers of the slots.
+#![tactic(auto, unfolding(crate::specs::Waiting::waiting_in, crate::specs::Waiting::put_waiting))]
+
 ghost use Rattle.std.specs.Prelude.{◌≡◌, ◌+◌, ◌<◌, set};
 ghost use Rattle.round_table.specs.Waiting.{waiting_in, put_waiting};
 

@@ -7,7 +7,7 @@ ghost use Rattle.search_choice.specs.Choices.{Frame};
 ghost use Rattle.run_sound.specs.Tested.{Decides};
 
 use tables::instruction::{AND, JOIN, LIST_CONS, NOT};
-use value_rows::{Bindings, VARIABLES};
+use value_rows::Bindings;
 use words::marks::one;
 use words::{ENTRIES, tag_at};
 
@@ -48,13 +48,10 @@ pub fn is_held(s: &[i32], at: usize, m: u64) -> bool
 pub fn are_bound(s: &[i32], b: Bindings) -> bool
     ensures { Decides result (Bound s.now b 16) }
 {
-    let mut v: usize = 0;
-    while v < VARIABLES {
-        let x = b[v];
+    for x in &b {
         if !is_held(s, x.at, x.marks) {
             return false;
         }
-        v += 1;
     }
     true
 }

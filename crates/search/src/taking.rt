@@ -98,11 +98,9 @@ pub fn take_end(
     if is_short(terms, b, room.len() - e, s, places) {
         return filled(x);
     }
-    let mut v: usize = 0;
-    while v < terms.vars {
+    for v in 0..terms.vars {
         let y = b[v];
         e = put_entry(terms.origins, s, places, y.at, y.marks, room, e);
-        v += 1;
     }
     wrote(x, e)
 }

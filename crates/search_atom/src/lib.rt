@@ -13,7 +13,7 @@ ghost use Rattle.tables.specs.Slot.{view_of, Slotted, Alone};
 use tables::instruction::{CONSTANT, EQUAL, JOIN, LIST_CONS, NIL, OR, SUM};
 use tables::line::{Lines, con_at, from_at};
 use tables::slot::{Slots, low_at, put_left};
-use words::marks::{Parts, longer, lowest, one};
+use words::marks::{Parts, lowest, one};
 
 // Whether a word of the target is an instruction's constant.
 fn is_constant(s: &[i32], at: usize, lines: &Lines, pc: usize) -> bool
@@ -80,7 +80,7 @@ pub fn longer_front(c: u64, b: u64) -> u64
     if b == 0 {
         return 0;
     }
-    let p = longer(Parts { front: c, back: b });
+    let p = Parts { front: c, back: b }.longer();
     p.front
 }
 

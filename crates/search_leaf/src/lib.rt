@@ -19,7 +19,6 @@ use tables::slot::{Slots, frame_at, put_left};
 use told::{Shape, Words, but_of, put_row, row_words, told_of, word_of};
 use value_places::places::number_at;
 use value_rows::{Binding, Bindings, VARIABLES};
-use words::casts::index;
 use words::is_total;
 use words::marks::{lowest, rest};
 
@@ -89,7 +88,7 @@ fn take_sums(
             return tally_of(left, steps, rows, words);
         }
         let k = lowest(left);
-        let e = place_at(places, base + index(k));
+        let e = place_at(places, base + k as usize);
         let found = is_total(number, part.plus, s[e + 1]);
         if found {
             if room.len() - words < size {
@@ -158,7 +157,7 @@ fn take_all(
         }
         if part.op == BIND {
             let k = lowest(left);
-            let e = place_at(places, base + index(k));
+            let e = place_at(places, base + k as usize);
             let tag = number_at(s, e);
             if tag != 0 {
                 return taken_of(left, steps, rows, words, last);

@@ -60,11 +60,9 @@ pub fn told_of(
     ensures fact_2 { (result.all ≡ true → Tells shape.origins s.now b shape.vars but words.new) }
 {
     let value = b[var];
-    let mut v: usize = 0;
-    while v < shape.vars {
+    for v in 0..shape.vars {
         if v != but {
-            let y = b[v];
-            let at = y.at;
+            let at = b[v].at;
             let tag = number_at(s, at);
             if tag != 0 {
                 return Told {
@@ -74,7 +72,6 @@ pub fn told_of(
             }
             words[v] = word_of(shape.origins, s, at);
         }
-        v += 1;
     }
     Told {
         all: true,
@@ -114,11 +111,9 @@ pub fn put_row(shape: Shape, told: &Words, room: &mut [i32], from: usize) -> usi
     ensures { (result ≡ from + length (row_of shape.origins shape.vars told.now)) × (room.new ≡ put room.old from (row_of shape.origins shape.vars told.now)) }
 {
     let mut e = from;
-    let mut v: usize = 0;
-    while v < shape.vars {
+    for v in 0..shape.vars {
         let word = told[v];
         e = put_word(shape.origins, word, room, e);
-        v += 1;
     }
     e
 }

@@ -4,7 +4,10 @@ use native.Mathlib.Omega.{arith}
 use native.Mathlib.Nat.{mul-le-mul_left, mul-le-mul_right}
 use mathlib.Core.Path.{◌≡◌, refl, sym, ap, ◌∙◌}
 use mathlib.Core.Bool.{Bool, true, false, cond}
+use mathlib.Core.Option.{none, some}
 use mathlib.Core.List.{List}
+use Rattle.std.specs.Prelude.{Result}
+use Rattle.std.specs.Result.{result_unwrap_or}
 use borrow.Author.Rules.{rules}
 use lib.Dec.{ltb, leb, ltb→lt, T}
 use lib.IntN.{ℤ, pos, negsuc}
@@ -17,42 +20,28 @@ use Rattle.rules.specs.Review.{factor, summed, formula}
 use Rattle.rules.specs.Always.{always_true}
 use Rattle.rules.specs.Services as paper
 use Rattle.rules.specs.Services.{Judged, accepted, refused, Rule, rule_of, review}
-use Rattle.rules.specs.Rows.{form_of}
+use Rattle.rules.specs.Rows.{Form, as_words, as_origins, form_of}
 use Rattle.forms.specs.Numbering.{variables_found}
 use Rattle.test_variables.specs.Variables.{counted}
-use Rattle.test_variables.specs.declared.Counted.{Counted}
-use Rattle.test_variables.specs.declared.Counted.TheVariants as Counted
 use Rattle.room_rules.specs.Rooms.{rows_counted, rows_capped, rows_unless_always, rows_reviewed, or_none, variables_in, width_of, Roomed, room_by, room}
+use Rattle.services.specs.Picks.{form_in}
+use Rattle.services.specs.Refusals.{refused_numbers}
 use Rattle.services.specs.Reviews.{reviewed}
+use Rattle.services.specs.declared.picks.RowForm.{RowForm}
+use Rattle.services.specs.declared.refusal.Refused.{Refused}
+use Rattle.services.specs.declared.refusal.Refused.TheVariants.{UnknownForm}
 use Rattle.services.specs.declared.review.Reviewed.{Reviewed}
 use Rattle.service_room.specs.Told.{roomed}
 
 -- ---- Variables.
 
-module _ (n : ℕ) (v : Verdict ℕ) (d : Counted) (q : d ≡ counted v) where
-  number_of : d ≡ Counted.Number n → n ≡ or_none v
-  unfolding counted or_none
-  number_of h = go v (sym h ∙ q)
-    where
-      go : (w : Verdict ℕ) → Counted.Number n ≡ counted w → n ≡ or_none w
-      go (ok m) e = cc
-      go (fault i) e = let z : ◌≡◌ {A = ℕ} 0 1 = cc in absurd (omega arith)
-
-  none_of_lem : d ≡ Counted.Fault n → 0 ≡ or_none v
-  unfolding counted or_none
-  none_of_lem h = go v (sym h ∙ q)
-    where
-      go : (w : Verdict ℕ) → Counted.Fault n ≡ counted w → 0 ≡ or_none w
-      go (ok m) e = let z : ◌≡◌ {A = ℕ} 0 1 = cc in absurd (omega arith)
-      go (fault i) e = refl
-
-pub variables_are : (ps : List ℤ) (n : ℕ) (d : Counted) → d ≡ counted (read_pattern ps then λ p. variables p true 0 0) → d ≡ Counted.Number n → n ≡ variables_in ps
-unfolding variables_in
-variables_are ps n d q h = number_of n _ d q h
-
-pub no_variables : (ps : List ℤ) (i : ℕ) (d : Counted) → d ≡ counted (read_pattern ps then λ p. variables p true 0 0) → d ≡ Counted.Fault i → 0 ≡ variables_in ps
-unfolding variables_in
-no_variables ps i d q h = none_of_lem i _ d q h
+pub variables_are : (ps : List ℤ) (n : ℕ) (d : Result ℕ ℕ) → d ≡ counted (read_pattern ps then λ p. variables p true 0 0) → n ≡ result_unwrap_or d 0 → n ≡ variables_in ps
+unfolding variables_in counted or_none
+variables_are ps n d q h = h ∙ ap (λ x. result_unwrap_or x 0) q ∙ go (read_pattern ps then λ p. variables p true 0 0)
+  where
+    go : (v : Verdict ℕ) → result_unwrap_or (counted v) 0 ≡ or_none v
+    go (ok n) = refl
+    go (fault i) = refl
 
 few_in : (p : Pattern) (v : Verdict ℕ) → variables p true 0 0 ≡ v → or_none v ≤ 16
 unfolding or_none
@@ -98,15 +87,15 @@ few_rows cap (accepted r) = go (always_true r.pattern)
 -- ---- The product has room.
 
 module _ (rows vars words : ℕ) (h : rows < 2 ^ 32) (k : vars ≤ 16) (l : words ≤ 1024) where
-  some : rows * vars ≤ 2 ^ 36
-  some = let a : rows * vars ≤ rows * 16 = mul-le-mul_left rows k in omega arith
+  few_rows_in : rows * vars ≤ 2 ^ 36
+  few_rows_in = let a : rows * vars ≤ rows * 16 = mul-le-mul_left rows k in omega arith
 
   pub rows_fit : Fits w64 (rows * vars)
-  rows_fit = let a = some in record { fits = omega arith }
+  rows_fit = let a = few_rows_in in record { fits = omega arith }
 
   pub words_fit : Fits w64 (rows * vars * words)
   words_fit =
-      let a = some in
+      let a = few_rows_in in
       let b : rows * vars * words ≤ rows * vars * 1024 = mul-le-mul_left (rows * vars) l in
       record { fits = omega arith }
 
@@ -117,9 +106,6 @@ rows_of_review z j n e = rw e (few_rows z j)
 
 pub variables_of_lem : (ps : List ℤ) (n w : ℕ) → n ≡ variables_in ps → w ≡ n → w ≤ 16
 variables_of_lem ps n w e q = let f = few_variables ps in omega arith
-
-pub least_of : (n w : ℕ) → w ≡ min n 1024 → w ≤ 1024
-least_of n w e = let m : min n 1024 ≤ 1024 = omega arith in omega arith
 
 pub room_told_lem : (ms ps : List ℤ) (cap z : ℤ) (w : ℕ) (r : Reviewed) (x n v : ℕ) → reviewed r ≡ review ms ps z → z ≡ cap → r.rows ≡ rows_reviewed z (rule_of ms ps)
     → v ≡ variables_in ps → n ≡ v → x ≡ r.rows * n * w
@@ -134,21 +120,20 @@ room_told_lem ms ps cap z w r x n v a k e qv qn qx =
     words_are : x ≡ rows_reviewed cap (rule_of ms ps) * variables_in ps * w
     words_are = qx ∙ rw (e, qn, qv, k)
 
-module _ (ms ps : List ℤ) (cap z : ℤ) (k t : ℕ) (x : Roomed) where
-  -- In form 1 u is the target's words as the code has them, and w the least of them and 1,024.
-  pub in_words : (u w : ℕ) → k ≡ 1 → u ≡ t → w ≡ min u 1024 → x ≡ room_by w ms ps z → z ≡ cap → x ≡ room k ms ps cap t
-  unfolding room form_of width_of
-  in_words u w e qu qw h q = rw e (h ∙ rw (qw, qu, q))
+module _ (ms ps : List ℤ) (cap z : ℤ) (k t : ℕ) where
+  -- In the form that the number picks, and where it picks none.
+  pub in_form : (f : RowForm) → form_of k ≡ some (form_in f) → (w : ℕ) → w ≡ width_of (form_in f) t → (x : Roomed) → x ≡ room_by w ms ps z → z ≡ cap → x ≡ room k ms ps cap t
+  unfolding room
+  in_form f e w q x h y = rw (e, room) (h ∙ rw (q, y))
 
-  pub in_origins : k ≡ 2 → x ≡ room_by 3 ms ps z → z ≡ cap → x ≡ room k ms ps cap t
-  unfolding room form_of width_of
-  in_origins e h q = rw e (h ∙ rw q)
+  pub in_no_form : (e : Refused) → (form_of k ≡ none) × (e ≡ UnknownForm) → (a p : ℕ) → a ≡ (refused_numbers e).answer → p ≡ (refused_numbers e).place
+      → roomed (record { answer = a; place = p; words = 0 }) ≡ room k ms ps cap t
+  unfolding room roomed refused_numbers
+  in_no_form e f a p q h = let u = f.1 in rw (q, h, u, f.0, room)
 
-pub in_no_form : (ms ps : List ℤ) (cap : ℤ) (k t : ℕ) → (k ≡ 1 → ⊥) → (k ≡ 2 → ⊥) → roomed (record { answer = 20; place = 0; words = 0 }) ≡ room k ms ps cap t
-unfolding room form_of roomed
-in_no_form ms ps cap zero t a b = refl
-in_no_form ms ps cap (suc zero) t a b = absurd (a refl)
-in_no_form ms ps cap (suc (suc zero)) t a b = absurd (b refl)
-in_no_form ms ps cap (suc (suc (suc n))) t a b = refl
+pub few_words : (f : Form) (t w : ℕ) → w ≡ width_of f t → w ≤ 1024
+unfolding width_of
+few_words as_words t w e = omega arith
+few_words as_origins t w e = omega arith
 
-pub ruleset own_rules = (variables_are, no_variables, rows_fit, words_fit, rows_of_review, variables_of_lem, least_of, room_told_lem, in_words, in_origins, in_no_form, rules)
+pub ruleset own_rules = (variables_are, rows_fit, words_fit, rows_of_review, variables_of_lem, few_words, room_told_lem, in_form, in_no_form, rules)

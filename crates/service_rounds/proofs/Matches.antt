@@ -12,9 +12,7 @@ use Rattle.rules.specs.Rows.{Form, form_of}
 use Rattle.rules.specs.Search.{start}
 use Rattle.rules.specs.Services.{accepted, rule_in, target_of, turned_away, carried_out}
 use Rattle.rules.specs.Services as paper
-use Rattle.forms.specs.Also.{rule_also}
 use Rattle.forms.specs.ReadPattern.{pattern_read}
-use Rattle.words.specs.Dialects.{dialect_by}
 use Rattle.round_rules.specs.Rounds.{states_in, run_rounds, rounds_target, rounds_rule, match_rounds, match_rounds_picked}
 use Rattle.program_rules.specs.Closed.{closed_is}
 use Rattle.program_rules.specs.Columns.{Holds, compiled_zeros}
@@ -23,35 +21,34 @@ use Rattle.program_rules.specs.Link.{ops_in, bindings_in, linked_in}
 use Rattle.program_rules.specs.Slots.{numbered}
 use Rattle.search_machine.proofs.Instance.{target_is}
 use Rattle.tables.specs.Line.{columns_of, no_lines}
-use Rattle.tests.specs.Judgements.{judgement, target_judgement, target_under}
-use Rattle.tests.specs.declared.Judgement.{Judgement}
-use Rattle.tests.specs.declared.Judgement.TheVariants.{Accepted, Refused}
-use Rattle.tests.specs.declared.TargetJudgement.{TargetJudgement}
-use Rattle.tests.specs.declared.TargetJudgement.TheVariants as targets
-use Rattle.value_rows.specs.Row.{form_by}
-use Rattle.search.specs.Run.{env_with, matched}
+use Rattle.std.specs.Prelude.{Result, Ok, Err}
+use Rattle.tests.specs.Judgements.{Numbers, numbers_of, told as tested}
+use Rattle.tests.specs.declared.Refusal.{Refusal}
+use Rattle.search.specs.Run.{env_with}
 use Rattle.round_states.specs.Ruled.{Ruled}
 use Rattle.round_run.specs.Runs.{ByRounds}
-use Rattle.services.specs.Matches.{Ready, told, away}
-use Rattle.services.specs.declared.matching.Matched.{Matched}
-use Rattle.services.proofs.Matches.{was_accepted, was_refused, target_refused, under, ready_sane, ready_target, ready_some, ready_fine, no_form, no_dialect}
-use Rattle.service_rounds.specs.Dialects.{rounds_dialect}
+use Rattle.services.specs.Matches.{Ready, told, away, matched_by}
+use Rattle.services.specs.Refusals.{refused_numbers}
+use Rattle.services.specs.Testing.{tested_in}
+use Rattle.services.specs.declared.refusal.Refused.{Refused}
+use Rattle.services.specs.declared.refusal.Refused.TheVariants.{UnknownForm, UnknownDialect, Tested}
+use Rattle.services.proofs.Outcome.{Failed, rule_fails, target_fails, failed}
+use Rattle.services.proofs.Matches.{ready_sane, ready_target, ready_some, ready_fine}
 
--- ---- The answers 1 to 6.
+-- ---- A refusal.
 
-module _ (dialect : Dialect) (form : Form) (ms ps ts : List ℤ) (size budget : ℕ) (room : List ℤ) (x : Judgement) (p : x ≡ judgement (rule_in dialect ms ps)) where
-  pub rule_away : (a i : ℕ) → x ≡ Refused a i → (r : Matched) → r ≡ away a i 0 → told r room ≡ match_rounds dialect form ms ps ts size budget room
-  unfolding match_rounds rounds_rule told away turned_away
-  rule_away a i q r e = ap (λ (y : Matched). told y room) e ∙ sym (ap (rounds_rule dialect form size budget room ts) (was_refused (rule_in dialect ms ps) x a i p q))
+-- One of the tests 1 to 6.
+module _ (dialect : Dialect) (form : Form) (ms ps ts : List ℤ) (size budget : ℕ) (room : List ℤ) where
+  by_test : (n : Numbers) → Failed dialect ms ps ts n → told (away n) room ≡ match_rounds dialect form ms ps ts size budget room
+  unfolding told away turned_away match_rounds rounds_rule rounds_target
+  by_test n (rule_fails e c) = ap (λ k. turned_away n.answer n.place k room) c ∙ sym (ap (rounds_rule dialect form size budget room ts) e)
+  by_test n (target_fails r e f c) =
+      ap (λ k. turned_away n.answer n.place k room) c ∙ sym (ap (rounds_rule dialect form size budget room ts) e ∙ ap (rounds_target dialect form size budget room ts r) f)
 
-  pub target_away : x ≡ Accepted → (y : TargetJudgement) → y ≡ target_judgement ts (target_under ms ts) → (a i c : ℕ) → y ≡ targets.Refused a i c → (r : Matched) → r ≡ away a i c
-      → told r room ≡ match_rounds dialect form ms ps ts size budget room
-  unfolding match_rounds rounds_rule rounds_target told away turned_away
-  target_away ok y k a i c q m e =
-      let r = was_accepted (rule_in dialect ms ps) x p ok in
-      let t = target_refused ts (target_of r.0.matcher ts) y a i c (k ∙ ap (target_judgement ts) (under ms ps ts r.0 (rule_also dialect ms ps r.0 r.1))) q in
-      ap (λ (y : Matched). told y room) e ∙ ap (λ n. turned_away a i n room) t.1
-      ∙ sym (ap (rounds_rule dialect form size budget room ts) r.1 ∙ ap (rounds_target dialect form size budget room ts r.0) t.0)
+  pub rounds_refused : (x : Result (Unit {0}) Refusal) → tested x ≡ tested_in dialect ms ps ts → (r : Refusal) → x ≡ Err r → (e : Refused) → e ≡ Tested r
+      → told (matched_by (Err e)) room ≡ match_rounds dialect form ms ps ts size budget room
+  unfolding matched_by refused_numbers
+  rounds_refused x p r q e k = rw k (by_test (numbers_of r) (failed dialect ms ps ts x p r q))
 
 -- ---- Input that is accepted.
 
@@ -88,34 +85,27 @@ module _ (dialect : Dialect) (ms ps ts : List ℤ) (n : ℕ) (none lines : List 
       ∙ ap (λ k. carried_out (run_rounds dialect form (states_in 825 words) k (start g.rule.matcher g.rule.pattern g.value ∷ []) (length room)) room) q
       ∙ sym (ap (rounds_rule dialect form (states_in 825 words) budget room ts) i ∙ ap (rounds_target dialect form (states_in 825 words) budget room ts g.rule) g.value_is)
 
+  -- The same, told with the picks that the form and the dialect are.
+  pub picked_rounds : (d : Dialect) (f : Form) → dialect ≡ d → form ≡ f → rule_in d ms ps ≡ accepted g.rule → (budget w words : ℕ) (room : List ℤ) (out : paper.Matched) → w ≡ budget
+      → ByRounds (env_with dialect (columns_of lines) ms ts n form) w words room out → out ≡ match_rounds d f ms ps ts (states_in 825 words) budget room
+  picked_rounds d f p q i budget w words room out k b =
+      ready_rounds (ap (λ x. rule_in x ms ps) p ∙ i) budget w words room out k b
+      ∙ ap (λ x. match_rounds x form ms ps ts (states_in 825 words) budget room) p ∙ ap (λ x. match_rounds d x ms ps ts (states_in 825 words) budget room) q
+
 -- ---- The form and the dialect that the caller picks.
 
-module _ (ms ps ts : List ℤ) (size budget : ℕ) (room : List ℤ) (r : paper.Matched) (n : ℕ) where
-  module _ (form : Form) where
-    pub dialect_1 : n ≡ 1 → r ≡ match_rounds (dialect_by false) form ms ps ts size budget room → r ≡ rounds_dialect form n ms ps ts size budget room
-    unfolding rounds_dialect dialect_of dialect_by
-    dialect_1 z e = rw z e
+module _ (ms ps ts : List ℤ) (size budget : ℕ) (room : List ℤ) (n d : ℕ) where
+  pub no_form : (e : Refused) → (form_of n ≡ none) × (e ≡ UnknownForm) → (y : Refused) → y ≡ e → told (matched_by (Err y)) room ≡ match_rounds_picked n d ms ps ts size budget room
+  unfolding told matched_by away refused_numbers turned_away match_rounds_picked
+  no_form e f y k = let u : y ≡ UnknownForm = k ∙ f.1 in rw (u, f.0, match_rounds_picked)
 
-    pub dialect_2 : n ≡ 2 → r ≡ match_rounds (dialect_by true) form ms ps ts size budget room → r ≡ rounds_dialect form n ms ps ts size budget room
-    unfolding rounds_dialect dialect_of dialect_by
-    dialect_2 z e = rw z e
+  module _ (form : Form) (f : form_of n ≡ some form) where
+    pub no_dialect : (e : Refused) → (dialect_of d ≡ none) × (e ≡ UnknownDialect) → (y : Refused) → y ≡ e
+        → told (matched_by (Err y)) room ≡ match_rounds_picked n d ms ps ts size budget room
+    unfolding told matched_by away refused_numbers turned_away match_rounds_picked
+    no_dialect e g y k = let u : y ≡ UnknownDialect = k ∙ g.1 in rw (u, f, g.0, match_rounds_picked)
 
-  module _ (d : ℕ) where
-    pub with_form_1 : n ≡ 1 → r ≡ rounds_dialect (form_by false) d ms ps ts size budget room → r ≡ match_rounds_picked n d ms ps ts size budget room
-    unfolding match_rounds_picked rounds_dialect form_of form_by
-    with_form_1 z e = rw z e
-
-    pub with_form_2 : n ≡ 2 → r ≡ rounds_dialect (form_by true) d ms ps ts size budget room → r ≡ match_rounds_picked n d ms ps ts size budget room
-    unfolding match_rounds_picked rounds_dialect form_of form_by
-    with_form_2 z e = rw z e
-
-module _ (ms ps ts : List ℤ) (size budget : ℕ) (room : List ℤ) (n : ℕ) (f : n ≡ 1 → ⊥) (g : n ≡ 2 → ⊥) (r : Matched) where
-  pub form_unknown : (d : ℕ) → r ≡ away 20 0 0 → told r room ≡ match_rounds_picked n d ms ps ts size budget room
-  unfolding match_rounds_picked rounds_dialect told away turned_away
-  form_unknown d e = ap (λ (y : Matched). told y room) e
-      ∙ sym (ap (λ (x : Option Form). elim x as (λ _. paper.Matched) [ none ↦ turned_away 20 0 0 room | some f ↦ rounds_dialect f d ms ps ts size budget room ]) (no_form n f g))
-
-  pub dialect_unknown : (form : Form) → r ≡ away 22 0 0 → told r room ≡ rounds_dialect form n ms ps ts size budget room
-  unfolding rounds_dialect told away turned_away
-  dialect_unknown form e = ap (λ (y : Matched). told y room) e
-      ∙ sym (ap (λ (x : Option Dialect). elim x as (λ _. paper.Matched) [ none ↦ turned_away 22 0 0 room | some d ↦ match_rounds d form ms ps ts size budget room ]) (no_dialect n f g))
+    pub picked : (dialect : Dialect) → dialect_of d ≡ some dialect → (r : paper.Matched) → r ≡ match_rounds dialect form ms ps ts size budget room
+        → r ≡ match_rounds_picked n d ms ps ts size budget room
+    unfolding match_rounds_picked
+    picked dialect g r e = rw (f, g, match_rounds_picked) e

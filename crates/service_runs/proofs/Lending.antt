@@ -1,24 +1,19 @@
 -- An advance of a run that is lent, as the code asks for it. Assumes nothing.
-use Prim.Native.Nat.{ℕ, zero, suc, ◌+◌, ◌-◌, ◌≤◌, ◌<◌}
+use Prim.Native.Nat.{ℕ, ◌≤◌}
 use native.Mathlib.Omega.{arith}
 use mathlib.Core.Path.{◌≡◌, refl, sym, ap, ◌∙◌, subst}
 use mathlib.Core.Bool.{Bool, true, false, not}
 use mathlib.Core.List.{List}
 use lib.ListN.{length, take}
-use lib.Seq.{length-take-le}
-use lib.Dec.{eqb, leb}
+use lib.Dec.{eqb}
 use lib.IntN.{ℤ}
 use borrow.Author.Rules.{rules}
-use borrow.Author.Tests.{eq-eqb, ne_eqb, leb-true, le-leb}
-use Rattle.rules.specs.Forms.{Value}
 use Rattle.rules.specs.Dialects.{Dialect}
-use Rattle.rules.specs.Services.{Judged, accepted, test, Rule, rule_in, target_of}
-use Rattle.forms.specs.Also.{rule_also}
-use Rattle.tests.specs.Judgements.{judgement, target_judgement, target_under}
-use Rattle.tests.specs.declared.Judgement.{Judgement}
-use Rattle.tests.specs.declared.Judgement.TheVariants.{Accepted, Refused}
-use Rattle.tests.specs.declared.TargetJudgement.{TargetJudgement}
-use Rattle.tests.specs.declared.TargetJudgement.TheVariants as targets
+use Rattle.rules.specs.Services.{Rule, target_of}
+use Rattle.std.specs.Prelude.{Option, Some, None, Result, Ok, Err}
+use Rattle.std.specs.Result.{is_err}
+use Rattle.tests.specs.Judgements.{numbers_of as test_numbers, told as told_test}
+use Rattle.tests.specs.declared.Refusal.{Refusal as Refused}
 use Rattle.run_rules.specs.Lent.{Terms, Numbers, Held, ended, Lent, told as tells, held_after, room_after, Advanced, go_on, unlike as unlikes, advanced}
 use Rattle.run_rules.proofs.Calls.{like, other}
 use Rattle.value_rows.specs.declared.Binding.{Binding}
@@ -26,16 +21,18 @@ use Rattle.search_step.specs.declared.State.{State}
 use Rattle.search_atom.specs.Leaves.{when}
 use Rattle.search.specs.Run.{answer_of}
 use Rattle.search.specs.Told.{reported}
+use Rattle.search.specs.declared.Progress.{Progress}
 use Rattle.search.specs.declared.Report.{Report}
 use Rattle.services.specs.Matches.{Admitted}
-use Rattle.services.proofs.Matches.{under, rule_whole, both_admitted}
+use Rattle.services.specs.Testing.{tested_in}
+use Rattle.services.proofs.Outcome.{Failed, rule_fails, target_fails, passed, failed}
 use Rattle.run_sound.specs.Tested.{Decides}
-use Rattle.run_sound.proofs.Tests.{refuted, upheld, never, always}
+use Rattle.run_sound.proofs.Tests.{refuted, upheld}
 use Rattle.run_states.specs.Standing.{numbers_of}
-use Rattle.service_runs.specs.Going.{terms_by, Carries}
+use Rattle.service_runs.specs.Going.{terms_by, env_in, run_in, Carries}
 use Rattle.service_runs.specs.declared.going.Picks.{Picks}
 use Rattle.service_runs.proofs.Steady.{still_stays}
-use Rattle.service_runs.specs.Kept.{told, unlike_numbers, Goes, Over, Lengths, Standing, went_told, went_room, went_held, standing_valid, standing_over, refusal_in, picks_in, terms_in}
+use Rattle.service_runs.specs.Kept.{told, unlike_numbers, Goes, Over, Lengths, went_told, went_room, went_held, standing_valid, standing_over, refusal_in, terms_in}
 use Rattle.service_runs.specs.Kept.{Refusal, unknown, unknown_dialect, tested, Kept, refused, stands, Tabled, is_done, is_refusal, is_budget, is_full, is_unlike, Refuses, changed, Advances}
 use Rattle.service_runs.specs.declared.run.Run as struct
 use Rattle.service_runs.specs.declared.run.Told as report
@@ -50,73 +47,62 @@ module _ (x : State) (r : Report) (e : r ≡ reported x) where
 
 pub ruleset tell_rules = (tell_numbers, rules)
 
--- ---- Whether words are accepted.
-
-module _ (dialect : Dialect) (ms ps ts : List ℤ) (x : Judgement) (p : x ≡ judgement (rule_in dialect ms ps)) where
-  pub ready_rule : (a i : ℕ) → x ≡ Refused a i → Decides false (Admitted dialect ms ps ts)
-  unfolding judgement
-  ready_rule a i q = never (λ g. let r : judgement (rule_in dialect ms ps) ≡ Accepted = ap judgement g.rule_is_in in let z : ◌≡◌ {A = ℕ} 0 1 = cc in absurd (omega arith))
-
-  module _ (y : TargetJudgement) (k : y ≡ target_judgement ts (target_under ms ts)) where
-    pub ready_target_not : (a i c : ℕ) → y ≡ targets.Refused a i c → Decides false (Admitted dialect ms ps ts)
-    unfolding target_judgement
-    ready_target_not a i c q = never (λ g.
-        let r : target_judgement ts (target_under ms ts) ≡ targets.Accepted = ap (target_judgement ts) (under ms ps ts g.ready.rule g.ready.rule_is ∙ g.ready.value_is) in
-        let z : ◌≡◌ {A = ℕ} 0 1 = cc in absurd (omega arith))
-
-    pub ready_both : x ≡ Accepted → y ≡ targets.Accepted → Decides true (Admitted dialect ms ps ts)
-    ready_both q l = always (both_admitted dialect ms ps ts x y p q k l)
-
-pub ruleset ready_rules = (rule_whole, ready_rule, ready_target_not, ready_both, rules)
-
 -- ---- Over words.
 
+module _ (dialect : Dialect) (ms ps ts : List ℤ) where
+  pub is_admitted : (x : Result (Unit {0}) Refused) → told_test x ≡ tested_in dialect ms ps ts → is_err x ≡ false → Admitted dialect ms ps ts
+  is_admitted (Ok u) p h = passed dialect ms ps ts (Ok u) p u refl
+  is_admitted (Err r) p h = absurd (cc)
+
+  not_admitted : (x : Result (Unit {0}) Refused) → told_test x ≡ tested_in dialect ms ps ts → is_err x ≡ true → Admitted dialect ms ps ts → ⊥
+  not_admitted (Ok u) p h g = absurd (cc)
+  not_admitted (Err r) p h g = go (failed dialect ms ps ts (Err r) p r refl)
+    where
+      go : Failed dialect ms ps ts (test_numbers r) → ⊥
+      go (rule_fails e c) = let z = sym e ∙ g.rule_is_in in absurd (cc)
+      go (target_fails a e t c) =
+          let z = sym e ∙ g.rule_is_in in
+          let k : a ≡ g.ready.rule = cc in
+          let y = sym t ∙ ap (λ (b : Rule). target_of b.matcher ts) k ∙ g.ready.value_is in
+          absurd (cc)
+
 module _ (terms : Terms) (ms ps ts : List ℤ) where
-  pub goes_not : (n : ℕ) (x : State) (slots : List ℕ) (b : List Binding) (room : List ℤ) (r : Bool) → Decides r (Admitted terms.dialect ms ps ts) → not r ≡ true
-      → Goes terms ms ps ts n x slots b room false x slots b room
-  goes_not n x slots b room r d h = record { goes = λ g. absurd (refuted r h (d.whole g)); still = still_stays slots room }
+  pub goes_not : (n : ℕ) (s : State) (slots : List ℕ) (b : List Binding) (room : List ℤ) (x : Result (Unit {0}) Refused) → told_test x ≡ tested_in terms.dialect ms ps ts → is_err x ≡ true
+      → Goes terms ms ps ts n s slots b room None slots room
+  goes_not n s slots b room x p h = record { goes = λ g. absurd (not_admitted terms.dialect ms ps ts x p h g); still = still_stays slots room }
 
-  pub goes_carried : (n : ℕ) (x x' : State) (slots slots' : List ℕ) (b b' : List Binding) (room room' : List ℤ) (sound : Bool)
-      → Carries terms ms ps ts n x slots b room sound x' slots' b' room' → Goes terms ms ps ts n x slots b room sound x' slots' b' room'
-  goes_carried n x x' slots slots' b b' room room' sound c = record { goes = λ g. c; still = c.still }
-
-pub goes_ready : (dialect : Dialect) (ms ps ts : List ℤ) (r : Bool) → Decides r (Admitted dialect ms ps ts) → not r ≡ false → Admitted dialect ms ps ts
-goes_ready dialect ms ps ts r d h = d.sound (upheld r h)
-
-pub ruleset goes_rules = (goes_not, goes_ready, goes_carried, rules)
+  pub goes_carried : (n : ℕ) (x : State) (slots slots' : List ℕ) (b : List Binding) (room room' : List ℤ) (next : Option Progress)
+      → Carries terms ms ps ts n x slots b room next slots' room' → Goes terms ms ps ts n x slots b room next slots' room'
+  goes_carried n x slots slots' b room room' next c = record { goes = λ g. c; still = c.still }
 
 -- ---- Over the words that a run keeps.
 
-module _ (m p t : ℕ) where
-  pub length_matcher : 64 < m → Decides false (Lengths m p t)
-  length_matcher h = never (λ k. let i = k.matcher in omega arith)
+module _ (m p t : ℕ) (y : Bool) (d : Decides y (Lengths m p t)) (u : not y ≡ false) where
+  pub matcher_kept : (ms : List ℤ) → length ms ≡ 64 → m ≤ length ms
+  matcher_kept ms l = let k = (d.sound (upheld y u)).matcher in omega arith
 
-  pub length_pattern : 256 < p → Decides false (Lengths m p t)
-  length_pattern h = never (λ k. let i = k.pattern in omega arith)
+  pub pattern_kept : (ps : List ℤ) → length ps ≡ 256 → p ≤ length ps
+  pattern_kept ps l = let k = (d.sound (upheld y u)).pattern in omega arith
 
-  pub length_target : m ≤ 64 → p ≤ 256 → Decides (leb t 1024) (Lengths m p t)
-  length_target h k = record { sound = λ e. record { matcher = h; pattern = k; target = leb-true t 1024 e }; whole = λ i. le-leb t 1024 i.target }
-
-  module _ (y : Bool) (d : Decides y (Lengths m p t)) (u : not y ≡ false) where
-    pub matcher_kept : (ms : List ℤ) → length ms ≡ 64 → m ≤ length ms
-    matcher_kept ms l = let k = (d.sound (upheld y u)).matcher in omega arith
-
-    pub pattern_kept : (ps : List ℤ) → length ps ≡ 256 → p ≤ length ps
-    pattern_kept ps l = let k = (d.sound (upheld y u)).pattern in omega arith
-
-    pub target_kept : (ts : List ℤ) → length ts ≡ 1024 → t ≤ length ts
-    target_kept ts l = let k = (d.sound (upheld y u)).target in omega arith
-
-pub ruleset length_rules = (length_matcher, length_pattern, length_target, rules)
+  pub target_kept : (ts : List ℤ) → length ts ≡ 1024 → t ≤ length ts
+  target_kept ts l = let k = (d.sound (upheld y u)).target in omega arith
 
 module _ (terms : Terms) (matchers : List ℤ) (m : ℕ) (patterns : List ℤ) (p : ℕ) (targets : List ℤ) (t n : ℕ) (x : State) (slots : List ℕ) (b : List Binding) (room : List ℤ) where
-  pub over_not : (y : Bool) → Decides y (Lengths m p t) → not y ≡ true → Over terms matchers m patterns p targets t n x slots b room false x slots b room
+  pub over_not : (y : Bool) → Decides y (Lengths m p t) → not y ≡ true → Over terms matchers m patterns p targets t n x slots b room None slots room
   over_not y d u = record { goes = λ k. absurd (refuted y u (d.whole k)); still = still_stays slots room }
 
-  pub over_goes : (sound : Bool) (x' : State) (slots' : List ℕ) (b' : List Binding) (room' : List ℤ)
-      → Goes terms (take m matchers) (take p patterns) (take t targets) n x slots b room sound x' slots' b' room'
-      → Over terms matchers m patterns p targets t n x slots b room sound x' slots' b' room'
-  over_goes sound x' slots' b' room' g = record { goes = λ k. g; still = g.still }
+  pub over_goes : (next : Option Progress) (slots' : List ℕ) (room' : List ℤ)
+      → Goes terms (take m matchers) (take p patterns) (take t targets) n x slots b room next slots' room'
+      → Over terms matchers m patterns p targets t n x slots b room next slots' room'
+  over_goes next slots' room' g = record { goes = λ k. g; still = g.still }
+
+pub over_picked : (matchers : List ℤ) (m : ℕ) (patterns : List ℤ) (p : ℕ) (targets : List ℤ) (t n : ℕ) (x : State) (slots : List ℕ) (b : List Binding) (room : List ℤ) (k k' : Picks) → k ≡ k'
+    → (next : Option Progress) (slots' : List ℕ) (room' : List ℤ)
+    → Goes (terms_by k) (take m matchers) (take p patterns) (take t targets) n x slots b room next slots' room'
+    → Over (terms_by k') matchers m patterns p targets t n x slots b room next slots' room'
+over_picked matchers m patterns p targets t n x slots b room k k' e next slots' room' g =
+    subst (λ i. Over (terms_by i) matchers m patterns p targets t n x slots b room next slots' room') e
+    (over_goes (terms_by k) matchers m patterns p targets t n x slots b room next slots' room' g)
 
 pub ruleset over_rules = (matcher_kept, pattern_kept, target_kept, over_not, over_goes, rules)
 
@@ -131,26 +117,6 @@ refusal_not : (a : ℕ) → Refusal a → a ≡ 19 → ⊥
 refusal_not a (unknown h) e = omega arith
 refusal_not a (unknown_dialect h) e = omega arith
 refusal_not a (tested h k) e = omega arith
-
-module _ (a : ℕ) where
-  pub refusal_unknown : a ≡ 20 → Decides true (Refusal a)
-  refusal_unknown h = always (unknown h)
-
-  pub refusal_unknown_dialect : a ≡ 22 → Decides true (Refusal a)
-  refusal_unknown_dialect h = always (unknown_dialect h)
-
-  pub refusal_none : a ≡ 0 → Decides false (Refusal a)
-  refusal_none h = never (λ r. refusal_zero a r h)
-
-  pub refusal_tested : (a ≡ 20 → ⊥) → (a ≡ 22 → ⊥) → (a ≡ 0 → ⊥) → Decides (leb a 6) (Refusal a)
-  refusal_tested f k g = record { sound = λ e. let h = leb-true a 6 e in tested (omega arith) h; whole = go }
-    where
-      go : Refusal a → leb a 6 ≡ true
-      go (unknown h) = absurd (f h)
-      go (unknown_dialect h) = absurd (k h)
-      go (tested h l) = le-leb a 6 l
-
-pub ruleset refusal_rules = (refusal_unknown, refusal_unknown_dialect, refusal_none, refusal_tested, rules)
 
 module _ (a i c : ℕ) (y : Bool) (d : Decides y (Refusal a)) where
   pub refused_not : not y ≡ true → (t : report.Told) → told t ≡ unlike_numbers → Refuses a i c t
@@ -247,13 +213,10 @@ module _ (r : struct.Run) (n : ℕ) (room : List ℤ) (t : report.Told) where
       go l w (stands y k g h q c) = again (numbers_of r.state) l e
           (q ∙ ap {B = Lent} (λ i. record { size = r.size; held = i }) (standing_over _ _ _ _ g.ready r.size r.state r.slots r.binds h f c)) s w
 
-  module _ (e : length room ≡ r.size) (a : r.answer ≡ 0) (v : r.state.live ≡ 1) (room' : List ℤ) (sound : Bool) (x : State) (slots : List ℕ) (b : List Binding)
-      (picks : Picks) (p : picks ≡ picks_in r.form r.dialect) (o : Over (terms_by picks) r.matchers r.matcher r.patterns r.pattern r.targets r.target n r.state r.slots r.binds room sound x slots b room') where
-    c : Over (terms_in r) r.matchers r.matcher r.patterns r.pattern r.targets r.target n r.state r.slots r.binds room sound x slots b room'
-    c = subst (λ k. Over (terms_by k) r.matchers r.matcher r.patterns r.pattern r.targets r.target n r.state r.slots r.binds room sound x slots b room') p o
-
+  module _ (e : length room ≡ r.size) (a : r.answer ≡ 0) (v : r.state.live ≡ 1) (room' : List ℤ) (next : Option Progress) (slots : List ℕ)
+      (c : Over (terms_in r) r.matchers r.matcher r.patterns r.pattern r.targets r.target n r.state r.slots r.binds room next slots room') where
     -- Not sound: then it is no run that the last call left.
-    pub adv_unsound : sound ≡ false → told t ≡ unlike_numbers → Advances r n room same room'
+    pub adv_unsound : next ≡ None → told t ≡ unlike_numbers → Advances r n room same room'
     unfolding changed told
     adv_unsound u s = record {
       as_held = λ l w. absurd (go l w);
@@ -266,24 +229,24 @@ module _ (r : struct.Run) (n : ℕ) (room : List ℤ) (t : report.Told) where
         go l (refused y q) = refusal_zero r.answer y a
         go l (stands y k g h q d) = ((c.goes k).goes g).tries.kept u (standing_valid _ _ _ _ g.ready r.size r.state r.slots r.binds h room e v d)
 
-    pub adv_went : sound ≡ true → told t ≡ numbers_of x → Advances r n room (record { run = changed r x b slots; told = t }) room'
-    unfolding changed told
-    adv_went u s = record {
+    pub adv_went : (q : Progress) → next ≡ Some q → told t ≡ numbers_of q.state → Advances r n room (record { run = changed r q.state q.binds slots; told = t }) room'
+    unfolding changed told run_in env_in
+    adv_went q u s = record {
       as_held = go;
       within = refl;
-      tabled = subst Tabled (sym (ap (λ (k : Numbers). k.answer) s)) (tabled_live x);
-      unlike_still = λ h. absurd (not_unlike x (sym (ap (λ (k : Numbers). k.answer) s) ∙ h));
+      tabled = subst Tabled (sym (ap (λ (k : Numbers). k.answer) s)) (tabled_live q.state);
+      unlike_still = λ h. absurd (not_unlike q.state (sym (ap (λ (k : Numbers). k.answer) s) ∙ h));
     }
       where
-        go : (l : Lent) → Kept r l → (told t ≡ (advanced n room l).numbers) × (room' ≡ (advanced n room l).room) × Kept (changed r x b slots) (advanced n room l).run
-        go l (refused y q) = absurd (refusal_zero r.answer y a)
-        go l (stands y k g h q d) =
-            let w = ((c.goes k).goes g).tries.went u in
-            let z = ap (advanced n room) q ∙ goes_as n r.size room h e in (
-              s ∙ went_told _ _ _ _ g.ready n r.size r.state x r.slots slots r.binds b room room' e w h d ∙ sym (ap (λ (i : Advanced). i.numbers) z),
-              went_room _ _ _ _ g.ready n r.size r.state x r.slots slots r.binds b room room' e w h d ∙ sym (ap (λ (i : Advanced). i.room) z),
+        go : (l : Lent) → Kept r l → (told t ≡ (advanced n room l).numbers) × (room' ≡ (advanced n room l).room) × Kept (changed r q.state q.binds slots) (advanced n room l).run
+        go l (refused y z) = absurd (refusal_zero r.answer y a)
+        go l (stands y k g h j d) =
+            let w = ((c.goes k).goes g).tries.went q u in
+            let z = ap (advanced n room) j ∙ goes_as n r.size room h e in (
+              s ∙ went_told _ _ _ _ g.ready n r.size r.state q.state r.slots slots r.binds q.binds room room' e w h d ∙ sym (ap (λ (i : Advanced). i.numbers) z),
+              went_room _ _ _ _ g.ready n r.size r.state q.state r.slots slots r.binds q.binds room room' e w h d ∙ sym (ap (λ (i : Advanced). i.room) z),
               stands y k g (held_after n r.size h) (ap (λ (i : Advanced). i.run) z)
-                  (went_held _ _ _ _ g.ready n r.size r.state x r.slots slots r.binds b room room' e w h d),
+                  (went_held _ _ _ _ g.ready n r.size r.state q.state r.slots slots r.binds q.binds room room' e w h d),
             )
 
 pub ruleset advance_rules = (adv_unlike, adv_refused, adv_over, adv_unsound, adv_went, rules)

@@ -1,7 +1,7 @@
 -- An advance of a run in which a state stands, as the code asks for it. Assumes nothing.
-use Prim.Native.Nat.{ℕ, zero, suc, ◌+◌, ◌-◌, ◌*◌, ◌≤◌, ◌<◌, min}
+use Prim.Native.Nat.{ℕ, ◌-◌, ◌*◌, ◌≤◌}
 use native.Mathlib.Omega.{arith}
-use mathlib.Core.Path.{◌≡◌, refl, sym, ap, ap₂, ◌∙◌, subst}
+use mathlib.Core.Path.{◌≡◌, refl, ap, ap₂, ◌∙◌, subst}
 use mathlib.Core.Bool.{Bool, true, false, not}
 use mathlib.Core.List.{List}
 use lib.ListN.{length, get_or}
@@ -9,20 +9,19 @@ use lib.Dec.{ltb}
 use lib.IntN.{ℤ}
 use borrow.Author.Rules.{rules}
 use borrow.Author.Tests.{ltb-true, ltb-false}
-use Rattle.words.specs.Words.{entries}
-use Rattle.tables.specs.Section.{section}
-use Rattle.tables.specs.Slot.{slot_count, Tables, by_line, view_of}
+use Rattle.tables.specs.Slot.{slot_count, view_of}
 use Rattle.tables.specs.Line.{Columns, columns_of, no_lines}
 use Rattle.tables.specs.declared.line.Line.{Line}
 use Rattle.tables.specs.SlotLaws.{long_list, long_line}
+use Rattle.std.specs.Prelude.{Option, Some, None}
 use Rattle.value_rows.specs.declared.Binding.{Binding}
+use Rattle.search.specs.declared.Progress.{Progress}
 use Rattle.search_step.specs.declared.State.{State}
 use Rattle.search.specs.Run.{Env, env_with, Run, run, run_of}
 use Rattle.search.specs.Valid.{Long, Valid}
 use Rattle.run_rules.specs.Lent.{Terms, allowed}
 use Rattle.rules.specs.Dialects.{Dialect, every_place}
-use Rattle.rules.specs.Rows.{as_words}
-use Rattle.rules.specs.Services.{Rule, accepted, rule_of}
+use Rattle.rules.specs.Rows.{Form, as_words}
 use Rattle.forms.specs.Faults.{Sane}
 use Rattle.program_rules.specs.Points.{Instr, end, Point, Follows, strips, drops, binds, tests, splits, aparts, keeps, chooses, denies, cuts, elses, closes, reserves, ends, after_end_lem}
 use Rattle.program_rules.specs.Program.{program, point_at}
@@ -38,29 +37,12 @@ use Rattle.program_rules.specs.Slots.{numbered}
 use Rattle.program_rules.specs.Link.{ops_in, bindings_in, linked_in}
 use Rattle.program_rules.specs.Columns.{line_in, Holds, compiled_zeros}
 use Rattle.services.specs.Matches.{Ready, Admitted}
-use Rattle.services.proofs.Matches.{ready_sane, ready_fine, ready_target, matcher_few, pattern_few}
+use Rattle.services.proofs.Matches.{ready_sane, ready_fine, matcher_few, pattern_few}
 use Rattle.search.specs.Valid.{Fine}
 use Rattle.run_sound.specs.Tested.{Decides}
 use Rattle.run_sound.specs.Sound.{Numbered, Closes, Sound}
 use Rattle.run_sound.proofs.Tests.{refuted, upheld}
 use Rattle.service_runs.specs.Going.{Tries, Still, lines_in, env_in, run_in, Carries}
-
--- ---- The budget.
-
-module _ (steps portion : ℕ) where
-  pub budget_none : 4294967295 ≤ steps → 0 - steps ≡ allowed portion steps
-  unfolding allowed
-  budget_none h = omega arith
-
-  pub budget_cut : steps < 4294967295 → (n : ℕ) → n ≡ portion → 4294967295 - steps < n → 4294967295 - steps ≡ allowed portion steps
-  unfolding allowed
-  budget_cut h n e l = omega arith
-
-  pub budget_sum : steps < 4294967295 → (n : ℕ) → n ≡ portion → n ≤ 4294967295 - steps → (steps + n) - steps ≡ allowed portion steps
-  unfolding allowed
-  budget_sum h n e l = omega arith
-
-pub ruleset budget_rules = (budget_none, budget_cut, budget_sum, rules)
 
 -- ---- A sound run is a valid one.
 
@@ -109,23 +91,23 @@ module _ (e : Env) (slots : List ℕ) (x : State) (b : List Binding) (room : Lis
     pub try_valid : Numbered e.arg slots → not r ≡ false → Valid e (run x (view_of e.arg slots) b room)
     try_valid n q = sound_valid n (d.sound (upheld r q))
 
-    pub try_unsound : (n : ℕ) → not r ≡ true → Tries e n (run x (view_of e.arg slots) b room) false (run x (view_of e.arg slots) b room)
+    pub try_unsound : (n : ℕ) → not r ≡ true → Tries e n (run x (view_of e.arg slots) b room) None slots room
     try_unsound n q = record {
-      went = λ z. let y : ◌≡◌ {A = ℕ} 0 1 = cc in absurd (omega arith);
+      went = λ p z. absurd (cc);
       kept = λ z v. refuted r q (d.whole (valid_sound v));
     }
 
-pub try_went : (e : Env) (n : ℕ) (r next : Run) → next ≡ run_of e n r → Tries e n r true next
-try_went e n r next h = record { went = λ z. h; kept = λ z. let y : ◌≡◌ {A = ℕ} 0 1 = cc in absurd (omega arith) }
+pub try_went : (e : Env) (n : ℕ) (r : Run) (p : Progress) (slots' : List ℕ) (room' : List ℤ) → run p.state (view_of e.arg slots') p.binds room' ≡ run_of e n r → Tries e n r (Some p) slots' room'
+try_went e n r p slots' room' h = record {
+  went = λ q z. let k : p ≡ q = cc in subst (λ (o : Progress). run o.state (view_of e.arg slots') o.binds room' ≡ run_of e n r) k h;
+  kept = λ z. absurd (cc);
+}
 
-pub still_stays : (slots : List ℕ) (room : List ℤ) → Still false slots slots room room
+pub still_stays : (slots : List ℕ) (room : List ℤ) → Still None slots slots room room
 still_stays slots room = record { slots_stay = λ z. refl; room_stays = λ z. refl }
 
-pub still_went : (slots slots' : List ℕ) (room room' : List ℤ) → Still true slots slots' room room'
-still_went slots slots' room room' = record {
-  slots_stay = λ z. let y : ◌≡◌ {A = ℕ} 0 1 = cc in absurd (omega arith);
-  room_stays = λ z. let y : ◌≡◌ {A = ℕ} 0 1 = cc in absurd (omega arith);
-}
+pub still_went : (p : Progress) (slots slots' : List ℕ) (room room' : List ℤ) → Still (Some p) slots slots' room room'
+still_went p slots slots' room room' = record { slots_stay = λ z. absurd (cc); room_stays = λ z. absurd (cc) }
 
 pub ruleset try_rules = (try_valid, try_unsound, try_went, still_stays, still_went, rules)
 
@@ -226,12 +208,21 @@ module _ (ms ps ts : List ℤ) (n : ℕ) (none lines : List ℕ) (g : Ready ms p
   env_is terms = ap (λ k. env_with terms.dialect (columns_of lines) ms ts k terms.form) vars
       ∙ ap (λ (k : Columns). env_with terms.dialect k ms ts (bindings_in (ops_in k.op 0 (length (lines_of ms ps)))) terms.form) lines_are
 
-  pub carry_tried : (terms : Terms) (budget portion : ℕ) (x x' : State) (slots slots' : List ℕ) (b b' : List Binding) (room room' : List ℤ) (sound : Bool) → budget - x.steps ≡ allowed portion x.steps
-      → Tries (env_with terms.dialect (columns_of lines) ms ts n terms.form) (budget - x.steps) (run x (view_of (columns_of lines).arg slots) b room) sound (run x' (view_of (columns_of lines).arg slots') b' room')
-      → Still sound slots slots' room room' → Carries terms ms ps ts portion x slots b room sound x' slots' b' room'
+  pub carry_tried : (terms : Terms) (budget portion : ℕ) (x : State) (slots slots' : List ℕ) (b : List Binding) (room room' : List ℤ) (next : Option Progress) → budget - x.steps ≡ allowed portion x.steps
+      → Tries (env_with terms.dialect (columns_of lines) ms ts n terms.form) (budget - x.steps) (run x (view_of (columns_of lines).arg slots) b room) next slots' room'
+      → Still next slots slots' room room' → Carries terms ms ps ts portion x slots b room next slots' room'
   unfolding run_in env_in
-  carry_tried terms budget portion x x' slots slots' b b' room room' sound k t still = record {
-    tries = subst (λ (e : Env). Tries e (allowed portion x.steps) (run x (view_of e.arg slots) b room) sound (run x' (view_of e.arg slots') b' room')) (env_is terms)
-        (subst (λ i. Tries (env_with terms.dialect (columns_of lines) ms ts n terms.form) i (run x (view_of (columns_of lines).arg slots) b room) sound (run x' (view_of (columns_of lines).arg slots') b' room')) k t);
+  carry_tried terms budget portion x slots slots' b room room' next k t still = record {
+    tries = subst (λ (e : Env). Tries e (allowed portion x.steps) (run x (view_of e.arg slots) b room) next slots' room') (env_is terms)
+        (subst (λ i. Tries (env_with terms.dialect (columns_of lines) ms ts n terms.form) i (run x (view_of (columns_of lines).arg slots) b room) next slots' room') k t);
     still = still;
   }
+
+  -- The same on the terms that the picks stand for.
+  pub carry_picked : (form : Form) (dialect : Dialect) (terms : Terms) → form ≡ terms.form → dialect ≡ terms.dialect → (budget portion : ℕ) (x : State) (slots slots' : List ℕ) (b : List Binding) (room room' : List ℤ) (next : Option Progress)
+      → budget - x.steps ≡ allowed portion x.steps
+      → Tries (env_with dialect (columns_of lines) ms ts n form) (budget - x.steps) (run x (view_of (columns_of lines).arg slots) b room) next slots' room'
+      → Still next slots slots' room room' → Carries terms ms ps ts portion x slots b room next slots' room'
+  carry_picked form dialect terms f d budget portion x slots slots' b room room' next k t still =
+      subst (λ (i : Terms). Carries i ms ps ts portion x slots b room next slots' room') (ap₂ {C = Terms} (λ (i : Form) (j : Dialect). record { form = i; dialect = j }) f d)
+      (carry_tried (record { form = form; dialect = dialect }) budget portion x slots slots' b room room' next k t still)

@@ -1,14 +1,11 @@
 -- What a run keeps, and an advance of it in the words of `run_rules`.
-use Rattle.std.specs.Prelude.{ℕ, ◌+◌, ◌-◌, ◌≤◌, ◌<◌, ◌≡◌, Bool, true, false, List, [], length, get_or, take, eqb, ℤ}
+use Rattle.std.specs.Prelude.{ℕ, ◌≤◌, ◌<◌, ◌≡◌, true, cond, Option, List, length, get_or, take, eqb, ℤ}
 use Rattle.std.proofs.Math.Path.{refl, ap, subst}
 use Rattle.std.proofs.Common.{sym, ◌∙◌}
-use Rattle.rules.specs.Forms.{Matcher, Pattern, Value}
-use Rattle.rules.specs.Reading.{ok}
-use Rattle.rules.specs.Fit.{fits}
 use Rattle.forms.specs.Faults.{Sane}
 use Rattle.forms.specs.Written.{Widthsᵖ}
 use Rattle.forms.specs.ReadPattern.{pattern_read}
-use Rattle.run_rules.specs.Lent.{Terms, Numbers, Held, ended, Lent, allowed, told as tells, held_after, room_after, Advanced, advanced}
+use Rattle.run_rules.specs.Lent.{Terms, Numbers, Held, ended, Lent, allowed, told as tells, held_after, room_after, advanced}
 use Rattle.program_rules.specs.Program.{program}
 use Rattle.program_rules.specs.Closed.{Closed, closed_is}
 use Rattle.program_rules.specs.Length.{instrs}
@@ -19,13 +16,16 @@ use Rattle.value_rows.specs.declared.Binding.{Binding}
 use Rattle.search_step.specs.declared.State.{State}
 use Rattle.tables.specs.declared.line.Line.{Line}
 use Rattle.tables.specs.Slot.{view_of}
-use Rattle.search.specs.Run.{Env, Run, run, line_at, run_of}
+use Rattle.search.specs.declared.Progress.{Progress}
+use Rattle.search.specs.Run.{Run, line_at, run_of}
 use Rattle.search.specs.Valid.{Fine, Valid}
 use Rattle.services.specs.Matches.{Ready, Admitted}
 use Rattle.services.proofs.Matches.{ready_sane, ready_target}
 use Rattle.search.proofs.Accepted.{fine_in}
-use Rattle.run_states.specs.Standing.{numbers_of, Going, Stood, over, goes_on_lem, advance_told, advance_room, advance_held}
-use Rattle.service_runs.specs.Going.{Tries, Still, terms_by, lines_in, env_in, run_in, Carries}
+use Rattle.run_states.specs.Standing.{numbers_of, Stood, over, goes_on_lem, advance_told, advance_room, advance_held}
+use Rattle.services.specs.declared.picks.Dialect.TheVariants.{EveryPlace, FirstPlaces}
+use Rattle.services.specs.declared.picks.RowForm.TheVariants.{Values, Origins}
+use Rattle.service_runs.specs.Going.{Still, terms_by, lines_in, env_in, run_in, Carries}
 use Rattle.service_runs.specs.declared.going.Picks.{Picks}
 use Rattle.service_runs.specs.declared.run.Run as struct
 use Rattle.service_runs.specs.declared.run.Told as report
@@ -40,9 +40,9 @@ abbrev pub unlike_numbers : Numbers
 unlike_numbers = record { answer = 19; place = 0; rows = 0; steps = 0; words = 0; cause = 0 }
 
 -- An advance over words: as it is carried out where they are accepted in the dialect.
-pub record Goes (terms : Terms) (ms ps ts : List ℤ) (n : ℕ) (x : State) (slots : List ℕ) (b : List Binding) (room : List ℤ) (sound : Bool) (x' : State) (slots' : List ℕ) (b' : List Binding) (room' : List ℤ) : Type 0 where
-  pub goes : Admitted terms.dialect ms ps ts → Carries terms ms ps ts n x slots b room sound x' slots' b' room'
-  pub still : Still sound slots slots' room room'
+pub record Goes (terms : Terms) (ms ps ts : List ℤ) (n : ℕ) (x : State) (slots : List ℕ) (b : List Binding) (room : List ℤ) (next : Option Progress) (slots' : List ℕ) (room' : List ℤ) : Type 0 where
+  pub goes : Admitted terms.dialect ms ps ts → Carries terms ms ps ts n x slots b room next slots' room'
+  pub still : Still next slots slots' room room'
 
 -- The lengths of an accepted rule and target.
 pub record Lengths (m p t : ℕ) : Type 0 where
@@ -51,9 +51,9 @@ pub record Lengths (m p t : ℕ) : Type 0 where
   pub target : t ≤ 1024
 
 -- The same over the first words of what a run keeps.
-pub record Over (terms : Terms) (matchers : List ℤ) (m : ℕ) (patterns : List ℤ) (p : ℕ) (targets : List ℤ) (t n : ℕ) (x : State) (slots : List ℕ) (b : List Binding) (room : List ℤ) (sound : Bool) (x' : State) (slots' : List ℕ) (b' : List Binding) (room' : List ℤ) : Type 0 where
-  pub goes : Lengths m p t → Goes terms (take m matchers) (take p patterns) (take t targets) n x slots b room sound x' slots' b' room'
-  pub still : Still sound slots slots' room room'
+pub record Over (terms : Terms) (matchers : List ℤ) (m : ℕ) (patterns : List ℤ) (p : ℕ) (targets : List ℤ) (t n : ℕ) (x : State) (slots : List ℕ) (b : List Binding) (room : List ℤ) (next : Option Progress) (slots' : List ℕ) (room' : List ℤ) : Type 0 where
+  pub goes : Lengths m p t → Goes terms (take m matchers) (take p patterns) (take t targets) n x slots b room next slots' room'
+  pub still : Still next slots slots' room room'
 
 -- ---- What the numbers of a run stand for, over a rule and a target that are accepted.
 
@@ -144,7 +144,7 @@ refusal_in r = record { answer = r.answer; place = r.place; rows = 0; steps = 0;
 
 -- What its opening was told. A form or a dialect that there is not is taken as 1, in a run that no opening has left so.
 abbrev pub picks_in : (form dialect : ℕ) → Picks
-picks_in form dialect = record { origins = eqb form 2; firsts = eqb dialect 2 }
+picks_in form dialect = record { form = cond (eqb form 2) Origins Values; dialect = cond (eqb dialect 2) FirstPlaces EveryPlace }
 
 abbrev pub terms_in : struct.Run → Terms
 terms_in r = terms_by (picks_in r.form r.dialect)

@@ -1,17 +1,30 @@
 -- What an opening gives: every field of the run, and that the run holds what `run_rules` says.
-use Rattle.std.specs.Prelude.{ℕ, ◌≡◌, ◌⊎◌, true, false, List, [], length, replicate, eqb, ℤ, pos}
-use Rattle.run_rules.specs.Lent.{Opened, opened}
+use Rattle.std.specs.Prelude.{ℕ, ◌≡◌, true, false, List, length, replicate, eqb, ℤ, pos}
+use Rattle.std.proofs.Math.Option.{some}
+use Rattle.rules.specs.Dialects.{Dialect, dialect_of}
+use Rattle.rules.specs.Rows.{Form, form_of}
+use Rattle.tests.specs.Judgements.{Numbers}
+use Rattle.run_rules.specs.Lent.{Opened, turned_away, opened}
+use Rattle.services.specs.Matches.{Admitted}
 use Rattle.tables.specs.Slot.{no_slots}
 use Rattle.value_places.specs.Held.{put, whole_at}
 use Rattle.value_rows.specs.Row.{nothing}
 use Rattle.search.specs.Run.{opening}
-use Rattle.service_runs.specs.Kept.{Kept}
-use Rattle.service_runs.specs.declared.run.Run as struct
+use Rattle.service_runs.specs.Kept.{Refusal, Kept}
 use Rattle.service_runs.specs.declared.opening.Start as out
 
--- The row forms that there are, and the dialects.
-abbrev pub Known : ℕ → Type 0
-Known n = (n ≡ 1) ⊎ (n ≡ 2)
+-- An opening that nothing refuses: there are the form and the dialect, and the words are accepted.
+pub record Taken (n d : ℕ) (ms ps ts : List ℤ) : Type 0 where
+  pub form : Form
+  pub dialect : Dialect
+  pub form_is : form_of n ≡ some form
+  pub dialect_is : dialect_of d ≡ some dialect
+  pub admitted : Admitted dialect ms ps ts
+
+-- One that is refused with these numbers.
+pub record Declines (n d : ℕ) (ms ps ts : List ℤ) (k : Numbers) : Type 0 where
+  pub refusal : Refusal k.answer
+  pub opens : (size : ℕ) → opened n d ms ps ts size ≡ turned_away size k.answer k.place k.cause
 
 -- Words at the start of an array, 0 behind them.
 unfoldable pub kept : (n : ℕ) (ws : List ℤ) → List ℤ

@@ -1,8 +1,8 @@
 // An advance of a run in which a state stands: its lines and places are computed again, and it is tested before the search goes on from it.
 ghost use Rattle.std.specs.Prelude.{◌≡◌, ◌-◌, ◌*◌, length};
 ghost use Rattle.run_rules.specs.Lent.{allowed};
-ghost use Rattle.words.specs.Dialects.{dialect_by};
 ghost use Rattle.services.specs.Matches.{Admitted};
+ghost use Rattle.services.specs.Picks.{dialect_in};
 ghost use Rattle.tables.specs.Line.{columns_of};
 ghost use Rattle.tables.specs.Slot.{slot_count, view_of};
 ghost use Rattle.value_places.specs.Places.{Target};
@@ -16,30 +16,26 @@ ghost use Rattle.service_runs.specs.Going.{Tries, Still, terms_by, Carries};
 use program::compile;
 use run_sound::is_sound;
 use search::{Progress, Terms, advance};
+use services::picks::{Dialect, RowForm};
+use services::testing::Words;
 use tables::line::{Lines, no_lines};
 use tables::place::no_places;
 use tables::slot::Slots;
 use value_places::places::places_of;
-use words::casts::wide;
 
 // The most steps of a run.
 const MOST: u64 = 4294967295;
 
 // The budget of a portion, with the steps that were taken.
+#[tactic(auto, unfolding(run_rules::specs::Lent::allowed))]
 fn budget_of(steps: u64, portion: u32) -> u64
     ensures { result - steps ≡ allowed portion steps }
 {
-    if MOST <= steps {
-        return 0;
-    }
-    let n = wide(portion);
-    if MOST - steps < n {
-        return MOST;
-    }
-    steps + n
+    steps.saturating_add(u64::from(portion)).min(MOST)
 }
 
 // The search, over the places of the target. What waits is copied into its own frame and back, so that every table that it walks over stands there.
+#[tactic(auto, unfolding(words::specs::Dialects::dialect_by))]
 fn search_on(
     from: Progress,
     terms: Terms,
@@ -49,10 +45,10 @@ fn search_on(
     slots: &mut Slots,
     room: &mut [i32],
 ) -> Progress
-    requires fact_1 { Target t.now }
-    requires fact_2 { Fine (env_by (columns_of lines.now) m.now t.now terms) }
-    requires fact_3 { Valid (env_by (columns_of lines.now) m.now t.now terms) (run from.state (view_of (columns_of lines.now).arg slots.old) from.binds room.old) }
-    requires fact_4 { Fresh m.now 1 t.now 0 terms.fresh }
+    requires target { Target t.now }
+    requires fine { Fine (env_by (columns_of lines.now) m.now t.now terms) }
+    requires valid { Valid (env_by (columns_of lines.now) m.now t.now terms) (run from.state (view_of (columns_of lines.now).arg slots.old) from.binds room.old) }
+    requires fresh { Fresh m.now 1 t.now 0 terms.fresh }
     ensures { run result.state (view_of (columns_of lines.now).arg slots.new) result.binds room.new ≡ run_of (env_by (columns_of lines.now) m.now t.now terms) (terms.budget - from.state.steps) (run from.state (view_of (columns_of lines.now).arg slots.old) from.binds room.old) }
 {
     let mut places = no_places();
@@ -61,13 +57,6 @@ fn search_on(
     let last = advance(from, terms, m, t, &places, lines, &mut waiting, room);
     *slots = waiting;
     last
-}
-
-// Where a run is after a call, and whether it was sound before.
-#[derive(Drop)]
-pub struct Tried {
-    pub sound: bool,
-    pub progress: Progress,
 }
 
 // The search, if the run is sound. It is called from two places, once for each row form: then the compiler keeps it a function of its own, and its numbers in registers.
@@ -79,65 +68,63 @@ fn try_on(
     lines: &Lines,
     slots: &mut Slots,
     room: &mut [i32],
-) -> Tried
-    requires fact_1 { Target t.now }
-    requires fact_2 { Fine (env_by (columns_of lines.now) m.now t.now terms) }
-    requires fact_3 { Numbered (columns_of lines.now).arg slots.old }
-    requires fact_4 { Closes (columns_of lines.now).op (columns_of lines.now).arg }
-    requires fact_5 { (from.state.live ≡ 1) × Fresh m.now 1 t.now 0 terms.fresh }
-    ensures fact_1 { Tries (env_by (columns_of lines.now) m.now t.now terms) (terms.budget - from.state.steps) (run from.state (view_of (columns_of lines.now).arg slots.old) from.binds room.old) result.sound (run result.progress.state (view_of (columns_of lines.now).arg slots.new) result.progress.binds room.new) }
-    ensures fact_2 { Still result.sound slots.old slots.new room.old room.new }
+) -> Option<Progress>
+    requires target { Target t.now }
+    requires fine { Fine (env_by (columns_of lines.now) m.now t.now terms) }
+    requires numbered { Numbered (columns_of lines.now).arg slots.old }
+    requires closes { Closes (columns_of lines.now).op (columns_of lines.now).arg }
+    requires stands { from.state.live ≡ 1 }
+    requires fresh { Fresh m.now 1 t.now 0 terms.fresh }
+    ensures tries { Tries (env_by (columns_of lines.now) m.now t.now terms) (terms.budget - from.state.steps) (run from.state (view_of (columns_of lines.now).arg slots.old) from.binds room.old) result slots.new room.new }
+    ensures still { Still result slots.old slots.new room.old room.new }
 {
     let b = from.binds;
     if !is_sound(from.state, b, room.len(), t, lines, slots) {
-        return Tried {
-            sound: false,
-            progress: from,
-        };
+        return None;
     }
     if terms.origins {
-        return Tried {
-            sound: true,
-            progress: search_on(from, terms, m, t, lines, slots, room),
-        };
+        return Some(search_on(from, terms, m, t, lines, slots, room));
     }
-    Tried {
-        sound: true,
-        progress: search_on(from, terms, m, t, lines, slots, room),
-    }
+    Some(search_on(from, terms, m, t, lines, slots, room))
 }
 
-// What the opening was told: whether a row tells origins, and whether a cons under a multiset takes first places only, as dialect 2 has it.
-#[derive(Drop)]
+// What the opening was told: the form of the rows, and the dialect of the rule.
+#[derive(Clone, Copy)]
 pub struct Picks {
-    pub origins: bool,
-    pub firsts: bool,
+    pub form: RowForm,
+    pub dialect: Dialect,
 }
 
-// An advance over words that are accepted in the dialect.
+// An advance over words that are accepted in the dialect; none if the run is not sound.
 pub fn carry_on(
     from: Progress,
     portion: u32,
     picks: Picks,
-    m: &[i32],
-    p: &[i32],
-    t: &[i32],
+    words: Words,
     slots: &mut Slots,
     room: &mut [i32],
-) -> Tried
-    requires fact_1 { Admitted (dialect_by picks.firsts) m.now p.now t.now }
-    requires fact_2 { from.state.live ≡ 1 }
-    requires fact_3 { length slots.old ≡ 5 * slot_count }
-    ensures { Carries (terms_by picks) m.now p.now t.now portion from.state slots.old from.binds room.old result.sound result.progress.state slots.new result.progress.binds room.new }
+) -> Option<Progress>
+    requires admitted { Admitted (dialect_in picks.dialect) words.matcher.now words.pattern.now words.target.now }
+    requires stands { from.state.live ≡ 1 }
+    requires slots_long { length slots.old ≡ 5 * slot_count }
+    ensures { Carries (terms_by picks) words.entry.matcher.now words.entry.pattern.now words.entry.target.now portion from.state slots.old from.binds room.old result slots.new room.new }
 {
     let mut lines = no_lines();
-    let n = compile(m, p, &mut lines);
+    let vars = compile(words.matcher, words.pattern, &mut lines);
     let terms = Terms {
         budget: budget_of(from.state.steps, portion),
-        vars: n,
-        origins: picks.origins,
-        firsts: picks.firsts,
+        vars,
+        origins: picks.form.tells_origins(),
+        firsts: picks.dialect.takes_firsts(),
         fresh: 0,
     };
-    try_on(from, terms, m, t, &lines, slots, room)
+    try_on(
+        from,
+        terms,
+        words.matcher,
+        words.target,
+        &lines,
+        slots,
+        room,
+    )
 }

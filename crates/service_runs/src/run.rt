@@ -1,23 +1,24 @@
 // A run that is lent by the game, as a struct by value: what it holds, and an advance of it.
 ghost use Rattle.std.specs.Prelude.{◌≡◌, ◌*◌, length};
 ghost use Rattle.tables.specs.Slot.{slot_count};
-ghost use Rattle.words.specs.Dialects.{dialect_by};
-ghost use Rattle.services.specs.Matches.{Admitted};
 ghost use Rattle.run_sound.specs.Tested.{Decides};
 ghost use Rattle.service_runs.specs.Going.{terms_by};
 ghost use Rattle.service_runs.specs.Kept.{Goes, Over, Lengths, Refusal, Refuses, Advances, told, unlike_numbers, picks_in};
 ghost use Rattle.run_states.specs.Standing.{numbers_of};
 
-use crate::going::{Picks, Tried, carry_on};
+use crate::going::{Picks, carry_on};
 use search::{Progress, tell};
 use search_step::{STANDS, State};
-use services::matching::{UNKNOWN_DIALECT, UNKNOWN_FORM};
+use services::picks::{Dialect, RowForm};
+use services::refusal::{UNKNOWN_DIALECT, UNKNOWN_FORM};
+use services::testing::{Words, tested};
 use tables::slot::Slots;
-use tests::{Judgement, TargetJudgement, UNFIT, rule_refused_in, target_refused};
+use tests::{MATCHER, UNFIT};
 use value_rows::Binding;
 use words::dialect::FIRST_PLACES;
 
-// Matcher, pattern and target are kept in full arrays, with their lengths; `answer` is a refusal at the opening, or 0.
+// Matcher, pattern and target are kept in full arrays, with their lengths; `answer` is a refusal at the opening, or 0. C lends these bytes, whatever they
+// are, so form, dialect and answer are numbers here, and no enum.
 #[repr(C)]
 #[derive(Clone, Copy)]
 pub struct Run {
@@ -38,7 +39,7 @@ pub struct Run {
     pub targets: [i32; 1024],
 }
 
-// The six numbers of an answer, since the opening.
+// The six numbers of an answer, since the opening; `Runs.told_numbers` of the border tells them from this struct, as C has it, and not from `Matched`.
 #[repr(C)]
 #[derive(Drop)]
 pub struct Told {
@@ -70,6 +71,7 @@ const PATTERNS: usize = 256;
 
 const TARGETS: usize = 1024;
 
+#[tactic(auto, unfolding(crate::specs::Kept::told))]
 fn unlike() -> Told
     ensures { told result ≡ unlike_numbers }
 {
@@ -83,96 +85,55 @@ fn unlike() -> Told
     }
 }
 
-// Whether none of the tests 1 to 6 refuses, in the dialect.
-fn is_ready(firsts: bool, m: &[i32], p: &[i32], t: &[i32]) -> bool
-    ensures { Decides result (Admitted (dialect_by firsts) m.now p.now t.now) }
-{
-    if let Judgement::Refused(_, _) = rule_refused_in(firsts, m, p) {
-        return false;
-    }
-    if let TargetJudgement::Refused(_, _, _) = target_refused(m, t) {
-        return false;
-    }
-    true
-}
-
 // An advance over words, if they are accepted.
 fn go_on(
     from: Progress,
     portion: u32,
     picks: Picks,
-    m: &[i32],
-    p: &[i32],
-    t: &[i32],
+    words: Words,
     slots: &mut Slots,
     room: &mut [i32],
-) -> Tried
-    requires fact_1 { from.state.live ≡ 1 }
-    requires fact_2 { length slots.old ≡ 5 * slot_count }
-    ensures { Goes (terms_by picks) m.now p.now t.now portion from.state slots.old from.binds room.old result.sound result.progress.state slots.new result.progress.binds room.new }
+) -> Option<Progress>
+    requires stands { from.state.live ≡ 1 }
+    requires slots_long { length slots.old ≡ 5 * slot_count }
+    ensures { Goes (terms_by picks) words.entry.matcher.now words.entry.pattern.now words.entry.target.now portion from.state slots.old from.binds room.old result slots.new room.new }
 {
-    if !is_ready(picks.firsts, m, p, t) {
-        return Tried {
-            sound: false,
-            progress: from,
-        };
+    if tested(picks.dialect, words).is_err() {
+        return None;
     }
-    carry_on(from, portion, picks, m, p, t, slots, room)
-}
-
-// How many words of matcher, pattern and target a run keeps.
-#[derive(Clone, Copy)]
-pub struct Counts {
-    pub matcher: usize,
-    pub pattern: usize,
-    pub target: usize,
+    carry_on(from, portion, picks, words, slots, room)
 }
 
 // Whether the lengths of the words are those of an accepted rule and target.
-fn are_lengths(c: Counts) -> bool
-    ensures { Decides result (Lengths c.matcher c.pattern c.target) }
+fn are_lengths(matcher: usize, pattern: usize, target: usize) -> bool
+    ensures { Decides result (Lengths matcher pattern target) }
 {
-    if MATCHERS < c.matcher {
-        return false;
-    }
-    if PATTERNS < c.pattern {
-        return false;
-    }
-    c.target <= TARGETS
+    matcher <= MATCHERS && pattern <= PATTERNS && target <= TARGETS
 }
 
-// The same over the words that a run keeps.
-fn on_words<'a>(
-    from: Progress,
-    portion: u32,
-    picks: Picks,
-    c: Counts,
-    matchers: &'a [i32; 64],
-    patterns: &'a [i32; 256],
-    targets: &'a [i32; 1024],
-    slots: &mut Slots,
-    room: &mut [i32],
-) -> Tried
-    requires fact_1 { from.state.live ≡ 1 }
-    requires fact_2 { length slots.old ≡ 5 * slot_count }
-    ensures { Over (terms_by picks) matchers.now c.matcher patterns.now c.pattern targets.now c.target portion from.state slots.old from.binds room.old result.sound result.progress.state slots.new result.progress.binds room.new }
+// The same over the words that a run keeps, from where it stands.
+fn on_words(run: &Run, portion: u32, slots: &mut Slots, room: &mut [i32]) -> Option<Progress>
+    requires stands { run.now.state.live ≡ 1 }
+    requires slots_long { length slots.old ≡ 5 * slot_count }
+    ensures { Over (terms_by (picks_in run.now.form run.now.dialect)) run.now.matchers run.now.matcher run.now.patterns run.now.pattern run.now.targets run.now.target portion run.now.state slots.old run.now.binds room.old result slots.new room.new }
 {
-    if !are_lengths(c) {
-        return Tried {
-            sound: false,
-            progress: from,
-        };
+    if !are_lengths(run.matcher, run.pattern, run.target) {
+        return None;
     }
-    let m = &matchers[..];
-    let p = &patterns[..];
-    let t = &targets[..];
+    let words = Words {
+        matcher: &run.matchers[..run.matcher],
+        pattern: &run.patterns[..run.pattern],
+        target: &run.targets[..run.target],
+    };
+    let picks = picks_of(run.form, run.dialect);
     go_on(
-        from,
+        Progress {
+            state: run.state,
+            binds: run.binds,
+        },
         portion,
         picks,
-        &m[..c.matcher],
-        &p[..c.pattern],
-        &t[..c.target],
+        words,
         slots,
         room,
     )
@@ -197,16 +158,7 @@ fn told_of(x: State) -> Told
 fn is_refusal(answer: u32) -> bool
     ensures { Decides result (Refusal answer) }
 {
-    if answer == UNKNOWN_FORM {
-        return true;
-    }
-    if answer == UNKNOWN_DIALECT {
-        return true;
-    }
-    if answer == 0 {
-        return false;
-    }
-    answer <= UNFIT
+    matches!(answer, UNKNOWN_FORM | UNKNOWN_DIALECT | MATCHER..=UNFIT)
 }
 
 // What a run tells that was refused at its opening.
@@ -231,8 +183,16 @@ fn picks_of(form: u32, dialect: u32) -> Picks
     ensures { result ≡ picks_in form dialect }
 {
     Picks {
-        origins: form == ORIGINS,
-        firsts: dialect == FIRST_PLACES,
+        form: if form == ORIGINS {
+            RowForm::Origins
+        } else {
+            RowForm::Values
+        },
+        dialect: if dialect == FIRST_PLACES {
+            Dialect::FirstPlaces
+        } else {
+            Dialect::EveryPlace
+        },
     }
 }
 
@@ -248,34 +208,14 @@ pub fn advanced(mut run: Run, portion: u32, room: &mut [i32]) -> Out
         } else if x.live != STANDS {
             t = told_of(x);
         } else {
-            let b = run.binds;
-            let from = Progress { state: x, binds: b };
-            let counts = Counts {
-                matcher: run.matcher,
-                pattern: run.pattern,
-                target: run.target,
-            };
-            let picks = picks_of(run.form, run.dialect);
             let mut slots = run.slots;
-            let found = on_words(
-                from,
-                portion,
-                picks,
-                counts,
-                &run.matchers,
-                &run.patterns,
-                &run.targets,
-                &mut slots,
-                room,
-            );
-            if found.sound {
-                let last = found.progress;
-                let y = last.state;
-                let c = last.binds;
-                run.state = y;
-                run.binds = c;
+            let found = on_words(&run, portion, &mut slots, room);
+            if let Some(last) = found {
+                let binds = last.binds;
+                run.state = last.state;
+                run.binds = binds;
                 run.slots = slots;
-                t = told_of(y);
+                t = told_of(last.state);
             }
         }
     }

@@ -1,2 +1,4 @@
+pub mod Numbers
+pub mod Outcome
 pub mod Rules
 pub mod Matches

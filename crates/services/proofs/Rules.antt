@@ -4,7 +4,7 @@ use native.Mathlib.Omega.{arith}
 use native.Mathlib.Decide.{dec_le}
 use mathlib.Core.Path.{◌≡◌, refl, sym, ap, ◌∙◌, subst}
 use mathlib.Core.Bool.{Bool, true, false, cond}
-use mathlib.Core.Option.{Option, none, some}
+use mathlib.Core.Option.{none, some}
 use mathlib.Core.List.{List}
 use lib.Dec.{ltb, leb}
 use lib.ListN.{length}
@@ -29,14 +29,18 @@ use Rattle.program_rules.specs.Slots.{numbered}
 use Rattle.program_rules.specs.Columns.{Holds, compiled_zeros}
 use Rattle.review_count.specs.Scan.{none_from}
 use Rattle.review_count.specs.Plain.{plain_is}
-use Rattle.tests.specs.Judgements.{judgement}
-use Rattle.tests.specs.declared.Judgement.{Judgement}
-use Rattle.tests.specs.declared.Judgement.TheVariants.{Accepted, Refused}
-use Rattle.review_count.specs.Tally.{whole_sum, whole_product, within}
+use Rattle.std.specs.Option.{ok_or}
+use Rattle.std.specs.Prelude.{Option, Some, None, Result, Ok, Err}
+use Rattle.tests.specs.Judgements.{numbers_of, told as tested, judgement}
+use Rattle.tests.specs.declared.Refusal.{Refusal}
+use Rattle.tests.proofs.Told.{was_accepted, was_refused}
+use Rattle.review_count.specs.Tally.{whole_sum, whole_product, tally, within}
 use Rattle.room_rules.specs.Rooms.{rows_counted, rows_capped, rows_unless_always, rows_reviewed}
-use Rattle.services.specs.Reviews.{Sound, sound, counted_by, rows_by, rows_picked, reviewed}
+use Rattle.services.specs.Refusals.{refused_numbers}
+use Rattle.services.specs.Reviews.{Sound, sound, counted_by, rows_by, rows_picked, reviewed, reviewed_by}
+use Rattle.services.specs.declared.refusal.Refused.{Refused}
+use Rattle.services.specs.declared.refusal.Refused.TheVariants.{UnknownDialect, Tested, TooBig}
 use Rattle.review_count.specs.declared.count.Tally.{Tally}
-use Rattle.review_count.specs.declared.count.Tally.TheVariants.{Count, TooBig}
 use Rattle.review_count.proofs.count.Counted.{counted_is, multiplied_is}
 
 -- ---- A rule that was accepted.
@@ -44,10 +48,8 @@ use Rattle.review_count.proofs.count.Counted.{counted_is, multiplied_is}
 sound_is : {j : Judged Rule} → Sound j → (r : Rule) × (j ≡ accepted r)
 sound_is (sound r) = (r, refl)
 
-pub accepted_sound : (j : Judged Rule) (x : Judgement) → x ≡ judgement j → x ≡ Accepted → Sound j
-unfolding judgement
-accepted_sound (accepted r) x q e = sound r
-accepted_sound (refused a i) x q e = let z : ◌≡◌ {A = ℕ} 0 1 = cc in absurd (omega arith)
+pub accepted_sound : (j : Judged Rule) (x : Result (Unit {0}) Refusal) → tested x ≡ judgement j → (u : Unit {0}) → x ≡ Ok u → Sound j
+accepted_sound j x q u e = let r = was_accepted j x q u e in subst Sound (sym r.1) (sound r.0)
 
 pub matcher_few : (ms ps : List ℤ) → Sound (rule_of ms ps) → length ms ≤ 64
 matcher_few ms ps s = let r = sound_is s in let h = matcher_short ms ps r.0 r.1 in omega arith
@@ -73,34 +75,23 @@ inside cap m ops e h =
     let k : tag_z cap ≤ 64 = omega arith in
     ap (λ n. counted (whole_sum n ops)) e ∙ sym (ap (by_limit cap ops) (le-ltb 64 (tag_z cap) k))
 
-count_told : (f g n k : ℕ) → Count n k ≡ within f g → done n ≡ counted f
-unfolding within counted
-count_told f g n k e = go (ltb f (2 ^ 32)) e
-  where
-    go : (b : Bool) → Count n k ≡ cond b (Count f g) TooBig
-        → done n ≡ elim b as (λ _. paper.Reviewed) [ true ↦ done f | false ↦ declined 10 0 ]
-    go true e = let q : n ≡ f = cc in rw q
-    go false e = let z : ◌≡◌ {A = ℕ} 0 1 = cc in absurd (omega arith)
+-- What is given for a sum f and a product g.
+module _ (f g : ℕ) (y : Result Tally Refused) (e : y ≡ ok_or (within f g) TooBig) where
+  count_told : reviewed (reviewed_by y) ≡ counted f
+  unfolding within counted reviewed reviewed_by refused_numbers
+  count_told = rw e (go (ltb f (2 ^ 32)))
+    where
+      go : (b : Bool) → reviewed (reviewed_by (ok_or (cond b (Some (tally f g)) None) TooBig)) ≡ elim b as (λ _. paper.Reviewed) [ true ↦ done f | false ↦ declined 10 0 ]
+      go true = refl
+      go false = refl
 
-big_told : (f g : ℕ) → TooBig ≡ within f g → declined 10 0 ≡ counted f
-unfolding within counted
-big_told f g e = go (ltb f (2 ^ 32)) e
-  where
-    go : (b : Bool) → TooBig ≡ cond b (Count f g) TooBig
-        → declined 10 0 ≡ elim b as (λ _. paper.Reviewed) [ true ↦ done f | false ↦ declined 10 0 ]
-    go true e = let z : ◌≡◌ {A = ℕ} 0 1 = cc in absurd (omega arith)
-    go false e = refl
-
--- w is m as a wide number, and x what the count is found to be.
-pub count_given : (cap : ℤ) (m w : ℕ) (ops : List ℕ) (x : Tally) (n f : ℕ) → m ≡ tag_z cap → m ≤ 64 → w ≡ m → x ≡ within (whole_sum w ops) (whole_product w ops) → x ≡ Count n f
-    → done n ≡ counted_by cap ops
-count_given cap m w ops x n f e h k q c =
-    count_told (whole_sum m ops) (whole_product m ops) n f (sym c ∙ q ∙ ap (λ i. within (whole_sum i ops) (whole_product i ops)) k) ∙ inside cap m ops e h
-
-pub too_big_given : (cap : ℤ) (m w : ℕ) (ops : List ℕ) (x : Tally) → m ≡ tag_z cap → m ≤ 64 → w ≡ m → x ≡ within (whole_sum w ops) (whole_product w ops) → x ≡ TooBig
-    → declined 10 0 ≡ counted_by cap ops
-too_big_given cap m w ops x e h k q c =
-    big_told (whole_sum m ops) (whole_product m ops) (sym c ∙ q ∙ ap (λ i. within (whole_sum i ops) (whole_product i ops)) k) ∙ inside cap m ops e h
+  rows_told : (reviewed_by y).rows ≡ rows_counted f g
+  unfolding within rows_counted reviewed_by
+  rows_told = rw e (go (ltb f (2 ^ 32)))
+    where
+      go : (b : Bool) → (reviewed_by (ok_or (cond b (Some (tally f g)) None) TooBig)).rows ≡ cond b g 0
+      go true = refl
+      go false = refl
 
 -- The rows, likewise.
 by_rows : ℤ → List ℕ → Bool → ℕ
@@ -116,31 +107,17 @@ rows_inside cap m ops e h =
     let k : tag_z cap ≤ 64 = omega arith in
     ap (λ n. rows_counted (whole_sum n ops) (whole_product n ops)) e ∙ sym (ap (by_rows cap ops) (le-ltb 64 (tag_z cap) k))
 
-rows_told : (f g n k : ℕ) → Count n k ≡ within f g → k ≡ rows_counted f g
-unfolding within rows_counted
-rows_told f g n k e = go (ltb f (2 ^ 32)) e
-  where
-    go : (b : Bool) → Count n k ≡ cond b (Count f g) TooBig → k ≡ cond b g 0
-    go true e = cc
-    go false e = let z : ◌≡◌ {A = ℕ} 0 1 = cc in absurd (omega arith)
+-- w is m as a wide number, and x what the count is found to be.
+module _ (cap : ℤ) (m w : ℕ) (ops : List ℕ) (e : m ≡ tag_z cap) (h : m ≤ 64) (k : w ≡ m) (x : Option Tally) (q : x ≡ within (whole_sum w ops) (whole_product w ops))
+    (y : Result Tally Refused) (r : y ≡ ok_or x TooBig) where
+  given_is : y ≡ ok_or (within (whole_sum m ops) (whole_product m ops)) TooBig
+  given_is = r ∙ ap (λ z. ok_or z TooBig) (q ∙ ap (λ i. within (whole_sum i ops) (whole_product i ops)) k)
 
-no_rows_told : (f g : ℕ) → TooBig ≡ within f g → 0 ≡ rows_counted f g
-unfolding within rows_counted
-no_rows_told f g e = go (ltb f (2 ^ 32)) e
-  where
-    go : (b : Bool) → TooBig ≡ cond b (Count f g) TooBig → 0 ≡ cond b g 0
-    go true e = let z : ◌≡◌ {A = ℕ} 0 1 = cc in absurd (omega arith)
-    go false e = refl
+  pub count_given : reviewed (reviewed_by y) ≡ counted_by cap ops
+  count_given = count_told (whole_sum m ops) (whole_product m ops) y given_is ∙ inside cap m ops e h
 
-pub rows_given : (cap : ℤ) (m w : ℕ) (ops : List ℕ) (x : Tally) (n f : ℕ) → m ≡ tag_z cap → m ≤ 64 → w ≡ m → x ≡ within (whole_sum w ops) (whole_product w ops) → x ≡ Count n f
-    → f ≡ rows_by cap ops
-rows_given cap m w ops x n f e h k q c =
-    rows_told (whole_sum m ops) (whole_product m ops) n f (sym c ∙ q ∙ ap (λ i. within (whole_sum i ops) (whole_product i ops)) k) ∙ rows_inside cap m ops e h
-
-pub no_rows_given : (cap : ℤ) (m w : ℕ) (ops : List ℕ) (x : Tally) → m ≡ tag_z cap → m ≤ 64 → w ≡ m → x ≡ within (whole_sum w ops) (whole_product w ops) → x ≡ TooBig
-    → 0 ≡ rows_by cap ops
-no_rows_given cap m w ops x e h k q c =
-    no_rows_told (whole_sum m ops) (whole_product m ops) (sym c ∙ q ∙ ap (λ i. within (whole_sum i ops) (whole_product i ops)) k) ∙ rows_inside cap m ops e h
+  pub rows_given : (reviewed_by y).rows ≡ rows_by cap ops
+  rows_given = rows_told (whole_sum m ops) (whole_product m ops) y given_is ∙ rows_inside cap m ops e h
 
 -- ---- Test 11, over the lines that the compiler leaves.
 
@@ -222,72 +199,50 @@ module _ (ms ps : List ℤ) (T : Columns) (lines : List ℕ) (s : Sound (rule_of
 
 -- ---- Tests 1 to 4.
 
-pub refused_given : (j : Judged Rule) (cap : ℤ) (a i : ℕ) (x : Judgement) → x ≡ judgement j → x ≡ Refused a i → declined a i ≡ review_rule cap j
-unfolding judgement review_rule
-refused_given (accepted r) cap a i x q e = let z : ◌≡◌ {A = ℕ} 0 1 = cc in absurd (omega arith)
-refused_given (refused b k) cap a i x q e = let p : a ≡ b = cc in let q : i ≡ k = cc in rw (p, q)
+module _ (j : Judged Rule) (x : Result (Unit {0}) Refusal) (q : tested x ≡ judgement j) (r : Refusal) (e : x ≡ Err r) where
+  pub refused_given : (cap : ℤ) (y : Refused) → y ≡ Tested r → reviewed (reviewed_by (Err y)) ≡ review_rule cap j
+  unfolding reviewed reviewed_by refused_numbers review_rule declined
+  refused_given cap y k = let w = was_refused j x q r e in rw k (sym (ap (review_rule cap) w.0))
 
-pub refused_rows : (j : Judged Rule) (cap : ℤ) (a i : ℕ) (x : Judgement) → x ≡ judgement j → x ≡ Refused a i → 0 ≡ rows_reviewed cap j
-unfolding judgement rows_reviewed
-refused_rows (accepted r) cap a i x q e = let z : ◌≡◌ {A = ℕ} 0 1 = cc in absurd (omega arith)
-refused_rows (refused b k) cap a i x q e = refl
+  pub refused_rows : (cap : ℤ) (y : Refused) → 0 ≡ rows_reviewed cap j
+  unfolding rows_reviewed
+  refused_rows cap y = let w = was_refused j x q r e in sym (ap (rows_reviewed cap) w.0)
 
 -- ---- The dialect. A rule that it accepts is accepted in dialect 1, the same rule.
 
-module _ (dialect : Dialect) (ms ps : List ℤ) (x : Judgement) (q : x ≡ judgement (rule_in dialect ms ps)) (e : x ≡ Accepted) where
+module _ (dialect : Dialect) (ms ps : List ℤ) (x : Result (Unit {0}) Refusal) (q : tested x ≡ judgement (rule_in dialect ms ps)) (u : Unit {0}) (e : x ≡ Ok u) where
   given : (r : Rule) × (rule_in dialect ms ps ≡ accepted r)
-  given = sound_is (accepted_sound (rule_in dialect ms ps) x q e)
+  given = was_accepted (rule_in dialect ms ps) x q u e
 
   same_rule : rule_of ms ps ≡ rule_in dialect ms ps
   same_rule = rule_also dialect ms ps given.0 given.1 ∙ sym given.1
 
   pub also_sound : Sound (rule_of ms ps)
-  also_sound = subst Sound (sym same_rule) (accepted_sound (rule_in dialect ms ps) x q e)
+  also_sound = subst Sound (sym same_rule) (accepted_sound (rule_in dialect ms ps) x q u e)
 
+  -- z is the cap as it is handed on.
   pub also_given : (z cap : ℤ) (y : paper.Reviewed) → y ≡ review_rule z (rule_of ms ps) → z ≡ cap → y ≡ review_rule cap (rule_in dialect ms ps)
   also_given z cap y h k = h ∙ ap (λ (w : ℤ). review_rule w (rule_of ms ps)) k ∙ ap (review_rule cap) same_rule
 
   pub also_rows : (z cap : ℤ) (y : ℕ) → y ≡ rows_reviewed z (rule_of ms ps) → z ≡ cap → y ≡ rows_reviewed cap (rule_in dialect ms ps)
   also_rows z cap y h k = h ∙ ap (λ (w : ℤ). rows_reviewed w (rule_of ms ps)) k ∙ ap (rows_reviewed cap) same_rule
 
-module _ (ms ps : List ℤ) (z cap : ℤ) (k : z ≡ cap) (b : Bool) where
-  pub review_every : b ≡ false → (y : paper.Reviewed) → y ≡ review_of (dialect_by b) ms ps z → y ≡ review ms ps cap
-  unfolding dialect_by review_of review
-  review_every h y e = e ∙ rw (h, k)
+-- A dialect that there is, and one that there is not.
+module _ (n : ℕ) (ms ps : List ℤ) (cap : ℤ) where
+  module _ (dialect : Dialect) (f : dialect_of n ≡ some dialect) (z : ℤ) (k : z ≡ cap) where
+    pub picked : (y : paper.Reviewed) → y ≡ review_of dialect ms ps z → y ≡ review_picked n ms ps cap
+    unfolding review_picked
+    picked y e = rw (f, review_picked) (e ∙ ap (review_of dialect ms ps) k)
 
-  pub rows_every : b ≡ false → (y : ℕ) → y ≡ rows_reviewed z (rule_in (dialect_by b) ms ps) → y ≡ rows_reviewed cap (rule_of ms ps)
-  unfolding dialect_by
-  rows_every h y e = e ∙ rw (h, k)
+    pub rows_are_picked : (y : ℕ) → y ≡ rows_reviewed z (rule_in dialect ms ps) → y ≡ rows_picked n ms ps cap
+    unfolding rows_picked
+    rows_are_picked y e = rw (f, rows_picked) (e ∙ ap (λ (w : ℤ). rows_reviewed w (rule_in dialect ms ps)) k)
 
-  module _ (n : ℕ) where
-    pub picked_1 : n ≡ 1 → b ≡ false → (y : paper.Reviewed) → y ≡ review_of (dialect_by b) ms ps z → y ≡ review_picked n ms ps cap
-    unfolding dialect_by review_picked dialect_of
-    picked_1 h g y e = e ∙ rw (h, g, k)
+  module _ (e : Refused) (f : (dialect_of n ≡ none) × (e ≡ UnknownDialect)) (y : Refused) (k : y ≡ e) where
+    pub none_picked : reviewed (reviewed_by (Err y)) ≡ review_picked n ms ps cap
+    unfolding reviewed reviewed_by refused_numbers declined review_picked
+    none_picked = let u : y ≡ UnknownDialect = k ∙ f.1 in rw (u, f.0, review_picked)
 
-    pub picked_2 : n ≡ 2 → b ≡ true → (y : paper.Reviewed) → y ≡ review_of (dialect_by b) ms ps z → y ≡ review_picked n ms ps cap
-    unfolding dialect_by review_picked dialect_of
-    picked_2 h g y e = e ∙ rw (h, g, k)
-
-    pub rows_1 : n ≡ 1 → b ≡ false → (y : ℕ) → y ≡ rows_reviewed z (rule_in (dialect_by b) ms ps) → y ≡ rows_picked n ms ps cap
-    unfolding dialect_by rows_picked dialect_of
-    rows_1 h g y e = e ∙ rw (h, g, k)
-
-    pub rows_2 : n ≡ 2 → b ≡ true → (y : ℕ) → y ≡ rows_reviewed z (rule_in (dialect_by b) ms ps) → y ≡ rows_picked n ms ps cap
-    unfolding dialect_by rows_picked dialect_of
-    rows_2 h g y e = e ∙ rw (h, g, k)
-
-no_dialect : (n : ℕ) → (n ≡ 1 → ⊥) → (n ≡ 2 → ⊥) → dialect_of n ≡ none
-unfolding dialect_of
-no_dialect zero f g = refl
-no_dialect (suc zero) f g = absurd (f refl)
-no_dialect (suc (suc zero)) f g = absurd (g refl)
-no_dialect (suc (suc (suc n))) f g = refl
-
-module _ (ms ps : List ℤ) (cap : ℤ) (n : ℕ) (f : n ≡ 1 → ⊥) (g : n ≡ 2 → ⊥) where
-  pub picked_none : declined 22 0 ≡ review_picked n ms ps cap
-  unfolding review_picked
-  picked_none = sym (ap (λ (x : Option Dialect). elim x as (λ _. paper.Reviewed) [ none ↦ declined 22 0 | some d ↦ review_of d ms ps cap ]) (no_dialect n f g))
-
-  pub rows_none : 0 ≡ rows_picked n ms ps cap
-  unfolding rows_picked
-  rows_none = sym (ap (λ (x : Option Dialect). elim x as (λ _. ℕ) [ none ↦ 0 | some d ↦ rows_reviewed cap (rule_in d ms ps) ]) (no_dialect n f g))
+    pub no_rows_picked : (reviewed_by (Err y)).rows ≡ rows_picked n ms ps cap
+    unfolding reviewed_by rows_picked
+    no_rows_picked = rw (f.0, rows_picked)

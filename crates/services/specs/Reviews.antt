@@ -1,17 +1,26 @@
 -- What review's answer stands for, and its last tests over the lines of a rule's program.
-use Rattle.std.specs.Prelude.{ℕ, cond, List, [], ltb, ℤ}
+use Rattle.std.specs.Prelude.{ℕ, cond, List, [], ltb, Result, Ok, Err, ℤ}
 use Rattle.std.proofs.Math.Option.{none, some}
 use Rattle.rules.specs.Dialects.{dialect_of}
 use Rattle.rules.specs.Services.{Judged, accepted, Rule, rule_in}
 use Rattle.rules.specs.Services as paper
 use Rattle.words.specs.Words.{tag_z}
 use Rattle.review_count.specs.Tally.{whole_sum, whole_product}
+use Rattle.review_count.specs.declared.count.Tally.{Tally}
 use Rattle.room_rules.specs.Rooms.{rows_counted, rows_reviewed}
+use Rattle.services.specs.Refusals.{refused_numbers}
+use Rattle.services.specs.declared.refusal.Refused.{Refused}
 use Rattle.services.specs.declared.review.Reviewed.{Reviewed}
 
 -- Document 01's three numbers.
 unfoldable pub reviewed : Reviewed → paper.Reviewed
 reviewed r = record { answer = r.answer; place = r.place; count = r.count }
+
+-- The answer of a count, and of a refusal.
+unfoldable pub reviewed_by : Result Tally Refused → Reviewed
+unfolding refused_numbers
+reviewed_by (Ok t) = record { answer = 0; place = 0; count = t.count; rows = t.product }
+reviewed_by (Err e) = record { answer = (refused_numbers e).answer; place = (refused_numbers e).place; count = 0; rows = 0 }
 
 -- The rule was accepted.
 pub data Sound : Judged Rule → Type 0 where

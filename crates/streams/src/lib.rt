@@ -13,11 +13,11 @@ pub fn read_full<R: Read>(from: &mut R, into: &mut [u8]) -> usize
     ensures bytes { Consumes (R.remaining from.old) (R.remaining from.new) (take result into.new) }
 {
     let mut done = 0;
+    // Each step is as long as what one read gave, and std's `read_exact` tells no count where the input ends first.
     while done < into.len() {
         match from.read(&mut into[done..]) {
-            Ok(0) => break,
+            Ok(0) | Err(_) => break,
             Ok(n) => done += n,
-            Err(_) => break,
         }
     }
     done
@@ -27,8 +27,5 @@ pub fn read_full<R: Read>(from: &mut R, into: &mut [u8]) -> usize
 pub fn arg(rt: &impl Env, i: usize, into: &mut [u8]) -> usize
     ensures { result ≤ length into.new }
 {
-    match rt.arg(i, into) {
-        Ok(n) => n,
-        Err(_) => 0,
-    }
+    rt.arg(i, into).unwrap_or(0)
 }

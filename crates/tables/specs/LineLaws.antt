@@ -1,5 +1,5 @@
 -- Laws of the table of lines: what is read from a column is what stands in the list, and a line that is put in its place.
-use Rattle.std.specs.Prelude.{ℕ, zero, suc, ◌+◌, ◌-◌, ◌*◌, ◌<◌, ◌≤◌, ◌%◌, ◌/◌, ◌≡◌, refl, List, [], ◌∷◌, length, drop, get_or, set, replicate, ℤ, pos}
+use Rattle.std.specs.Prelude.{ℕ, zero, suc, ◌+◌, ◌*◌, ◌<◌, ◌≤◌, ◌%◌, ◌/◌, ◌≡◌, refl, List, [], ◌∷◌, length, drop, get_or, set, replicate, ℤ, pos}
 use Rattle.std.proofs.Common.{arith, sym, ap, ◌∙◌, get_or-drop, drop-set-lt, to_z, of_z, Fits, SFits, to_z-of_z}
 use Rattle.std.proofs.lemmas.List.{drop-set-add}
 use Rattle.std.specs.Int.{w32}

@@ -1,8 +1,8 @@
 -- Laws of the places: what is read from a section is what stands in the list, and a number that is put in one section leaves the others.
-use Rattle.std.specs.Prelude.{ℕ, ◌+◌, ◌*◌, ◌<◌, ◌≡◌, refl, List, length, get_or, set, replicate}
+use Rattle.std.specs.Prelude.{ℕ, ◌+◌, ◌*◌, ◌<◌, ◌≡◌, refl, List, get_or, set, replicate}
 use native.Mathlib.Omega.{arith}
 use Rattle.std.proofs.Math.Path.{sym}
-use Rattle.std.proofs.Common.{ap, ◌∙◌, length-set}
+use Rattle.std.proofs.Common.{◌∙◌, length-set}
 use Rattle.std.proofs.lemmas.List.{length-replicate}
 use Rattle.tables.specs.Section.{section_at, section_put, section_after, section_before, section_long}
 use Rattle.tables.specs.Place.{value_count, Sections, sections_of, Whole, put_end, put_base, put_place, no_places}

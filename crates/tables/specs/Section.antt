@@ -1,5 +1,5 @@
 -- A table in sections of n numbers each: what is read from a section is what stands in the list, and a number that is put in one section leaves the others.
-use Rattle.std.specs.Prelude.{ℕ, zero, suc, ◌+◌, ◌-◌, ◌*◌, ◌<◌, ◌≤◌, ◌≡◌, refl, List, [], ◌∷◌, length, drop, get_or, set, replicate}
+use Rattle.std.specs.Prelude.{ℕ, zero, suc, ◌+◌, ◌-◌, ◌*◌, ◌<◌, ◌≤◌, ◌≡◌, refl, List, ◌∷◌, length, drop, get_or, set, replicate}
 use native.Mathlib.Omega.{arith}
 use Rattle.std.proofs.Common.{sym, ◌∙◌, drop-set-lt}
 use Rattle.std.proofs.Math.Path.{ap}

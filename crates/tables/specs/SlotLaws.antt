@@ -1,20 +1,19 @@
 -- Laws of the slots: what is read from a section by lines is what stands in the list, and a number that is put for a line leaves the other lines and
 -- the other sections.
-use Prim.Native.Nat.{ℕ, zero, suc, ◌+◌, ◌-◌, ◌*◌, ◌<◌, ◌≤◌}
+use Prim.Native.Nat.{ℕ, zero, suc, ◌+◌, ◌*◌, ◌<◌, ◌≤◌}
 use native.Mathlib.Omega.{arith}
-use Rattle.std.specs.Prelude.{◌≡◌, refl, Bool, true, false, length, take, drop, replicate, eqb}
+use Rattle.std.specs.Prelude.{◌≡◌, refl, length, take, drop, replicate}
 use Rattle.std.proofs.Math.Path.{sym, ap}
-use Rattle.std.proofs.Common.{ap₂, ◌∙◌, length-drop, get_or-take, get_or-drop, drop-set-lt, get_or-set_same, length-take-le, eqb-true}
+use Rattle.std.proofs.Common.{ap₂, ◌∙◌, length-drop, get_or-set_same}
 use mathlib.Core.List.{List, [], ◌∷◌}
 use Rattle.std.proofs.Math.ListN.{get_or, set, length-set}
-use Rattle.std.proofs.lemmas.List.{length-replicate, drop-set-add, take-set-le}
-use Rattle.std.proofs.Math.Seq.{take-set-lt, get_or-set_other}
-use Rattle.std.proofs.lemmas.Bool.{eqb-false}
+use Rattle.std.proofs.lemmas.List.{length-replicate}
+use Rattle.std.proofs.Math.Seq.{get_or-set_other}
 use Rattle.words.specs.Words.{entries}
 use Rattle.tables.specs.declared.slot.Held.{Held}
 use Rattle.tables.specs.declared.slot.Frame.{Frame}
 use Rattle.tables.specs.Section.{section, section_at, section_put, section_after, section_before, section_long, section_zeros}
-use Rattle.tables.specs.Slot.{slot_count, Tables, tables, listed, by_line, view_of, no_slots, Slotted, Alone, held_in, frame_in, put_held, put_frame, put_side, put_left, put_back}
+use Rattle.tables.specs.Slot.{slot_count, tables, listed, by_line, view_of, no_slots, Slotted, Alone, held_in, frame_in, put_held, put_frame, put_side, put_left, put_back}
 
 -- ---- A list by its entries.
 

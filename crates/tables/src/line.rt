@@ -1,9 +1,11 @@
 // The lines of a program, in sections: a number of every line, then the next number of every line; at the end the constants, two numbers for each.
+#![tactic(auto, using(crate::proofs::Lines::read_rules))]
+
 ghost use Rattle.std.specs.Prelude.{◌≡◌, ◌<◌, length, get_or, set, pos};
 ghost use Rattle.words.specs.Words.{entries};
 ghost use Rattle.tables.specs.Line.{columns_of, written, aimed, named, no_lines, halves};
 
-use words::{ENTRIES, bits, of_bits};
+use words::ENTRIES;
 
 // Where the sections start; the instructions' at 0.
 const ARGS: usize = ENTRIES;
@@ -36,12 +38,6 @@ pub fn no_lines() -> Lines
     [0u16; NUMBERS]
 }
 
-fn wide(x: u16) -> usize
-    ensures { result ≡ x }
-{
-    x as usize
-}
-
 // The instruction of a line.
 pub fn op_at(lines: &Lines, pc: usize) -> u16
     requires { pc < entries }
@@ -55,7 +51,7 @@ pub fn arg_at(lines: &Lines, pc: usize) -> usize
     requires { pc < entries }
     ensures { result ≡ get_or (columns_of lines.now).arg pc 0 }
 {
-    wide(lines[ARGS + pc])
+    usize::from(lines[ARGS + pc])
 }
 
 // The index of the matcher that a line stands under.
@@ -63,7 +59,7 @@ pub fn mat_at(lines: &Lines, pc: usize) -> usize
     requires { pc < entries }
     ensures { result ≡ get_or (columns_of lines.now).mat pc 0 }
 {
-    wide(lines[MATS + pc])
+    usize::from(lines[MATS + pc])
 }
 
 // The slot of the value for the next atom.
@@ -71,7 +67,7 @@ pub fn from_at(lines: &Lines, pc: usize) -> usize
     requires { pc < entries }
     ensures { result ≡ get_or (columns_of lines.now).from pc 0 }
 {
-    wide(lines[FROMS + pc])
+    usize::from(lines[FROMS + pc])
 }
 
 // Where the next state stands.
@@ -79,7 +75,7 @@ pub fn to_at(lines: &Lines, pc: usize) -> usize
     requires { pc < entries }
     ensures { result ≡ get_or (columns_of lines.now).to pc 0 }
 {
-    wide(lines[TOS + pc])
+    usize::from(lines[TOS + pc])
 }
 
 // The bits of a constant, from their two halves.
@@ -96,7 +92,7 @@ pub fn con_at(lines: &Lines, pc: usize) -> i32
     ensures { result ≡ get_or (columns_of lines.now).con pc (pos 0) }
 {
     let at = CONS + 2 * pc;
-    of_bits(joined(lines[at], lines[at + 1]))
+    joined(lines[at], lines[at + 1]).cast_signed()
 }
 
 // A line in its place; where the next state stands is left as it is.
@@ -104,7 +100,7 @@ pub fn put_line(lines: &mut Lines, pc: usize, l: Line)
     requires { pc < entries }
     ensures { columns_of lines.new ≡ written pc l (columns_of lines.old) }
 {
-    let b = bits(l.con);
+    let b = l.con.cast_unsigned();
     let at = CONS + 2 * pc;
     lines[pc] = l.op;
     lines[ARGS + pc] = l.arg;

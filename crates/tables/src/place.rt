@@ -1,9 +1,9 @@
 // Where the values of a target stand, in sections: where each value ends, where the places of its elements or parts begin in the last section, and
 // there the places. A value's tag stands at an even index; the numbers of the value at 2 i are those at i.
+#![tactic(auto, using(crate::proofs::Places::place_rules))]
+
 ghost use Rattle.std.specs.Prelude.{◌≡◌, ◌/◌, ◌<◌, get_or};
 ghost use Rattle.tables.specs.Place.{value_count, sections_of, put_end, put_base, put_place, no_places};
-
-use words::casts::{half, half_index};
 
 // The most values of a target.
 pub const VALUES: usize = 512;
@@ -28,7 +28,7 @@ pub fn end_at(places: &Places, at: usize) -> usize
     requires { at / 2 < value_count }
     ensures { result ≡ get_or (sections_of places.now).ends (at / 2) 0 }
 {
-    half_index(places[at / 2])
+    usize::from(places[at / 2])
 }
 
 // Where the places of its elements or parts begin.
@@ -36,7 +36,7 @@ pub fn base_at(places: &Places, at: usize) -> usize
     requires { at / 2 < value_count }
     ensures { result ≡ get_or (sections_of places.now).bases (at / 2) 0 }
 {
-    half_index(places[BASES + at / 2])
+    usize::from(places[BASES + at / 2])
 }
 
 // One of these places.
@@ -44,7 +44,7 @@ pub fn place_at(places: &Places, j: usize) -> usize
     requires { j < value_count }
     ensures { result ≡ get_or (sections_of places.now).places j 0 }
 {
-    half_index(places[PLACES + j])
+    usize::from(places[PLACES + j])
 }
 
 pub fn put_end(places: &mut Places, at: usize, end: usize)
@@ -52,7 +52,7 @@ pub fn put_end(places: &mut Places, at: usize, end: usize)
     requires fact_2 { end < 65536 }
     ensures { sections_of places.new ≡ put_end (at / 2) end (sections_of places.old) }
 {
-    places[at / 2] = half(end);
+    places[at / 2] = end as u16;
 }
 
 pub fn put_base(places: &mut Places, at: usize, base: usize)
@@ -60,7 +60,7 @@ pub fn put_base(places: &mut Places, at: usize, base: usize)
     requires fact_2 { base < 65536 }
     ensures { sections_of places.new ≡ put_base (at / 2) base (sections_of places.old) }
 {
-    places[BASES + at / 2] = half(base);
+    places[BASES + at / 2] = base as u16;
 }
 
 pub fn put_place(places: &mut Places, j: usize, place: usize)
@@ -68,5 +68,5 @@ pub fn put_place(places: &mut Places, j: usize, place: usize)
     requires fact_2 { place < 65536 }
     ensures { sections_of places.new ≡ put_place j place (sections_of places.old) }
 {
-    places[PLACES + j] = half(place);
+    places[PLACES + j] = place as u16;
 }

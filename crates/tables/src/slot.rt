@@ -1,4 +1,6 @@
 // The slots of a run, in sections: a number of every slot, then the next number of every slot. A line's number says which slot is its own.
+#![tactic(auto, using(crate::proofs::Slots::slot_rules))]
+
 ghost use Rattle.std.specs.Prelude.{◌≡◌, get_or};
 ghost use Rattle.tables.specs.Line.{columns_of};
 ghost use Rattle.tables.specs.Slot.{view_of, no_slots, Slotted, Alone, held_in, frame_in, put_held, put_frame, put_side, put_left, put_back};

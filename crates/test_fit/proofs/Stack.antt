@@ -2,7 +2,7 @@
 use mathlib.Core.Path.{◌≡◌, refl, ◌∙◌}
 use mathlib.Core.List.{List, [], ◌∷◌, ◌++◌}
 use Prim.Native.Nat.{ℕ, zero, suc, ◌+◌, ◌<◌, ◌≤◌}
-use native.Mathlib.Numerals.{add-one, add-two}
+use native.Mathlib.Numerals.{add-one}
 use native.Mathlib.Omega.{arith}
 use lib.ListN.{length, get_or, take, set, length-set}
 use lib.Seq.{get_or-set_same, get_or-set_other, take-suc-set}
@@ -20,19 +20,9 @@ unfolding stack_of
 stack_set a i v zero h = refl
 stack_set a i v (suc n) h = rw (get_or-set_other a i n v 0 (λ e. omega arith), stack_set a i v n (omega arith))
 
-pub stack_push : (a : List ℕ) (n x y : ℕ) → n + 1 < length a → stack_of (set (set a n x) (n + 1) y) (n + 2) ≡ y ∷ x ∷ stack_of a n
+pub stack_one : (a : List ℕ) (n x : ℕ) → n < length a → stack_of (set a n x) (n + 1) ≡ x ∷ stack_of a n
 unfolding stack_of
-stack_push a n x y h =
-    let h' : suc n < length (set a n x) = simp length-set (omega arith) in
-    rw (
-      add-one n,
-      add-two n,
-      get_or-set_same (set a n x) (suc n) y 0 h',
-      get_or-set_other (set a n x) (suc n) n y 0 (λ e. omega arith),
-      get_or-set_same a n x 0 (omega arith),
-      stack_set (set a n x) (suc n) y n (omega arith),
-      stack_set a n x n (omega arith),
-    )
+stack_one a n x h = rw (add-one n, get_or-set_same a n x 0 h, stack_set a n x n (omega arith))
 
 pub take_more : (l : List ℕ) (n x : ℕ) → n < length l → take (n + 1) (set l n x) ≡ take n l ++ (x ∷ [])
 take_more l n x h = rw (add-one n) (take-suc-set l n x h)

@@ -1,28 +1,30 @@
 -- What a tag asks under a matcher, as the code finds it: each premise is a fact that a place of the code has at hand. Assumes nothing.
 use mathlib.Core.Path.{◌≡◌, refl, sym, ◌∙◌, ap}
-use mathlib.Core.Bool.{Bool, true, false, not, cond, ◌&&◌, ◌||◌}
+use mathlib.Core.Bool.{Bool, true, false, cond, ◌&&◌, ◌||◌}
 use mathlib.Core.Option.{Option, none, some}
 use mathlib.Core.List.{List, [], ◌∷◌}
 use Prim.Native.Nat.{ℕ, zero, suc, ◌+◌, ◌^◌, ◌<◌, ◌≤◌}
 use native.Mathlib.Omega.{arith}
 use borrow.Author.Rules.{rules}
-use borrow.Author.Tests.{le-leb, lt-leb, leb-true, leb-false, ne_eqb, not-true, not-false}
+use borrow.Author.Tests.{le-leb, lt-leb, leb-true, leb-false, ne_eqb}
 use mir.Syntax.{w64}
 use mir.Val.{Fits}
 use lib.Dec.{leb, eqb}
-use lib.ListN.{length, get_or, get_elem?, take, length-take}
-use lib.Seq.{get_or-take, length-take-le}
+use lib.ListN.{length, get_or, get_elem?}
 use lib.IntN.{ℤ, pos, negsuc}
+use Rattle.std.specs.Prelude.{Some, None}
+use Rattle.std.specs.Bool.{then_some}
+use Rattle.std.specs.Prelude as code
 use Rattle.rules.specs.Numbers.{same}
-use Rattle.rules.specs.Reading.{PatternTag, alone, operand, operands, inner, parts, wide, pattern_tags, matcher_tags, entry}
+use Rattle.rules.specs.Reading.{PatternTag, alone, operand, operands, inner, parts, wide, pattern_tags, matcher_tags}
 use Rattle.words.specs.Words.{tag_z, tag_at}
 use Rattle.words.proofs.Signed.{within}
 use Rattle.test_forms.specs.Ends as ends
 use Rattle.test_fit.specs.Shapes.{width_fits, shapes}
 use Rattle.test_forms.specs.Table.{taken_of, taken_in, row_in, row_of}
-use Rattle.test_fit.specs.Fitting.{shapes_with, value_fits, value_fits_tag, first_of, by_parts, tuple_at, asked, here_of, here_at, apart_at, unlike, here_in, here_in_at}
+use Rattle.test_fit.specs.Fitting.{shapes_with, value_fits, value_fits_tag, first_of, by_parts, tuple_at, asked, here_of, here_at}
 use Rattle.test_fit.specs.declared.Here.{Here}
-use Rattle.test_fit.specs.declared.Here.TheVariants.{Misfit, Leaf, Bind, One, Parts, Wide}
+use Rattle.test_fit.specs.declared.Here.TheVariants.{Leaf, Bind, One, Parts}
 use Rattle.test_forms.specs.declared.table.Row.{Row}
 use Rattle.test_forms.specs.declared.table.Row.TheVariants as row
 use Rattle.test_forms.proofs.Known.{past, entry_tag}
@@ -60,45 +62,9 @@ value_tag m i under h x y =
     rw (entry_tag under x h, shapes_tag m i under (tag_z x), zero_tag y)
     (one_test (leb (length under) (tag_z x)) (shapes m i (get_or under (tag_z x) 0)) (eqb (tag_at m i) 1) (eqb (tag_z y) 0))
 
--- The same, as the code finds it.
-module _ (m : List ℤ) (i : ℕ) (l : List ℕ) (next v c : ℕ) (few : next ≤ length l) where
-  long : length (take next l) ≡ next
-  long = length-take-le next l few
-
-  pub not_left : next ≤ v → false ≡ value_fits_tag m i (take next l) v c
-  unfolding value_fits_tag
-  not_left h = rw (long, le-leb next v h)
-
-  module _ (h : v < next) (b : Bool) (e : b ≡ shapes m i (get_or l v 0)) where
-    left : get_or (take next l) v 0 ≡ get_or l v 0
-    left = get_or-take next l v 0 h
-
-    pub not_same : not b ≡ true → false ≡ value_fits_tag m i (take next l) v c
-    unfolding value_fits_tag
-    not_same n = rw (long, lt-leb next v h, left, ← e, not-true b n)
-
-    module _ (n : not b ≡ false) (k : ℕ) (q : k ≡ tag_at m i) where
-      pub any_sum : k ≡ 1 → true ≡ value_fits_tag m i (take next l) v c
-      unfolding value_fits_tag
-      any_sum r = rw (long, lt-leb next v h, left, ← e, not-false b n, ← q, r)
-
-      pub no_sum : (k ≡ 1 → ⊥) → eqb c 0 ≡ value_fits_tag m i (take next l) v c
-      unfolding value_fits_tag
-      no_sum r = rw (long, lt-leb next v h, left, ← e, not-false b n, ← q, ne_eqb k 1 r)
-
-pub ruleset value_rules = (not_left, not_same, any_sum, no_sum, rules)
-
 -- ---- A tuple.
 
 module _ (m : List ℤ) (i n k : ℕ) (e : k ≡ tag_at m (i + 1)) (b : Bool) (q : b ≡ width_fits k n) where
-  pub ret_tuple : b ≡ true → Wide (i + 2) n ≡ tuple_at m i n
-  unfolding tuple_at
-  ret_tuple h = rw (← e, ← q, h)
-
-  pub ret_unequal : b ≡ false → Misfit ≡ tuple_at m i n
-  unfolding tuple_at
-  ret_unequal h = rw (← e, ← q, h)
-
   pub next_2 : b ≡ true → length m < 2 ^ 64 → Fits w64 (i + 2)
   unfolding width_fits
   next_2 h l = go (eqb k n) (sym q ∙ h)
@@ -106,8 +72,6 @@ module _ (m : List ℤ) (i n k : ℕ) (e : k ≡ tag_at m (i + 1)) (b : Bool) (q
       go : (x : Bool) → cond x (ends.within 2 k 4) false ≡ true → Fits w64 (i + 2)
       go true z = let w = (width_most k z).1 in next_two m i k e (omega arith) l
       go false z = let y : ◌≡◌ {A = ℕ} 0 1 = cc in absurd (omega arith)
-
-pub ruleset tuple_rules = (ret_tuple, ret_unequal, next_2, rules)
 
 -- ---- The tag at an index.
 
@@ -124,10 +88,10 @@ low_taken k t e = go (leb 5 k) refl
         absurd (omega arith)
 
 -- Whether a row's matcher takes the tag.
-Says : ℕ → ℕ → Row → Type 0
-Says k t row.Unknown = Unit {0}
-Says k t (row.Known o b f) = f ≡ taken_of k t
-Says k t (row.Wide f) = f ≡ taken_of k t
+Says : ℕ → ℕ → code.Option Row → Type 0
+Says k t None = Unit {0}
+Says k t (Some (row.Known o b f)) = f ≡ taken_of k t
+Says k t (Some (row.Wide f)) = f ≡ taken_of k t
 
 says : (k t : ℕ) → Says k t (row_of k t)
 unfolding row_of row_in Says
@@ -142,16 +106,16 @@ says k t = go (get_elem? pattern_tags t)
     go (some (parts f)) = refl
     go (some (wide f)) = refl
 
-no_parts : (k t o b : ℕ) (f : Bool) → t ≡ 3 → row.Known o b f ≡ row_of k t → b ≡ 0
+no_parts : (k t o b : ℕ) (f : Bool) → t ≡ 3 → Some (row.Known o b f) ≡ row_of k t → b ≡ 0
 unfolding row_of row_in pattern_tags
-no_parts k t o b f h e = let q : row.Known o b f ≡ row.Known 2 0 (taken_of k 3) = rw h at e in cc
+no_parts k t o b f h e = let q : Some (row.Known o b f) ≡ Some (row.Known 2 0 (taken_of k 3)) = rw h at e in cc
 
-module _ (m p : List ℤ) (i at k t : ℕ) (under : List ℕ) (x : k ≡ tag_at m i) (y : t ≡ tag_at p at) (r : Row) (e : r ≡ row_of k t) where
+module _ (m p : List ℤ) (i at k t : ℕ) (under : List ℕ) (x : k ≡ tag_at m i) (y : t ≡ tag_at p at) (r : code.Option Row) (e : r ≡ row_of k t) where
   by_row_lem : here_at m i p at under ≡ asked m i under t (get_or p (at + 1) (negsuc 0)) (get_or p (at + 2) (negsuc 0)) r
   unfolding here_at here_of
   by_row_lem = rw (e, x, y)
 
-  pub ret_none : r ≡ row.Unknown → Misfit ≡ here_at m i p at under
+  pub ret_none : r ≡ None → None ≡ here_at m i p at under
   unfolding asked
   ret_none q = sym (by_row_lem ∙ rw q)
 
@@ -159,12 +123,12 @@ module _ (m p : List ℤ) (i at k t : ℕ) (under : List ℕ) (x : k ≡ tag_at 
   first : (f : Bool) → f ≡ taken_of k t → f ≡ true → length m < 2 ^ 64 → i + 1 < 18446744073709551616
   first f h g l = let w = within m i k x (low_taken k t (sym h ∙ g)) in omega arith
 
-  module _ (f : Bool) (q : r ≡ row.Wide f) where
-    pub ret_untaken_tuple : f ≡ false → Misfit ≡ here_at m i p at under
+  module _ (f : Bool) (q : r ≡ Some (row.Wide f)) where
+    pub ret_untaken_tuple : f ≡ false → None ≡ here_at m i p at under
     unfolding asked
     ret_untaken_tuple g = sym (by_row_lem ∙ rw (q, g))
 
-    pub ret_wide : f ≡ true → (n : ℕ) → n ≡ tag_at p (at + 1) → (h : Here) → h ≡ tuple_at m i n → h ≡ here_at m i p at under
+    pub ret_wide : f ≡ true → (n : ℕ) → n ≡ tag_at p (at + 1) → (h : code.Option Here) → h ≡ tuple_at m i n → h ≡ here_at m i p at under
     unfolding asked tag_at
     ret_wide g n z h u = u ∙ rw z (sym (by_row_lem ∙ rw (q, g)))
 
@@ -172,35 +136,35 @@ module _ (m p : List ℤ) (i at k t : ℕ) (under : List ℕ) (x : k ≡ tag_at 
     unfolding Says
     tuple_fits g l = let s = says k t in first f (rw (sym e ∙ q) at s) g l
 
-  module _ (o b : ℕ) (f : Bool) (q : r ≡ row.Known o b f) where
-    pub ret_untaken : not f ≡ true → Misfit ≡ here_at m i p at under
+  module _ (o b : ℕ) (f : Bool) (q : r ≡ Some (row.Known o b f)) where
+    pub ret_untaken : f ≡ false → None ≡ here_at m i p at under
     unfolding asked
-    ret_untaken g = sym (by_row_lem ∙ rw (q, not-true f g))
+    ret_untaken g = sym (by_row_lem ∙ rw (q, g))
 
-    module _ (g : not f ≡ false) where
+    module _ (g : f ≡ true) where
       -- What the tag asks where it stands rightly, and where not.
       taken : here_at m i p at under
-          ≡ cond (cond (eqb t 3) (value_fits m i under (get_or p (at + 1) (negsuc 0)) (get_or p (at + 2) (negsuc 0))) true) (cond (eqb t 1) (Bind o) (by_parts b o (first_of t i))) Misfit
+          ≡ cond (cond (eqb t 3) (value_fits m i under (get_or p (at + 1) (negsuc 0)) (get_or p (at + 2) (negsuc 0))) true) (Some (cond (eqb t 1) (Bind o) (by_parts b o (first_of t i)))) None
       unfolding asked
-      taken = by_row_lem ∙ rw (q, not-false f g)
+      taken = by_row_lem ∙ rw (q, g)
 
-      pub ret_bind : t ≡ 1 → Bind o ≡ here_at m i p at under
+      pub ret_bind : t ≡ 1 → Some (Bind o) ≡ here_at m i p at under
       ret_bind h = sym (taken ∙ rw h)
 
-      plain : (t ≡ 1 → ⊥) → (t ≡ 3 → ⊥) → here_at m i p at under ≡ by_parts b o (first_of t i)
+      plain : (t ≡ 1 → ⊥) → (t ≡ 3 → ⊥) → here_at m i p at under ≡ Some (by_parts b o (first_of t i))
       plain h j = taken ∙ rw (ne_eqb t 3 j, ne_eqb t 1 h)
 
-      pub ret_leaf : (t ≡ 1 → ⊥) → (t ≡ 3 → ⊥) → b ≡ 0 → Leaf o ≡ here_at m i p at under
+      pub ret_leaf : (t ≡ 1 → ⊥) → (t ≡ 3 → ⊥) → b ≡ 0 → Some (Leaf o) ≡ here_at m i p at under
       unfolding by_parts
       ret_leaf h j z = sym (plain h j ∙ rw z)
 
-      pub ret_one : (t ≡ 1 → ⊥) → (t ≡ 3 → ⊥) → b ≡ 1 → One ≡ here_at m i p at under
+      pub ret_one : (t ≡ 1 → ⊥) → (t ≡ 3 → ⊥) → b ≡ 1 → Some One ≡ here_at m i p at under
       unfolding by_parts
       ret_one h j z = sym (plain h j ∙ rw z)
 
-      pub ret_parts : (t ≡ 1 → ⊥) → (t ≡ 3 → ⊥) → (b ≡ 0 → ⊥) → (b ≡ 1 → ⊥) → (a : ℕ) → a ≡ first_of t i → Parts a ≡ here_at m i p at under
+      pub ret_parts : (t ≡ 1 → ⊥) → (t ≡ 3 → ⊥) → (b ≡ 0 → ⊥) → (b ≡ 1 → ⊥) → (a : ℕ) → a ≡ first_of t i → Some (Parts a) ≡ here_at m i p at under
       unfolding by_parts
-      ret_parts h j z y a l = sym (plain h j ∙ go b z y ∙ rw l)
+      ret_parts h j z y a l = sym (plain h j ∙ ap Some (go b z y) ∙ rw l)
         where
           go : (n : ℕ) → (n ≡ 0 → ⊥) → (n ≡ 1 → ⊥) → by_parts n o (first_of t i) ≡ Parts (first_of t i)
           go zero w u = absurd (w refl)
@@ -209,7 +173,7 @@ module _ (m p : List ℤ) (i at k t : ℕ) (under : List ℕ) (x : k ≡ tag_at 
 
       pub first_fits : length m < 2 ^ 64 → i + 1 < 18446744073709551616
       unfolding Says
-      first_fits l = let s = says k t in first f (rw (sym e ∙ q) at s) (not-false f g) l
+      first_fits l = let s = says k t in first f (rw (sym e ∙ q) at s) (g) l
 
       module _ (h : t ≡ 3) (few : length under ≤ 2147483648) (v c : ℕ) (ev : v ≡ tag_at p (at + 1)) (ec : c ≡ tag_at p (at + 2)) (s : Bool)
           (w : s ≡ value_fits_tag m i under v c) where
@@ -217,56 +181,20 @@ module _ (m p : List ℤ) (i at k t : ℕ) (under : List ℕ) (x : k ≡ tag_at 
         unfolding tag_at
         stands = value_tag m i under few (get_or p (at + 1) (negsuc 0)) (get_or p (at + 2) (negsuc 0)) ∙ rw (← ev, ← ec) (sym w)
 
-        pub ret_misfit : s ≡ false → Misfit ≡ here_at m i p at under
-        ret_misfit z = sym (taken ∙ rw (h, stands, z))
-
-        pub ret_value : s ≡ true → Leaf o ≡ here_at m i p at under
+        pub ret_fits : (z : code.Option Here) → z ≡ then_some s (Leaf o) → z ≡ here_at m i p at under
         unfolding by_parts
-        ret_value z = sym (taken ∙ rw (h, stands, z, no_parts k t o b f h (sym q ∙ e)))
+        ret_fits z u = u ∙ go s ∙ sym (taken ∙ rw (h, stands, no_parts k t o b f h (sym q ∙ e)))
+          where
+            go : (d : Bool) → then_some d (Leaf o) ≡ cond d (Some (Leaf o)) None
+            go true = refl
+            go false = refl
 
-pub few_under : (next : ℕ) (l : List ℕ) → next ≤ 128 → length (take next l) ≤ 2147483648
-few_under next l h = rw (length-take next l) (omega arith)
+pub few_under : (under : List ℕ) → length under ≤ 128 → length under ≤ 2147483648
+few_under under h = omega arith
 
-pub ruleset own_rules = (ret_none, ret_untaken_tuple, ret_wide, tuple_fits, ret_untaken, ret_bind, ret_leaf, ret_one, ret_parts, first_fits, ret_misfit, ret_value, few_under, rules)
+pub ruleset own_rules = (ret_none, ret_untaken_tuple, ret_wide, tuple_fits, ret_untaken, ret_bind, ret_leaf, ret_one, ret_parts, first_fits, ret_fits, few_under, rules)
 
 -- ---- The same in a dialect.
 
-module _ (m : List ℤ) (i k : ℕ) (x : k ≡ tag_at m i) where
-  pub apart_multiset : k ≡ 3 → (r : Bool) → r ≡ shapes m (i + 1) (i + 1) → r ≡ apart_at m i
-  unfolding apart_at
-  apart_multiset h r e = e ∙ rw (← x, h)
-
-  pub apart_other : (k ≡ 3 → ⊥) → true ≡ apart_at m i
-  unfolding apart_at
-  apart_other h = rw (← x, ne_eqb k 3 h)
-
-  pub apart_fits : k ≡ 3 → length m < 2 ^ 64 → Fits w64 (i + 1)
-  apart_fits h l = let w = within m i k x (omega arith) in record { fits = omega arith }
-
-pub ruleset apart_rules = (apart_multiset, apart_other, apart_fits, rules)
-
-module _ (m : List ℤ) (i t : ℕ) where
-  pub like_other : (firsts : Bool) → (t ≡ 5 → ⊥) → false ≡ unlike firsts m i t
-  unfolding unlike
-  like_other firsts h = rw (ne_eqb t 5 h)
-
-  pub like_every : (firsts : Bool) → not firsts ≡ true → t ≡ 5 → false ≡ unlike firsts m i t
-  unfolding unlike
-  like_every firsts f h = rw (h, not-true firsts f)
-
-  pub like_firsts : (firsts b : Bool) → not firsts ≡ false → t ≡ 5 → b ≡ apart_at m i → not b ≡ unlike firsts m i t
-  unfolding unlike
-  like_firsts firsts b f h q = rw (h, not-false firsts f, q)
-
-pub ruleset like_rules = (like_other, like_every, like_firsts, rules)
-
-module _ (firsts : Bool) (m p : List ℤ) (i at t : ℕ) (under : List ℕ) (y : t ≡ tag_at p at) (b : Bool) (q : b ≡ unlike firsts m i t) where
-  pub in_unlike : b ≡ true → Misfit ≡ here_in_at firsts m i p at under
-  unfolding here_in_at here_in
-  in_unlike h = rw (← y, ← q, h)
-
-  pub in_like : b ≡ false → (r : Here) → r ≡ here_at m i p at under → r ≡ here_in_at firsts m i p at under
-  unfolding here_in_at here_in here_at
-  in_like h r e = e ∙ rw (← y, ← q, h)
-
-pub ruleset in_rules = (in_unlike, in_like, rules)
+pub apart_fits : (m : List ℤ) (i k : ℕ) → k ≡ tag_at m i → k ≡ 3 → length m < 2 ^ 64 → Fits w64 (i + 1)
+apart_fits m i k x h l = let w = within m i k x (omega arith) in record { fits = omega arith }

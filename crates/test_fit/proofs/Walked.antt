@@ -1,15 +1,17 @@
 -- Walking a pattern's words under a matcher's finds what the rule of fit finds of the pattern and the matcher. Assumes nothing.
-use mathlib.Core.Path.{◌≡◌, refl, sym, ◌∙◌, ap}
+use mathlib.Core.Path.{◌≡◌, refl, sym, ◌∙◌}
 use mathlib.Core.Bool.{Bool, true, false, not, cond, ◌&&◌, ◌||◌}
-use mathlib.Core.Option.{none, some}
 use mathlib.Core.List.{List, [], ◌∷◌, ◌++◌, append_assoc, append-nil}
 use Prim.Native.Nat.{ℕ, zero, suc, ◌+◌}
 use native.Mathlib.Numerals.{add-one, add-two}
 use native.Mathlib.Omega.{arith}
 use borrow.Author.Tests.{le-leb, eq-eqb, ne_eqb, eqb-true, eqb-false}
-use lib.Dec.{eqb, leb}
+use lib.Dec.{eqb}
 use lib.ListN.{length, get_elem?}
 use lib.IntN.{ℤ, pos, negsuc}
+use Rattle.std.proofs.Math.Bool.{and-false, and-true}
+use Rattle.std.specs.Prelude.{Result, Ok, Err, Some, None}
+use Rattle.std.specs.Prelude as code
 use Rattle.rules.specs.Numbers.{same}
 use Rattle.rules.specs.Forms.{Matcher, something, integer, list, multiset, tuple_of, Matchers, no_matchers, ◌▸ᵐ◌, countᵐ}
 use Rattle.rules.specs.Forms.{Pattern, wildcard, variable, constant, value, nil, cons, join, tuple, both, either, never, Patterns, no_patterns, ◌▸ᵖ◌, countᵖ, span, span_all}
@@ -25,13 +27,11 @@ use Rattle.test_forms.specs.Tests.{tested}
 use Rattle.test_fit.specs.Shapes.{width_fits, shapes}
 use Rattle.test_forms.specs.Table.{taken_of, taken_in, row_in, row_of}
 use Rattle.test_fit.specs.Fitting.{members_at, shapes_with, value_fits, first_of, by_parts, tuple_at, asked, here_of, apart_at, unlike, here_in, by_here, fit_p, fit_of}
-use Rattle.test_forms.specs.declared.Tested.{Tested}
-use Rattle.test_forms.specs.declared.Tested.TheVariants.{Fault}
 use Rattle.test_fit.specs.declared.Here.{Here}
-use Rattle.test_fit.specs.declared.Here.TheVariants.{Misfit, Leaf, Bind, One, Parts, Wide}
+use Rattle.test_fit.specs.declared.Here.TheVariants.{Leaf, Bind, One, Parts, Wide}
 use Rattle.test_fit.proofs.shapes.Standing.{At, AtAll, tag_of, at_whole, at_tag, at_end, at_multiset, at_element, at_width, at_members, at_first, at_others}
 use Rattle.test_forms.proofs.Turns.{is_width}
-use Rattle.test_fit.proofs.shapes.Shaped.{and_false, and_true, shaped}
+use Rattle.test_fit.proofs.shapes.Shaped.{shaped}
 
 -- ---- What a tag of the table says of the matcher.
 
@@ -117,7 +117,7 @@ module _ (firsts : Bool) (m : List ℤ) where
 
     alike_at : (js : List ℕ) (ks : List Matcher) → Standing js ks → (v : ℕ) → shapes_with m i (get_elem? js v) ≡ (without_something k && alike k (get_elem? ks v))
     unfolding shapes_with alike Standing
-    alike_at [] [] s v = sym (and_false (without_something k))
+    alike_at [] [] s v = sym (and-false (without_something k))
     alike_at [] (l ∷ ks) s v = absurd s
     alike_at (j ∷ js) [] s v = absurd s
     alike_at (j ∷ js) (l ∷ ks) s zero = shaped m k l i j a s.0
@@ -126,7 +126,7 @@ module _ (firsts : Bool) (m : List ℤ) where
     alike_by : (js : List ℕ) (ks : List Matcher) → Standing js ks → (v : ℤ) → shapes_with m i (entry js v) ≡ (without_something k && alike k (entry ks v))
     unfolding entry shapes_with alike
     alike_by js ks s (pos v) = alike_at js ks s v
-    alike_by js ks s (negsuc v) = sym (and_false (without_something k))
+    alike_by js ks s (negsuc v) = sym (and-false (without_something k))
 
     comparable_by : (js : List ℕ) (ks : List Matcher) → Standing js ks → (v c : ℤ) → value_fits m i js v c ≡ comparable v c k ks
     unfolding value_fits comparable
@@ -149,7 +149,7 @@ module _ (firsts : Bool) (m : List ℤ) where
     -- ---- Whether a tag stands rightly.
 
     stands : (t : ℕ) → (taken_of (tag_at m i) t && true) ≡ takes k t
-    stands t = rw (taken_at t) (and_true (takes k t))
+    stands t = rw (taken_at t) (and-true (takes k t))
 
     stands_value : (js : List ℕ) (ks : List Matcher) → Standing js ks → (v c : ℤ)
         → (taken_of (tag_at m i) 3 && value_fits m i js v c) ≡ (takes k 3 && comparable v c k ks)
@@ -164,31 +164,31 @@ module _ (firsts : Bool) (m : List ℤ) where
         go something b = refl
         go integer b = refl
         go (list l) b = refl
-        go (multiset l) b = let h = at_multiset m i l b in shaped m l l (i + 1) (i + 1) h h ∙ rw (same_itself l) (and_true (without_something l))
+        go (multiset l) b = let h = at_multiset m i l b in shaped m l l (i + 1) (i + 1) h h ∙ rw (same_itself l) (and-true (without_something l))
         go (tuple_of ls) b = refl
 
-    stands_cons : cond (firsts && not (apart_at m i)) Misfit (cond (taken_of (tag_at m i) 5 && true) (Parts (i + 1)) Misfit)
-        ≡ cond (told_apart (dialect_by firsts) k && takes k 5) (Parts (i + 1)) Misfit
+    stands_cons : cond (firsts && not (apart_at m i)) None (cond (taken_of (tag_at m i) 5 && true) (Some (Parts (i + 1))) None)
+        ≡ cond (told_apart (dialect_by firsts) k && takes k 5) (Some (Parts (i + 1))) None
     unfolding dialect_by told_apart
     stands_cons = rw (stands 5) (go firsts)
       where
-        by : (x : Bool) → cond (not x) Misfit (cond (takes k 5) (Parts (i + 1)) Misfit) ≡ cond (x && takes k 5) (Parts (i + 1)) Misfit
+        by : (x : Bool) → cond (not x) None (cond (takes k 5) (Some (Parts (i + 1))) None) ≡ cond (x && takes k 5) (Some (Parts (i + 1))) None
         by true = refl
         by false = refl
 
-        go : (f : Bool) → cond (f && not (apart_at m i)) Misfit (cond (takes k 5) (Parts (i + 1)) Misfit) ≡ cond (told_apart (dialect_by f) k && takes k 5) (Parts (i + 1)) Misfit
+        go : (f : Bool) → cond (f && not (apart_at m i)) None (cond (takes k 5) (Some (Parts (i + 1))) None) ≡ cond (told_apart (dialect_by f) k && takes k 5) (Some (Parts (i + 1))) None
         go true = rw apart_by (by (told_apart first_places k))
         go false = refl
 
-    stands_tuple : (n : ℕ) → cond (taken_of (tag_at m i) 7) (tuple_at m i n) Misfit ≡ cond (takes k 7 && eqb n (countᵐ (members k))) (Wide (i + 2) n) Misfit
+    stands_tuple : (n : ℕ) → cond (taken_of (tag_at m i) 7) (tuple_at m i n) None ≡ cond (takes k 7 && eqb n (countᵐ (members k))) (Some (Wide (i + 2) n)) None
     unfolding tuple_at
-    stands_tuple n = rw (taken_at 7, ← width_by n) (cond_both (takes k 7) (width_fits (tag_at m (i + 1)) n) (Wide (i + 2) n) Misfit)
+    stands_tuple n = rw (taken_at 7, ← width_by n) (cond_both (takes k 7) (width_fits (tag_at m (i + 1)) n) (Some (Wide (i + 2) n)) None)
 
   -- ---- The walk, and the verdict that it should find.
 
   -- A fault, or going on with the matchers of the variables found.
-  unfoldable Same : List ℕ → ℕ → List ℤ → Tested → Verdict (List Matcher) → Type 0
-  Same st p ws x (fault j) = x ≡ Fault j
+  unfoldable Same : List ℕ → ℕ → List ℤ → Result (Unit {0}) ℕ → Verdict (List Matcher) → Type 0
+  Same st p ws x (fault j) = x ≡ Err j
   Same st p ws x (ok ks) = (js : List ℕ) × Standing js ks × (x ≡ fit_p firsts m st js 0 p ws)
 
   Follows : Pattern → Type 0
@@ -202,29 +202,29 @@ module _ (firsts : Bool) (m : List ℤ) where
 
   -- Going on from what a tag asks, and a tag that must stand rightly.
   module _ (i : ℕ) (js st : List ℕ) (q p : ℕ) (us ws : List ℤ) (a : Here) where
-    unfoldable on : Here → Tested
+    unfoldable on : code.Option Here → Result (Unit {0}) ℕ
     unfolding by_here fit_p
     on x =
         by_here x
-        (Fault p)
+        (Err p)
         (λ o. fit_p firsts m st js o (suc p) us)
         (λ o. fit_p firsts m st (js ++ (i ∷ [])) o (suc p) us)
         (fit_p firsts m (i ∷ st) js 0 (suc p) us)
         (λ f. fit_p firsts m (f ∷ i ∷ st) js 0 (suc p) us)
         (λ f n. fit_p firsts m (members_at m n f ++ st) js 1 (suc p) us)
 
-    same_leaf : (b : Bool) (ks : List Matcher) → Same st q ws (on a) (ok ks) → Same st q ws (on (cond b a Misfit)) (demand b p ks)
+    same_leaf : (b : Bool) (ks : List Matcher) → Same st q ws (on (Some a)) (ok ks) → Same st q ws (on (cond b (Some a) None)) (demand b p ks)
     unfolding Same on by_here demand
     same_leaf true ks x = x
     same_leaf false ks x = refl
 
-    same_parts : (b : Bool) (ks : List Matcher) (k : List Matcher → Verdict (List Matcher)) → (b ≡ true → Same st q ws (on a) (k ks))
-        → Same st q ws (on (cond b a Misfit)) (demand b p ks then k)
+    same_parts : (b : Bool) (ks : List Matcher) (k : List Matcher → Verdict (List Matcher)) → (b ≡ true → Same st q ws (on (Some a)) (k ks))
+        → Same st q ws (on (cond b (Some a) None)) (demand b p ks then k)
     unfolding Same on by_here demand ◌then◌
     same_parts true ks k x = x refl
     same_parts false ks k x = refl
 
-  same_then : (st₁ st₂ : List ℕ) (p₁ p₂ : ℕ) (us ws : List ℤ) (x : Tested) (y : Verdict (List Matcher)) (k : List Matcher → Verdict (List Matcher))
+  same_then : (st₁ st₂ : List ℕ) (p₁ p₂ : ℕ) (us ws : List ℤ) (x : Result (Unit {0}) ℕ) (y : Verdict (List Matcher)) (k : List Matcher → Verdict (List Matcher))
       → Same st₁ p₁ us x y → ((js : List ℕ) (ks : List Matcher) → Standing js ks → Same st₂ p₂ ws (fit_p firsts m st₁ js 0 p₁ us) (k ks))
       → Same st₂ p₂ ws x (y then k)
   unfolding Same ◌then◌
@@ -336,7 +336,7 @@ module _ (firsts : Bool) (m : List ℤ) where
     walked_all no_patterns = none_left
     walked_all (a ▸ᵖ ps) = more a ps (λ i k b js ks s st p ws. walked a i k b js ks s st p ws) (walked_all ps)
 
-  at_end' : (p : ℕ) (x : Tested) (y : Verdict (List Matcher)) → Same [] p [] x y → x ≡ tested y
+  at_end' : (p : ℕ) (x : Result (Unit {0}) ℕ) (y : Verdict (List Matcher)) → Same [] p [] x y → x ≡ tested y
   unfolding Same tested fit_p
   at_end' p x (ok ks) e = e.2
   at_end' p x (fault j) e = e

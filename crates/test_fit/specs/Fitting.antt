@@ -1,5 +1,6 @@
 -- Test 4 as a walk over a pattern's words.
-use Rattle.std.specs.Prelude.{ℕ, zero, suc, ◌+◌, Bool, true, false, not, ◌&&◌, ◌||◌, cond, List, [], ◌∷◌, ◌++◌, length, get_or, set, leb, eqb, ℤ, pos, negsuc}
+use Rattle.std.specs.Prelude.{ℕ, zero, suc, ◌+◌, Bool, true, false, not, ◌&&◌, ◌||◌, cond, List, [], ◌∷◌, ◌++◌, length, get_or, set, leb, eqb, ℤ, pos, negsuc, Result, Ok, Err, Some, None}
+use Rattle.std.specs.Prelude as code
 use Rattle.std.proofs.Math.Option.{Option, none, some}
 use Rattle.rules.specs.Numbers.{same}
 use Rattle.rules.specs.Reading.{entry}
@@ -9,10 +10,8 @@ use Rattle.test_fit.specs.Shapes.{width_fits, shapes}
 use Rattle.test_forms.specs.Table.{row_of}
 use Rattle.test_forms.specs.declared.table.Row.{Row}
 use Rattle.test_forms.specs.declared.table.Row.TheVariants as row
-use Rattle.test_forms.specs.declared.Tested.{Tested}
-use Rattle.test_forms.specs.declared.Tested.TheVariants.{Passed, Fault}
 use Rattle.test_fit.specs.declared.Here.{Here}
-use Rattle.test_fit.specs.declared.Here.TheVariants.{Misfit, Leaf, Bind, One, Parts, Wide}
+use Rattle.test_fit.specs.declared.Here.TheVariants.{Leaf, Bind, One, Parts, Wide}
 
 -- n matchers, one after the other, the first at the index i of a matcher's words.
 unfoldable pub members_at : List ℤ → (n i : ℕ) → List ℕ
@@ -48,23 +47,23 @@ by_parts (suc zero) o first = One
 by_parts (suc (suc n)) o first = Parts first
 
 -- What a tuple of n parts asks under the matcher i.
-unfoldable pub tuple_at : List ℤ → (i n : ℕ) → Here
+unfoldable pub tuple_at : List ℤ → (i n : ℕ) → code.Option Here
 unfolding width_fits tag_at
-tuple_at m i n = cond (width_fits (tag_at m (i + 1)) n) (Wide (i + 2) n) Misfit
+tuple_at m i n = cond (width_fits (tag_at m (i + 1)) n) (Some (Wide (i + 2) n)) None
 
 -- What the tag t asks under the matcher i, by its row of the table; v and c are the words after it.
-unfoldable pub asked : List ℤ → ℕ → List ℕ → (t : ℕ) → (v c : ℤ) → Row → Here
+unfoldable pub asked : List ℤ → ℕ → List ℕ → (t : ℕ) → (v c : ℤ) → code.Option Row → code.Option Here
 unfolding value_fits by_parts first_of tuple_at
-asked m i under t v c row.Unknown = Misfit
-asked m i under t v c (row.Known o b f) =
-    cond (f && cond (eqb t 3) (value_fits m i under v c) true) (cond (eqb t 1) (Bind o) (by_parts b o (first_of t i))) Misfit
-asked m i under t v c (row.Wide f) = cond f (tuple_at m i (tag_z v)) Misfit
+asked m i under t v c None = None
+asked m i under t v c (Some (row.Known o b f)) =
+    cond (f && cond (eqb t 3) (value_fits m i under v c) true) (Some (cond (eqb t 1) (Bind o) (by_parts b o (first_of t i)))) None
+asked m i under t v c (Some (row.Wide f)) = cond f (tuple_at m i (tag_z v)) None
 
-unfoldable pub here_of : List ℤ → ℕ → List ℕ → ℕ → ℤ → ℤ → Here
+unfoldable pub here_of : List ℤ → ℕ → List ℕ → ℕ → ℤ → ℤ → code.Option Here
 unfolding asked row_of tag_at
 here_of m i under t v c = asked m i under t v c (row_of (tag_at m i) t)
 
-unfoldable pub here_at : List ℤ → ℕ → List ℤ → ℕ → List ℕ → Here
+unfoldable pub here_at : List ℤ → ℕ → List ℤ → ℕ → List ℕ → code.Option Here
 unfolding here_of tag_at
 here_at m i p at under = here_of m i under (tag_at p at) (get_or p (at + 1) (negsuc 0)) (get_or p (at + 2) (negsuc 0))
 
@@ -78,42 +77,42 @@ unfoldable pub unlike : Bool → List ℤ → (i t : ℕ) → Bool
 unfolding apart_at
 unlike firsts m i t = eqb t 5 && firsts && not (apart_at m i)
 
-unfoldable pub here_in : Bool → List ℤ → ℕ → List ℕ → ℕ → ℤ → ℤ → Here
+unfoldable pub here_in : Bool → List ℤ → ℕ → List ℕ → ℕ → ℤ → ℤ → code.Option Here
 unfolding unlike here_of
-here_in firsts m i under t v c = cond (unlike firsts m i t) Misfit (here_of m i under t v c)
+here_in firsts m i under t v c = cond (unlike firsts m i t) None (here_of m i under t v c)
 
-unfoldable pub here_in_at : Bool → List ℤ → ℕ → List ℤ → ℕ → List ℕ → Here
+unfoldable pub here_in_at : Bool → List ℤ → ℕ → List ℤ → ℕ → List ℕ → code.Option Here
 unfolding here_in tag_at
 here_in_at firsts m i p at under = here_in firsts m i under (tag_at p at) (get_or p (at + 1) (negsuc 0)) (get_or p (at + 2) (negsuc 0))
 
 -- By what a tag asks.
-unfoldable pub by_here : Here → Tested → (ℕ → Tested) → (ℕ → Tested) → Tested → (ℕ → Tested) → (ℕ → ℕ → Tested) → Tested
-by_here Misfit z leaf bind one parts tuple = z
-by_here (Leaf o) z leaf bind one parts tuple = leaf o
-by_here (Bind o) z leaf bind one parts tuple = bind o
-by_here One z leaf bind one parts tuple = one
-by_here (Parts f) z leaf bind one parts tuple = parts f
-by_here (Wide f n) z leaf bind one parts tuple = tuple f n
+unfoldable pub by_here : {A : Type 0} → code.Option Here → A → (ℕ → A) → (ℕ → A) → A → (ℕ → A) → (ℕ → ℕ → A) → A
+by_here None z leaf bind one parts tuple = z
+by_here (Some (Leaf o)) z leaf bind one parts tuple = leaf o
+by_here (Some (Bind o)) z leaf bind one parts tuple = bind o
+by_here (Some One) z leaf bind one parts tuple = one
+by_here (Some (Parts f)) z leaf bind one parts tuple = parts f
+by_here (Some (Wide f n)) z leaf bind one parts tuple = tuple f n
 
 -- The words that start at place p, after o operands: the patterns still to come stand under the matchers st, first first, and the variables to the
 -- left under the matchers `under`.
-unfoldable pub fit_p : (firsts : Bool) → List ℤ → (st under : List ℕ) → (o p : ℕ) → List ℤ → Tested
+unfoldable pub fit_p : (firsts : Bool) → List ℤ → (st under : List ℕ) → (o p : ℕ) → List ℤ → Result (Unit {0}) ℕ
 unfolding by_here here_in members_at
-fit_p firsts m st under o p [] = Passed
+fit_p firsts m st under o p [] = Ok tt
 fit_p firsts m st under (suc o) p (w ∷ ws) = fit_p firsts m st under o (suc p) ws
-fit_p firsts m [] under zero p (w ∷ ws) = Fault p
+fit_p firsts m [] under zero p (w ∷ ws) = Err p
 fit_p firsts m (i ∷ st) under zero p (w ∷ ws) =
     by_here (here_in firsts m i under (tag_z w) (get_or ws 0 (negsuc 0)) (get_or ws 1 (negsuc 0)))
-    (Fault p)
+    (Err p)
     (λ o. fit_p firsts m st under o (suc p) ws)
     (λ o. fit_p firsts m st (under ++ (i ∷ [])) o (suc p) ws)
     (fit_p firsts m (i ∷ st) under 0 (suc p) ws)
     (λ f. fit_p firsts m (f ∷ i ∷ st) under 0 (suc p) ws)
     (λ f n. fit_p firsts m (members_at m n f ++ st) under 1 (suc p) ws)
 
-unfoldable pub fit_of : (firsts : Bool) → List ℤ → List ℤ → Tested
+unfoldable pub fit_of : (firsts : Bool) → List ℤ → List ℤ → Result (Unit {0}) ℕ
 unfolding fit_p
-fit_of firsts m p = cond (leb (length p) 256) (fit_p firsts m (0 ∷ []) [] 0 0 p) (Fault 256)
+fit_of firsts m p = cond (leb (length p) 256) (fit_p firsts m (0 ∷ []) [] 0 0 p) (Err 256)
 
 -- k matchers, one after the other, the first at the index i, stored above n others, the first on top.
 unfoldable pub pushed : List ℤ → List ℕ → (n k i : ℕ) → List ℕ

@@ -1,47 +1,42 @@
--- What a tag that fits leaves on the stack of matchers, among the matchers of the variables, and to be skipped.
-use Rattle.std.specs.Prelude.{ℕ, ◌+◌, ◌≤◌, ◌<◌, List, set, ℤ}
+-- What the walk holds, and what a tag that fits leaves of it.
+use Rattle.std.specs.Prelude.{ℕ, ◌+◌, ◌-◌, ◌≤◌, ◌<◌, cond, eqb, List, get_or, set, replicate, ℤ, Option, Some, None}
 use Rattle.test_fit.specs.Fitting.{pushed}
 use Rattle.test_fit.specs.declared.Here.{Here}
-use Rattle.test_fit.specs.declared.Here.TheVariants.{Misfit, Leaf, Bind, One, Parts, Wide}
-use Rattle.test_fit.specs.declared.Waiting.{Waiting}
+use Rattle.test_fit.specs.declared.Here.TheVariants.{Leaf, Bind, One, Parts, Wide}
+use Rattle.test_fit.specs.declared.waiting.Waiting.{Waiting}
 
-unfoldable pub waiting : (n next skip : ℕ) → Waiting
-waiting n next skip = record { matchers = n; bound = next; skip = skip }
+-- The matcher 0.
+unfoldable pub start : Waiting
+start = record { stack = replicate 386 0; matchers = 1; under = replicate 128 0; bound = 0; skip = 0 }
 
--- Where n matchers are left on the stack and `next` variables are bound; a misfit asks nothing.
-unfoldable pub waits_after : Here → (n next : ℕ) → Waiting
-unfolding waiting
-waits_after Misfit n next = waiting n next 0
-waits_after (Leaf o) n next = waiting n next o
-waits_after (Bind o) n next = waiting n (next + 1) o
-waits_after One n next = waiting (n + 1) next 0
-waits_after (Parts f) n next = waiting (n + 2) next 0
-waits_after (Wide f k) n next = waiting (n + k) next 1
+-- The matcher on top, and what is left without it.
+unfoldable pub top : Waiting → Option ℕ
+top w = cond (eqb w.matchers 0) None (Some (get_or w.stack (w.matchers - 1) 0))
 
--- Onto the stack of n, under the matcher i.
-unfoldable pub stack_after : List ℤ → Here → (i n : ℕ) → List ℕ → List ℕ
+unfoldable pub popped : Waiting → Waiting
+popped w = record w { matchers = w.matchers - 1 }
+
+unfoldable pub one_more : ℕ → Waiting → Waiting
+one_more i w = record w { stack = set w.stack w.matchers i; matchers = w.matchers + 1 }
+
+-- k matchers, one after the other, the first at the index i; it comes on top.
+unfoldable pub members_more : List ℤ → (i k : ℕ) → Waiting → Waiting
 unfolding pushed
-stack_after m Misfit i n a = a
-stack_after m (Leaf o) i n a = a
-stack_after m (Bind o) i n a = a
-stack_after m One i n a = a
-stack_after m (Parts f) i n a = set (set a n i) (n + 1) f
-stack_after m (Wide f k) i n a = pushed m a n k f
+members_more m i k w = record w { stack = pushed m w.stack w.matchers k i; matchers = w.matchers + k }
 
--- After the matchers of `next` variables.
-unfoldable pub under_after : Here → (i next : ℕ) → List ℕ → List ℕ
-under_after Misfit i next u = u
-under_after (Leaf o) i next u = u
-under_after (Bind o) i next u = set u next i
-under_after One i next u = u
-under_after (Parts f) i next u = u
-under_after (Wide f k) i next u = u
+-- After a tag that stands under the matcher i.
+unfoldable pub follows : List ℤ → Here → ℕ → Waiting → Waiting
+unfolding one_more members_more
+follows m (Leaf o) i w = record w { skip = o }
+follows m (Bind o) i w = record w { under = set w.under w.bound i; bound = w.bound + 1; skip = o }
+follows m One i w = one_more i w
+follows m (Parts f) i w = one_more f (one_more i w)
+follows m (Wide f k) i w = record (members_more m f k w) { skip = 1 }
 
 -- There is room for what it asks.
-unfoldable pub Room : Here → (n next : ℕ) → Type 0
-Room Misfit n next = Unit {0}
-Room (Leaf o) n next = Unit {0}
-Room (Bind o) n next = next < 128
-Room One n next = n < 386
-Room (Parts f) n next = n + 2 ≤ 386
-Room (Wide f k) n next = n + k ≤ 386
+unfoldable pub Room : Here → Waiting → Type 0
+Room (Leaf o) w = Unit {0}
+Room (Bind o) w = w.bound < 128
+Room One w = w.matchers < 386
+Room (Parts f) w = w.matchers + 2 ≤ 386
+Room (Wide f k) w = w.matchers + k ≤ 386

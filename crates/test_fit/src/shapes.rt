@@ -1,6 +1,8 @@
 // Matchers of the same shape, for tag 3: list and multiset count alike, something does not occur.
+#![tactic(auto, using(std::proofs::lemmas::Bool::Decides::nat_tests), unfolding(crate::specs::Shapes::width_fits, crate::specs::Shapes::tag_fits, crate::specs::Shapes::word_fits))]
+
 ghost use Rattle.std.specs.Prelude.{◌≡◌};
-ghost use Rattle.test_fit.specs.Shapes.{width_fits, tag_fits, word_fits, width_next, shapes};
+ghost use Rattle.test_fit.specs.Shapes.{width_fits, tag_fits, word_fits, shapes};
 
 use matchers::matcher_end;
 use test_forms::{LARGEST_WIDTH, LEAST_WIDTH, between};
@@ -10,11 +12,7 @@ use words::{matcher, tag_at};
 pub fn width_fits(k: u32, n: u32) -> bool
     ensures { result ≡ width_fits k n }
 {
-    if k == n {
-        between(LEAST_WIDTH, k, LARGEST_WIDTH)
-    } else {
-        false
-    }
+    k == n && between(LEAST_WIDTH, k, LARGEST_WIDTH)
 }
 
 // Whether two tags are of the same shape, and not something.
@@ -22,12 +20,9 @@ fn tag_fits(x: u32, y: u32) -> bool
     ensures { result ≡ tag_fits x y }
 {
     if between(matcher::LIST, x, matcher::MULTISET) {
-        return between(matcher::LIST, y, matcher::MULTISET);
-    }
-    if x == y {
-        between(matcher::INTEGER, x, matcher::TUPLE)
+        between(matcher::LIST, y, matcher::MULTISET)
     } else {
-        false
+        x == y && between(matcher::INTEGER, x, matcher::TUPLE)
     }
 }
 
@@ -42,29 +37,17 @@ fn word_fits(width: bool, x: u32, y: u32) -> bool
     }
 }
 
-// Whether a tuple's width comes after the word x.
-fn width_next(width: bool, x: u32) -> bool
-    ensures { result ≡ width_next width x }
-{
-    if width { false } else { x == matcher::TUPLE }
-}
-
-// Whether something does not occur in the matcher i, and the matcher j is of the same shape.
+// Whether something does not occur in the matcher i, and the matcher j is of the same shape. After a tuple's tag comes its width.
 pub fn same_shape(ms: &[i32], i: usize, j: usize) -> bool
     ensures { result ≡ shapes ms.now i j }
 {
-    let e = matcher_end(ms, i);
-    let mut a = i;
-    let mut b = j;
     let mut width = false;
-    while a < e {
-        let x = tag_at(ms, a);
-        if !word_fits(width, x, tag_at(ms, b)) {
+    for k in 0..matcher_end(ms, i) - i {
+        let x = tag_at(ms, i + k);
+        if !word_fits(width, x, tag_at(ms, j + k)) {
             return false;
         }
-        width = width_next(width, x);
-        a += 1;
-        b += 1;
+        width = !width && x == matcher::TUPLE;
     }
     true
 }

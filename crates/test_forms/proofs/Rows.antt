@@ -3,17 +3,17 @@ use mathlib.Core.Path.{◌≡◌, refl, sym, ◌∙◌, ap}
 use mathlib.Core.Bool.{Bool, true, false, cond, ◌&&◌}
 use mathlib.Core.Option.{Option, none, some}
 use mathlib.Core.List.{List, [], ◌∷◌}
-use Prim.Native.Nat.{ℕ, zero, suc, ◌+◌, ◌-◌}
+use Prim.Native.Nat.{ℕ, zero, suc, ◌+◌}
 use borrow.Author.Tests.{le-leb, lt-leb, ltb-true, ltb-false}
 use lib.Dec.{leb, ltb}
 use lib.ListN.{length, drop}
 use lib.Seq.{drop-nil, drop-drop, drop-append_seam}
 use lib.IntN.{ℤ, pos, negsuc}
+use Rattle.std.specs.Prelude.{Err}
 use Rattle.rules.specs.Reading.{Verdict, ok, fault, ◌then◌, Got, Reader, give, ◌>>=◌, known, times, width}
 use Rattle.forms.specs.Readers.{got, Sound, Complete}
 use Rattle.words.specs.Words.{tag_z, tag_at}
 use Rattle.test_forms.specs.Ends.{end_of, onward, in_row, within}
-use Rattle.test_forms.specs.declared.Ended.TheVariants.{Bad}
 use Rattle.test_forms.proofs.Known.{meant, known_word}
 
 unfoldable pub Along : List ℤ → {A : Type 0} → Reader A → Type 0
@@ -85,7 +85,7 @@ module _ (number : ℤ → Option ℕ) (fits : ℕ → Bool) (takes : Takes numb
   count_from (w ∷ ws) (suc at) i = count_from ws at i
 
   module _ {A As : Type 0} (no : As) (more : A → As → As) (part : Reader A) (f : As → A) (s : List ℤ) (at n : ℕ) (e : n ≡ tag_at s at) where
-    pub counted_bad : fits n ≡ false → end_of ((known number >>= λ k. times no more part k >>= λ l. give (f l)) at (drop at s)) ≡ Bad at
+    pub counted_bad : fits n ≡ false → end_of ((known number >>= λ k. times no more part k >>= λ l. give (f l)) at (drop at s)) ≡ Err at
     unfolding ◌>>=◌ ◌then◌ meant end_of
     counted_bad h = rw (count_from s at at, ← e, h)
 

@@ -10,20 +10,18 @@ use mir.Val.{Fits}
 use lib.Dec.{ltb, leb}
 use lib.ListN.{length}
 use lib.IntN.{ℤ}
+use Rattle.std.specs.Prelude.{Result, Ok, Err}
 use Rattle.forms.specs.Written.{IsWidth}
 use Rattle.words.specs.Words.{tag_at}
 use Rattle.words.proofs.Signed as signed
 use Rattle.test_forms.specs.Ends.{onward, in_row, within}
-use Rattle.test_forms.specs.declared.Ended.{Ended}
-use Rattle.test_forms.specs.declared.Ended.TheVariants.{End, Bad}
 
--- v is what the forms that are left are to give.
-module _ (f : ℕ → Ended) (n e : ℕ) where
-  row_out : n ≤ 0 → in_row f n e ≡ End e
+module _ (f : ℕ → Result ℕ ℕ) (n e : ℕ) where
+  row_out : n ≤ 0 → in_row f n e ≡ Ok e
   unfolding in_row
   row_out h = let z : n ≡ 0 = omega arith in rw z
 
-  row_on : 0 < n → (r : Ended) → r ≡ f e → in_row f n e ≡ onward r (in_row f (n - 1))
+  row_on : 0 < n → (r : Result ℕ ℕ) → r ≡ f e → in_row f n e ≡ onward r (in_row f (n - 1))
   unfolding in_row
   row_on h r q = rw q (go n h)
     where
@@ -31,17 +29,18 @@ module _ (f : ℕ → Ended) (n e : ℕ) where
       go zero l = absurd (omega arith)
       go (suc k) l = let p : suc k - 1 ≡ k = omega arith in rw p
 
-  module _ (v : Ended) (i : v ≡ in_row f n e) where
-    pub row_end : n ≤ 0 → End e ≡ v
-    row_end h = sym (i ∙ row_out h)
+-- v is what the forms that are left after k of n are to give.
+module _ (f : ℕ → Result ℕ ℕ) (n k e : ℕ) (v : Result ℕ ℕ) (i : v ≡ in_row f (n - k) e) where
+  pub row_end : n ≤ k → Ok e ≡ v
+  row_end h = sym (i ∙ row_out f (n - k) e (omega arith))
 
-    pub row_turn : 0 < n → (r : Ended) → r ≡ f e → (x : ℕ) → r ≡ End x → v ≡ in_row f (n - 1) x
-    unfolding onward
-    row_turn h r q x w = i ∙ row_on h r q ∙ rw w
+  pub row_turn : k < n → (r : Result ℕ ℕ) → r ≡ f e → (x : ℕ) → r ≡ Ok x → v ≡ in_row f (n - (k + 1)) x
+  unfolding onward
+  row_turn h r q x w = let p : n - (k + 1) ≡ n - k - 1 = omega arith in rw p (i ∙ row_on f (n - k) e (omega arith) r q ∙ rw w)
 
-    pub row_bad : 0 < n → (r : Ended) → r ≡ f e → (p : ℕ) → r ≡ Bad p → Bad p ≡ v
-    unfolding onward
-    row_bad h r q p w = sym (i ∙ row_on h r q ∙ rw w)
+  pub row_bad : k < n → (r : Result ℕ ℕ) → r ≡ f e → (p : ℕ) → r ≡ Err p → Err p ≡ v
+  unfolding onward
+  row_bad h r q p w = sym (i ∙ row_on f (n - k) e (omega arith) r q ∙ rw w)
 
 -- ---- Bounds.
 

@@ -1,8 +1,7 @@
--- What the code's answer to a test stands for: each case of `Tested` is a verdict of the rules.
+-- What the code's answer to a test stands for: a verdict of the rules without what was read.
+use Rattle.std.specs.Prelude.{ℕ, Result, Ok, Err}
 use Rattle.rules.specs.Reading.{Verdict, ok, fault}
-use Rattle.test_forms.specs.declared.Tested.{Tested}
-use Rattle.test_forms.specs.declared.Tested.TheVariants.{Passed, Fault}
 
-unfoldable pub tested : {A : Type 0} → Verdict A → Tested
-tested (ok a) = Passed
-tested (fault i) = Fault i
+unfoldable pub tested : {A : Type 0} → Verdict A → Result (Unit {0}) ℕ
+tested (ok a) = Ok tt
+tested (fault i) = Err i

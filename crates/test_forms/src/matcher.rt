@@ -4,51 +4,38 @@ ghost use Rattle.rules.specs.Reading.{read_matcher};
 ghost use Rattle.test_forms.specs.Tests.{tested};
 ghost use Rattle.test_forms.specs.Matchers.{matcher_from};
 
-use super::{
-    Ended, LARGEST_WIDTH, LEAST_WIDTH, MATCHER_LEVELS, MATCHER_WORDS, Tested, between, whole,
-};
-use words::tag_at;
+use super::{LARGEST_WIDTH, LEAST_WIDTH, MATCHER_LEVELS, MATCHER_WORDS, between};
+use words::{matcher, tag_at};
 
-// The matcher at an index, in which so many lists, multisets or tuples may stand one inside the other.
-fn matcher_end(ms: &[i32], at: usize, left: u32) -> Ended
+// Where the matcher at an index ends, in which so many lists, multisets or tuples may stand one inside the other.
+fn matcher_end(ms: &[i32], at: usize, left: u32) -> Result<usize, usize>
     ensures { result ≡ matcher_from ms.now left at }
 {
-    let t = tag_at(ms, at);
-    if 4 < t {
-        return Ended::Bad(at);
-    }
-    if t < 2 {
-        return Ended::End(at + 1);
-    }
-    if left == 0 {
-        return Ended::Bad(at);
-    }
-    if t < 4 {
-        return matcher_end(ms, at + 1, left - 1);
-    }
-    let mut n = tag_at(ms, at + 1);
-    if !between(LEAST_WIDTH, n, LARGEST_WIDTH) {
-        return Ended::Bad(at + 1);
-    }
-    let mut e = at + 2;
-    while 0 < n {
-        match matcher_end(ms, e, left - 1) {
-            Ended::End(x) => {
-                e = x;
-                n -= 1;
+    match tag_at(ms, at) {
+        matcher::SOMETHING | matcher::INTEGER => Ok(at + 1),
+        matcher::LIST | matcher::MULTISET if 0 < left => matcher_end(ms, at + 1, left - 1),
+        matcher::TUPLE if 0 < left => {
+            let n = tag_at(ms, at + 1);
+            if !between(LEAST_WIDTH, n, LARGEST_WIDTH) {
+                return Err(at + 1);
             }
-            Ended::Bad(i) => return Ended::Bad(i),
+            let mut end = at + 2;
+            for _ in 0..n {
+                end = matcher_end(ms, end, left - 1)?;
+            }
+            Ok(end)
         }
+        _ => Err(at),
     }
-    Ended::End(e)
 }
 
 // Whether the words are one whole matcher.
-pub fn test_matcher(ms: &[i32]) -> Tested
+pub fn test_matcher(ms: &[i32]) -> Result<(), usize>
     ensures { result ≡ tested (read_matcher ms.now) }
 {
     if MATCHER_WORDS < ms.len() {
-        return Tested::Fault(MATCHER_WORDS);
+        return Err(MATCHER_WORDS);
     }
-    whole(ms, matcher_end(ms, 0, MATCHER_LEVELS))
+    let end = matcher_end(ms, 0, MATCHER_LEVELS)?;
+    if end < ms.len() { Err(end) } else { Ok(()) }
 }

@@ -5,30 +5,44 @@ ghost use Rattle.test_forms.specs.Table.{row_of};
 use super::between;
 use words::{matcher, pattern};
 
-// A pattern's tag under a matcher's tag: no such tag; or how many operands and then how many parts follow it, and whether the matcher takes it; or a
-// width and so many parts follow it, and whether the matcher takes it.
-#[derive(Drop)]
+// What follows a pattern's tag, and whether a matcher takes the tag: so many operands and then so many parts; or a width and so many parts.
+#[derive(Clone, Copy)]
 pub enum Row {
-    Unknown,
-    Known(u32, u32, bool),
-    Wide(bool),
+    Known {
+        operands: u32,
+        parts: u32,
+        taken: bool,
+    },
+    Wide {
+        taken: bool,
+    },
 }
 
-pub fn row_of(m: u32, t: u32) -> Row
+// The row of a pattern's tag under a matcher's tag; none for a number that is no tag.
+pub fn row_of(m: u32, t: u32) -> Option<Row>
     ensures { result ≡ row_of m t }
 {
-    match t {
-        pattern::WILDCARD => Row::Known(0, 0, between(matcher::SOMETHING, m, matcher::TUPLE)),
-        pattern::VARIABLE => Row::Known(1, 0, between(matcher::SOMETHING, m, matcher::TUPLE)),
-        pattern::CONSTANT => Row::Known(1, 0, between(matcher::INTEGER, m, matcher::INTEGER)),
-        pattern::VALUE => Row::Known(2, 0, between(matcher::INTEGER, m, matcher::TUPLE)),
-        pattern::NIL => Row::Known(0, 0, between(matcher::LIST, m, matcher::MULTISET)),
-        pattern::CONS => Row::Known(0, 2, between(matcher::LIST, m, matcher::MULTISET)),
-        pattern::JOIN => Row::Known(0, 2, between(matcher::LIST, m, matcher::LIST)),
-        pattern::TUPLE => Row::Wide(between(matcher::TUPLE, m, matcher::TUPLE)),
-        pattern::AND => Row::Known(0, 2, between(matcher::SOMETHING, m, matcher::TUPLE)),
-        pattern::OR => Row::Known(0, 2, between(matcher::SOMETHING, m, matcher::TUPLE)),
-        pattern::NOT => Row::Known(0, 1, between(matcher::SOMETHING, m, matcher::TUPLE)),
-        11..=4294967295 => Row::Unknown,
-    }
+    let (operands, parts, low, high) = match t {
+        pattern::WILDCARD => (0, 0, matcher::SOMETHING, matcher::TUPLE),
+        pattern::VARIABLE => (1, 0, matcher::SOMETHING, matcher::TUPLE),
+        pattern::CONSTANT => (1, 0, matcher::INTEGER, matcher::INTEGER),
+        pattern::VALUE => (2, 0, matcher::INTEGER, matcher::TUPLE),
+        pattern::NIL => (0, 0, matcher::LIST, matcher::MULTISET),
+        pattern::CONS => (0, 2, matcher::LIST, matcher::MULTISET),
+        pattern::JOIN => (0, 2, matcher::LIST, matcher::LIST),
+        pattern::TUPLE => {
+            let taken = between(matcher::TUPLE, m, matcher::TUPLE);
+            return Some(Row::Wide { taken });
+        }
+        pattern::AND => (0, 2, matcher::SOMETHING, matcher::TUPLE),
+        pattern::OR => (0, 2, matcher::SOMETHING, matcher::TUPLE),
+        pattern::NOT => (0, 1, matcher::SOMETHING, matcher::TUPLE),
+        _ => return None,
+    };
+    let taken = between(low, m, high);
+    Some(Row::Known {
+        operands,
+        parts,
+        taken,
+    })
 }

@@ -14,16 +14,17 @@ use lib.Seq.{drop-cons}
 use lib.IntN.{ℤ, negsuc}
 use Rattle.rules.specs.Forms.{Value}
 use Rattle.rules.specs.Reading.{Verdict, ok, fault, Got, entry, at_most64, width, target}
-use Rattle.rules.specs.Causes.{Cause, unknown_tag, bad_count, too_deep, cut_short, bad_width, cause_number, told}
+use Rattle.rules.specs.Causes.{Cause, unknown_tag, bad_count, too_deep, cut_short, bad_width, cause_number}
+use Rattle.rules.specs.Causes.{told as looked}
 use Rattle.rules.specs.Causes.{Look, well, wrong, ◌thence◌, in_turn, see, Kind, integer, kinds, any_word, innermost, opened, value}
 use Rattle.forms.proofs.Together.{Agree, target_agrees, value_well}
 use Rattle.words.specs.Words.{tag_at}
 use Rattle.words.proofs.Signed as signed
 use Rattle.test_forms.specs.Ends.{end_of, onward, in_row, within}
-use Rattle.test_target.specs.Targets.{cause_at, count_cause, count_fits, value_from, valued, valued_from, further, in_line}
-use Rattle.test_forms.specs.declared.Ended.TheVariants as ended
-use Rattle.test_target.specs.declared.Valued.{Valued}
-use Rattle.test_target.specs.declared.Valued.TheVariants.{End, Bad}
+use Rattle.test_target.specs.Targets.{cause_at, count_cause, count_fits, value_from, valued, valued_from, further, in_line, Numbers, numbers_of, told}
+use Rattle.test_target.specs.declared.Fault.{Fault}
+use Rattle.std.specs.Prelude.{Result, Ok, Err}
+use Rattle.std.specs.Result.{result_map_both, MatchResult, IsErrAnd}
 use Rattle.test_forms.proofs.Known.{past, entry_tag}
 use Rattle.test_forms.proofs.Rows.{Along, Takes, width_takes}
 use Rattle.test_target.proofs.Values.{target_along, at_most_takes, one_or_two, row}
@@ -68,13 +69,13 @@ module _ (s : List ℤ) (at t : ℕ) (e : t ≡ tag_at s at) (d : ℕ) where
   by_kind h = value_is d (drop at s) ∙ see_at unknown_tag (entry kinds) (after d) s at h
       ∙ ap (seen unknown_tag (after d) (drop (suc at) s)) (entry_tag kinds (get_or s at (negsuc 0)) (omega arith) ∙ ap (get_elem? kinds) (sym e))
 
-  pub other_cause : 2 < t → told (value d (drop at s)) ≡ cause_at s at 2
-  unfolding cause_at told cause_number seen kinds
+  pub other_cause : 2 < t → looked (value d (drop at s)) ≡ cause_at s at 2
+  unfolding cause_at looked cause_number seen kinds
   other_cause h = go (ltb at (length s)) refl
     where
-      go : (b : Bool) → ltb at (length s) ≡ b → told (value d (drop at s)) ≡ cond b 2 (cause_number cut_short)
-      go true q = ap told (by_kind (ltb-true at (length s) q) ∙ ap (seen unknown_tag (after d) (drop (suc at) s)) (past kinds t h))
-      go false q = ap told (value_is d (drop at s) ∙ see_past unknown_tag (entry kinds) (after d) s at (ltb-false at (length s) q))
+      go : (b : Bool) → ltb at (length s) ≡ b → looked (value d (drop at s)) ≡ cond b 2 (cause_number cut_short)
+      go true q = ap looked (by_kind (ltb-true at (length s) q) ∙ ap (seen unknown_tag (after d) (drop (suc at) s)) (past kinds t h))
+      go false q = ap looked (value_is d (drop at s) ∙ see_past unknown_tag (entry kinds) (after d) s at (ltb-false at (length s) q))
 
   pub integer_cut : t ≡ 0 → length s ≤ at + 1 → value d (drop at s) ≡ wrong cut_short
   unfolding seen kinds after any_word innermost opened
@@ -104,13 +105,13 @@ module _ (c : Cause) (number : ℤ → Option ℕ) (fits : ℕ → Bool) (takes 
   unfolding tag_at
   by_number h = see_at c number k s at h ∙ ap (seen c k (drop (suc at) s)) (takes.by_tag (get_or s at (negsuc 0)) ∙ ap (λ m. cond (fits m) (some m) none) (sym e))
 
-  number_cause : fits n ≡ false → told (see c number k (drop at s)) ≡ cause_at s at (cause_number c)
-  unfolding cause_at told seen
+  number_cause : fits n ≡ false → looked (see c number k (drop at s)) ≡ cause_at s at (cause_number c)
+  unfolding cause_at looked seen
   number_cause f = go (ltb at (length s)) refl
     where
-      go : (b : Bool) → ltb at (length s) ≡ b → told (see c number k (drop at s)) ≡ cond b (cause_number c) (cause_number cut_short)
-      go true q = ap told (by_number (ltb-true at (length s) q) ∙ ap (λ x. seen c k (drop (suc at) s) (cond x (some n) none)) f)
-      go false q = ap told (see_past c number k s at (ltb-false at (length s) q))
+      go : (b : Bool) → ltb at (length s) ≡ b → looked (see c number k (drop at s)) ≡ cond b (cause_number c) (cause_number cut_short)
+      go true q = ap looked (by_number (ltb-true at (length s) q) ∙ ap (λ x. seen c k (drop (suc at) s) (cond x (some n) none)) f)
+      go false q = ap looked (see_past c number k s at (ltb-false at (length s) q))
 
   number_on : fits n ≡ true → see c number k (drop at s) ≡ k n (drop (suc at) s)
   unfolding seen
@@ -132,12 +133,12 @@ module _ (s : List ℤ) (at t : ℕ) (e : t ≡ tag_at s at) (n : ℕ) (q : n �
   unfolding seen kinds after opened
   in_tuple d h = by_kind s at t e (suc d) (signed.within s at t e (omega arith)) ∙ rw (h, add-one at)
 
-  pub count_cause_lem : (d : ℕ) → (d ≡ 0 → ⊥) → 1 ≤ t → t ≤ 2 → count_fits t n ≡ false → told (value d (drop at s)) ≡ cause_at s (at + 1) (count_cause t)
+  pub count_cause_lem : (d : ℕ) → (d ≡ 0 → ⊥) → 1 ≤ t → t ≤ 2 → count_fits t n ≡ false → looked (value d (drop at s)) ≡ cause_at s (at + 1) (count_cause t)
   unfolding count_fits count_cause
   count_cause_lem zero z a b f = absurd (z refl)
   count_cause_lem (suc d) z a b f = one_or_two s at t e _ a b
-      (λ h. ap told (in_collection d h) ∙ number_cause bad_count at_most64 (λ m. leb m 64) at_most_takes (in_turn λ us. value d us) s (at + 1) n q (rw h at f) ∙ rw h)
-      (λ h. ap told (in_tuple d h) ∙ number_cause bad_width width (λ m. within 2 m 4) width_takes (in_turn λ us. value d us) s (at + 1) n q (rw h at f) ∙ rw h)
+      (λ h. ap looked (in_collection d h) ∙ number_cause bad_count at_most64 (λ m. leb m 64) at_most_takes (in_turn λ us. value d us) s (at + 1) n q (rw h at f) ∙ rw h)
+      (λ h. ap looked (in_tuple d h) ∙ number_cause bad_width width (λ m. within 2 m 4) width_takes (in_turn λ us. value d us) s (at + 1) n q (rw h at f) ∙ rw h)
 
   count_on : (d : ℕ) → (d ≡ 0 → ⊥) → 1 ≤ t → t ≤ 2 → count_fits t n ≡ true → value d (drop at s) ≡ in_turn (λ us. value (d - 1) us) n (drop (at + 2) s)
   unfolding count_fits
@@ -151,42 +152,46 @@ module _ (s : List ℤ) (at t : ℕ) (e : t ≡ tag_at s at) (n : ℕ) (q : n �
 
 -- ---- The value at an index with its cause.
 
-ended_bad : (x : Verdict (Got Value)) (l : Look) (i : ℕ) → end_of x ≡ ended.Bad i → valued x l ≡ Bad i (told l)
+abbrev pub bad : (place cause : ℕ) → Result ℕ Numbers
+bad i c = Err (record { place = i; cause = c })
+
+ended_bad : (x : Verdict (Got Value)) (l : Look) (i : ℕ) → end_of x ≡ Err i → valued x l ≡ bad i (looked l)
 unfolding end_of valued
 ended_bad (ok g) l i e = let z : ◌≡◌ {A = ℕ} 0 1 = cc in absurd (omega arith)
 ended_bad (fault j) l i e = let q : j ≡ i = cc in rw q
 
-ended_end : (x : Verdict (Got Value)) (l : Look) (i : ℕ) → end_of x ≡ ended.End i → valued x l ≡ End i
+ended_end : (x : Verdict (Got Value)) (l : Look) (i : ℕ) → end_of x ≡ Ok i → valued x l ≡ Ok i
 unfolding end_of valued
 ended_end (ok g) l i e = let q : g.next ≡ i = cc in rw q
 ended_end (fault j) l i e = let z : ◌≡◌ {A = ℕ} 0 1 = cc in absurd (omega arith)
 
 module _ (s : List ℤ) (d at : ℕ) where
-  pub valued_bad : (i c : ℕ) → value_from s d at ≡ ended.Bad i → told (value d (drop at s)) ≡ c → valued_from s d at ≡ Bad i c
+  pub valued_bad : (i c : ℕ) → value_from s d at ≡ Err i → looked (value d (drop at s)) ≡ c → valued_from s d at ≡ bad i c
   unfolding value_from valued_from
   valued_bad i c e q = ended_bad (target d at (drop at s)) (value d (drop at s)) i e ∙ rw q
 
-  pub valued_end : (i : ℕ) → value_from s d at ≡ ended.End i → valued_from s d at ≡ End i
+  pub valued_end : (i : ℕ) → value_from s d at ≡ Ok i → valued_from s d at ≡ Ok i
   unfolding value_from valued_from
   valued_end i e = ended_end (target d at (drop at s)) (value d (drop at s)) i e
 
 -- The place alone.
-module _ (s : List ℤ) (d at : ℕ) (v : Valued) (e : v ≡ valued_from s d at) where
-  pub place_end : (i : ℕ) → v ≡ End i → ended.End i ≡ value_from s d at
+module _ (s : List ℤ) (d at : ℕ) (v : Result ℕ Fault) (e : told v ≡ valued_from s d at) where
+  pub place_alone : result_map_both (λ (i : ℕ). i) (λ (f : Fault). f.place) v ≡ value_from s d at
   unfolding valued_from value_from valued end_of
-  place_end i q = go (target d at (drop at s)) (sym q ∙ e)
+  place_alone = go v (target d at (drop at s)) e
     where
-      go : (x : Verdict (Got Value)) → End i ≡ valued x (value d (drop at s)) → ended.End i ≡ end_of x
-      go (ok g) r = let p : i ≡ g.next = cc in ap ended.End p
-      go (fault j) r = let z : ◌≡◌ {A = ℕ} 0 1 = cc in absurd (omega arith)
+      go : (r : Result ℕ Fault) (x : Verdict (Got Value)) → told r ≡ valued x (value d (drop at s)) → result_map_both (λ (i : ℕ). i) (λ (f : Fault). f.place) r ≡ end_of x
+      go (Ok i) (ok g) r = let p : i ≡ g.next = cc in ap Ok p
+      go (Ok i) (fault j) r = let z : ◌≡◌ {A = ℕ} 0 1 = cc in absurd (omega arith)
+      go (Err f) (ok g) r = let z : ◌≡◌ {A = ℕ} 0 1 = cc in absurd (omega arith)
+      go (Err f) (fault j) r = let p : numbers_of f ≡ record { place = j; cause = looked (value d (drop at s)) } = cc in ap (λ (n : Numbers). Err n.place) p
 
-  pub place_bad : (i c : ℕ) → v ≡ Bad i c → ended.Bad i ≡ value_from s d at
-  unfolding valued_from value_from valued end_of
-  place_bad i c q = go (target d at (drop at s)) (sym q ∙ e)
-    where
-      go : (x : Verdict (Got Value)) → Bad i c ≡ valued x (value d (drop at s)) → ended.Bad i ≡ end_of x
-      go (ok g) r = let z : ◌≡◌ {A = ℕ} 0 1 = cc in absurd (omega arith)
-      go (fault j) r = let p : i ≡ j = cc in ap ended.Bad p
+-- What `map_err` gives, where its closure gives the place.
+pub mapped : (v : Result ℕ Fault) (x : Result ℕ ℕ) (P : Fault → ℕ → Type 0) → MatchResult v (λ i. x ≡ Ok i) (λ f. IsErrAnd x (λ r. P f r))
+    → ((f : Fault) (r : ℕ) → P f r → r ≡ f.place) → x ≡ result_map_both (λ (i : ℕ). i) (λ (f : Fault). f.place) v
+mapped (Ok i) x P h k = h
+mapped (Err f) (Ok i) P h k = elim h [ ]
+mapped (Err f) (Err r) P h k = ap Err (k f r h)
 
 look_wrong : (d at : ℕ) (ws : List ℤ) (i : ℕ) → target d at ws ≡ fault i → (c : Cause) × (value d ws ≡ wrong c)
 unfolding Agree
@@ -217,7 +222,7 @@ module _ (s : List ℤ) (d : ℕ) where
           let w = look_wrong d e (drop e s) i r in
           let a = p ∙ ap (λ v. onward (end_of v) (in_row (value_from s d) n)) r in
           let b = q ∙ ap (λ l. l thence looks n) w.1 in
-          ended_bad x y i a ∙ sym (ap (λ v. further v (in_line (valued_from s d) n)) (valued_bad s d e i (told y) (ap end_of r) (ap told (w.1 ∙ sym b))))
+          ended_bad x y i a ∙ sym (ap (λ v. further v (in_line (valued_from s d) n)) (valued_bad s d e i (looked y) (ap end_of r) (ap looked (w.1 ∙ sym b))))
 
 -- A collection or a tuple, and its elements or parts one after the other.
 pub valued_row : (s : List ℤ) (at t : ℕ) → t ≡ tag_at s at → (n : ℕ) → n ≡ tag_at s (at + 1) → 1 ≤ t → t ≤ 2 → (d : ℕ) → (d ≡ 0 → ⊥) → count_fits t n ≡ true

@@ -3,7 +3,8 @@ use mathlib.Core.Path.{◌≡◌, refl}
 use mathlib.Core.Bool.{Bool, true, false, cond}
 use mathlib.Core.List.{List}
 use Prim.Native.Nat.{ℕ, zero, suc, min, ◌+◌, ◌-◌, ◌*◌, ◌/◌, ◌^◌, ◌<◌, ◌≤◌}
-use native.Mathlib.Nat.{mul-suc, mul-div-le, lt-mul-div-succ, zero-div, mul-le-mul_left}
+use native.Mathlib.Nat.{mul-suc, mul-div-le, lt-mul-div-succ, mul-le-mul_left}
+use native.Mathlib.Numerals.{add-one}
 use native.Mathlib.Omega.{arith}
 use borrow.Author.Rules.{rules}
 use borrow.Author.Tests.{lt-ltb, ne_eqb}
@@ -14,14 +15,6 @@ use lib.IntN.{ℤ}
 use Rattle.words.specs.Words.{tag_at}
 use Rattle.test_target.specs.Targets.{plain_at, plain_run, run_of}
 use Rattle.test_target.proofs.Steps.{plain_words_lem}
-
--- Where no word is left, there are words for none.
-pub most_none : (l at each n : ℕ) → l ≤ at → 0 ≡ min n ((l - at) / each)
-most_none l at each n h =
-    let z : (l - at) / each ≡ 0 = (let y : l - at ≡ 0 = omega arith in rw y (zero-div each)) in
-    omega arith
-
-pub ruleset most_rules = (most_none, rules)
 
 -- ---- A run of them.
 
@@ -58,27 +51,28 @@ module _ (f : ℕ → Bool) (each : ℕ) where
         go false q = refl
     run_enough (suc n) (suc m) e h g = let r = run_enough n m (e + each) (omega arith) (λ k. let x = g (omega arith) in omega arith) in rw r
 
--- Of at most m, for which there are words in a list of length l, i are passed, and the next stands at e; r is how many there are.
-pub record Passed (f : ℕ → Bool) (each l r m i e : ℕ) : Type 0 where
+-- Of at most m from the index `at` on, for which there are words in a list of length l, i are passed; r is how many there are.
+pub record Passed (f : ℕ → Bool) (each l r m at i : ℕ) : Type 0 where
   pub some : 0 < each
-  pub room : each * (m - i) ≤ l - e
-  pub is : r ≡ i + run_of f each (m - i) e
+  pub room : each * (m - i) ≤ l - (at + each * i)
+  pub is : r ≡ i + run_of f each (m - i) (at + each * i)
 
 module _ (f : ℕ → Bool) (each l : ℕ) where
-  pub run_start : (n at m : ℕ) → 0 < each → ((e : ℕ) → f e ≡ true → e + each ≤ l) → m ≡ min n ((l - at) / each) → Passed f each l (run_of f each n at) m 0 at
+  pub run_start : (n at m : ℕ) → 0 < each → ((e : ℕ) → f e ≡ true → e + each ≤ l) → m ≡ min n ((l - at) / each) → Passed f each l (run_of f each n at) m at 0
   run_start n at m p w q =
       let x = mul-div-le (l - at) each in
       let y = lt-mul-div-succ (l - at) p in
       let z : m - 0 ≡ m = omega arith in
+      let k : at + each * 0 ≡ at = omega arith in
       let a : m ≤ (l - at) / each = omega arith in
       let b = mul-le-mul_left each a in
       let t = run_enough f each l w n m at (omega arith) (λ k. let u : m ≡ (l - at) / each = omega arith in let v = rw (← u) at y in omega arith) in
-      record { some = p; room = rw z (omega arith); is = rw z (omega (arith, t)) }
+      record { some = p; room = rw (z, k) (omega arith); is = rw (z, k) (omega (arith, t)) }
 
-  module _ (r m i e : ℕ) (h : Passed f each l r m i e) where
+  module _ (r m at i : ℕ) (h : Passed f each l r m at i) where
     pub run_out : m ≤ i → i ≡ r
     unfolding run_of
-    run_out k = let z : m - i ≡ 0 = omega arith in let t : run_of f each (m - i) e ≡ 0 = rw z in omega (arith, h.is, t)
+    run_out k = let z : m - i ≡ 0 = omega arith in let t : run_of f each (m - i) (at + each * i) ≡ 0 = rw z in omega (arith, h.is, t)
 
     module _ (k : i < m) where
       one_more : m - i ≡ suc (m - (i + 1))
@@ -87,20 +81,26 @@ module _ (f : ℕ → Bool) (each l : ℕ) where
       more_room : each * (m - i) ≡ each * (m - (i + 1)) + each
       more_room = rw one_more (mul-suc each (m - (i + 1)))
 
-      pub run_there : e + each ≤ l
+      next : at + each * i + each ≡ at + each * (i + 1)
+      next = let x : each * (i + 1) ≡ each * i + each = rw (add-one i) (mul-suc each i) in omega (arith, x)
+
+      pub run_there : at + each * i + each ≤ l
       run_there = omega (arith, more_room, h.room, h.some)
 
-      pub run_next : l < 2 ^ 64 → Fits w64 (e + each)
-      run_next b = let x = run_there in record { fits = omega arith }
+      pub run_words : l < 2 ^ 64 → Fits w64 (each * i)
+      run_words b = let x = run_there in record { fits = omega arith }
 
-      step : (b : Bool) → f e ≡ b → run_of f each (m - i) e ≡ cond b (suc (run_of f each (m - (i + 1)) (e + each))) 0
+      pub run_index : l < 2 ^ 64 → Fits w64 (at + each * i)
+      run_index b = let x = run_there in record { fits = omega arith }
+
+      step : (b : Bool) → f (at + each * i) ≡ b → run_of f each (m - i) (at + each * i) ≡ cond b (suc (run_of f each (m - (i + 1)) (at + each * (i + 1)))) 0
       unfolding run_of
-      step b t = rw (one_more, t)
+      step b t = rw (one_more, t, next)
 
-      pub run_on : f e ≡ true → Passed f each l r m (i + 1) (e + each)
-      run_on t = record { some = h.some; room = omega (arith, more_room, h.room); is = omega (arith, h.is, step true t) }
+      pub run_on : f (at + each * i) ≡ true → Passed f each l r m at (i + 1)
+      run_on t = record { some = h.some; room = rw (← next) (omega (arith, more_room, h.room)); is = omega (arith, h.is, step true t) }
 
-      pub run_here : f e ≡ false → i ≡ r
+      pub run_here : f (at + each * i) ≡ false → i ≡ r
       run_here t = omega (arith, h.is, step false t)
 
 -- ---- Integers.
@@ -109,20 +109,20 @@ pub plain_whole : (s : List ℤ) (e : ℕ) → plain_at s e ≡ true → e + 2 �
 plain_whole s e h = let x = (plain_words_lem s e h).1 in omega arith
 
 module _ (s : List ℤ) where
-  pub plain_start : (n at m : ℕ) → m ≡ min n ((length s - at) / 2) → Passed (plain_at s) 2 (length s) (plain_run s n at) m 0 at
+  pub plain_start : (n at m : ℕ) → m ≡ min n ((length s - at) / 2) → Passed (plain_at s) 2 (length s) (plain_run s n at) m at 0
   unfolding plain_run
   plain_start n at m q = run_start (plain_at s) 2 (length s) n at m (omega arith) (plain_whole s) q
 
-  module _ (r m i e : ℕ) (h : Passed (plain_at s) 2 (length s) r m i e) (k : i < m) where
-    pub plain_there : e < length s
-    plain_there = let x = run_there (plain_at s) 2 (length s) r m i e h k in omega arith
+  module _ (r m at i : ℕ) (h : Passed (plain_at s) 2 (length s) r m at i) (k : i < m) where
+    pub plain_there : at + 2 * i < length s
+    plain_there = let x = run_there (plain_at s) 2 (length s) r m at i h k in omega arith
 
-    pub plain_is : (t : ℕ) → t ≡ tag_at s e → t ≡ 0 → plain_at s e ≡ true
+    pub plain_is : (t : ℕ) → t ≡ tag_at s (at + 2 * i) → t ≡ 0 → plain_at s (at + 2 * i) ≡ true
     unfolding plain_at
-    plain_is t q z = let x = run_there (plain_at s) 2 (length s) r m i e h k in rw (← q, z, lt-ltb (e + 1) (length s) (omega arith))
+    plain_is t q z = let x = run_there (plain_at s) 2 (length s) r m at i h k in rw (← q, z, lt-ltb (at + 2 * i + 1) (length s) (omega arith))
 
-    pub plain_not : (t : ℕ) → t ≡ tag_at s e → (t ≡ 0 → ⊥) → plain_at s e ≡ false
+    pub plain_not : (t : ℕ) → t ≡ tag_at s (at + 2 * i) → (t ≡ 0 → ⊥) → plain_at s (at + 2 * i) ≡ false
     unfolding plain_at
     plain_not t q z = rw (← q, ne_eqb t 0 z)
 
-pub ruleset run_rules = (plain_start, plain_there, plain_is, plain_not, run_out, run_next, run_on, run_here, rules)
+pub ruleset run_rules = (plain_start, plain_there, plain_is, plain_not, run_out, run_words, run_index, run_on, run_here, rules)

@@ -20,8 +20,7 @@ use Rattle.forms.proofs.ReadTarget.{target_sound, target_complete}
 use Rattle.words.specs.Words.{tag_z, tag_at}
 use Rattle.test_forms.specs.Ends.{end_of, in_row, within}
 use Rattle.test_target.specs.Targets.{count_fits, value_from}
-use Rattle.test_forms.specs.declared.Ended.{Ended}
-use Rattle.test_forms.specs.declared.Ended.TheVariants.{End, Bad}
+use Rattle.std.specs.Prelude.{Result, Ok, Err}
 use Rattle.test_forms.proofs.Known.{past, meant, known_at}
 use Rattle.test_forms.proofs.Rows.{Along, along, Takes, chosen, width_takes, counted_bad, counted_row}
 
@@ -40,24 +39,24 @@ at_most_takes = record { by_tag = each; not_past = refl }
 -- ---- What comes of a tag, by its meaning in the table.
 
 module _ (part : Reader Value) (s : List ℤ) (at : ℕ) where
-  unfoldable opened : Option TargetTag → Ended
+  unfoldable opened : Option TargetTag → Result ℕ ℕ
   unfolding meant ◌then◌ target_parts end_of
   opened o = end_of (meant at (drop (suc at) s) o then λ g. target_parts part g.it g.next g.rest)
 
-  opened_none : opened none ≡ Bad at
+  opened_none : opened none ≡ Err at
   unfolding opened meant ◌then◌ end_of
   opened_none = refl
 
-  opened_one : (f : ℤ → Value) → opened (some (one f)) ≡ cond (ltb (at + 1) (length s)) (End (at + 2)) (Bad (at + 1))
+  opened_one : (f : ℤ → Value) → opened (some (one f)) ≡ cond (ltb (at + 1) (length s)) (Ok (at + 2)) (Err (at + 1))
   unfolding opened meant ◌then◌ target_parts ◌>>=◌ give word known end_of
   opened_one f = go (ltb (at + 1) (length s)) refl
     where
-      go : (b : Bool) → ltb (at + 1) (length s) ≡ b → opened (some (one f)) ≡ cond b (End (at + 2)) (Bad (at + 1))
+      go : (b : Bool) → ltb (at + 1) (length s) ≡ b → opened (some (one f)) ≡ cond b (Ok (at + 2)) (Err (at + 1))
       go true e = let h : suc at < length s = omega (arith, ltb-true (at + 1) (length s) e) in rw (drop-cons s (suc at) (negsuc 0) h, add-two at)
       go false e = let h : length s ≤ suc at = omega (arith, ltb-false (at + 1) (length s) e) in rw (drop_of_length-le s h, add-one at)
 
   module _ (number : ℤ → Option ℕ) (fits : ℕ → Bool) (takes : Takes number fits) (f : Values → Value) (n : ℕ) (e : n ≡ tag_at s (at + 1)) where
-    opened_wrong : fits n ≡ false → opened (some (many number f)) ≡ Bad (at + 1)
+    opened_wrong : fits n ≡ false → opened (some (many number f)) ≡ Err (at + 1)
     unfolding opened meant ◌then◌ target_parts
     opened_wrong h = rw (add-one at) (counted_bad number fits takes empty ◌▸◌ part f s (suc at) n (rw (add-one at) at e) h)
 
@@ -77,31 +76,31 @@ module _ (s : List ℤ) (at t : ℕ) (e : t ≡ tag_at s at) where
   by_tag zero = rw (known_at (target_tags 0) (omega arith) s at t e)
   by_tag (suc d) = rw (known_at (target_tags (suc d)) (omega arith) s at t e)
 
-  absent : (d : ℕ) → length (target_tags d) ≤ t → value_from s d at ≡ Bad at
+  absent : (d : ℕ) → length (target_tags d) ≤ t → value_from s d at ≡ Err at
   absent d h = by_tag d ∙ rw (past (target_tags d) t h) (opened_none (part_at d) s at)
 
-  pub other : (d : ℕ) → 2 < t → value_from s d at ≡ Bad at
+  pub other : (d : ℕ) → 2 < t → value_from s d at ≡ Err at
   unfolding target_tags
   other zero h = absent zero (omega arith)
   other (suc d) h = absent (suc d) h
 
-  pub integer : (d : ℕ) → t ≡ 0 → value_from s d at ≡ cond (ltb (at + 1) (length s)) (End (at + 2)) (Bad (at + 1))
+  pub integer : (d : ℕ) → t ≡ 0 → value_from s d at ≡ cond (ltb (at + 1) (length s)) (Ok (at + 2)) (Err (at + 1))
   unfolding target_tags
   integer zero h = by_tag zero ∙ rw h (opened_one (part_at zero) s at int)
   integer (suc d) h = by_tag (suc d) ∙ rw h (opened_one (part_at (suc d)) s at int)
 
-  pub deep : (d : ℕ) → d ≡ 0 → 0 < t → value_from s d at ≡ Bad at
+  pub deep : (d : ℕ) → d ≡ 0 → 0 < t → value_from s d at ≡ Err at
   unfolding target_tags
   deep zero h k = absent zero k
   deep (suc d) h k = absurd (omega arith)
 
   -- A count, and so many elements or parts.
   module _ (n : ℕ) (q : n ≡ tag_at s (at + 1)) (d : ℕ) where
-    wrong_in : count_fits t n ≡ false → t ≡ 1 → value_from s (suc d) at ≡ Bad (at + 1)
+    wrong_in : count_fits t n ≡ false → t ≡ 1 → value_from s (suc d) at ≡ Err (at + 1)
     unfolding target_tags count_fits
     wrong_in k h = by_tag (suc d) ∙ rw h (opened_wrong (part_at (suc d)) s at at_most64 (λ n. leb n 64) at_most_takes collection n q (rw h at k))
 
-    wrong_wide : count_fits t n ≡ false → t ≡ 2 → value_from s (suc d) at ≡ Bad (at + 1)
+    wrong_wide : count_fits t n ≡ false → t ≡ 2 → value_from s (suc d) at ≡ Err (at + 1)
     unfolding target_tags count_fits
     wrong_wide k h = by_tag (suc d) ∙ rw h (opened_wrong (part_at (suc d)) s at width (λ n. within 2 n 4) width_takes tupled n q (rw h at k))
 
@@ -122,7 +121,7 @@ module _ (s : List ℤ) (at t : ℕ) (e : t ≡ tag_at s at) where
       go (suc (suc k)) a b x y = y (omega arith)
 
   module _ (n : ℕ) (q : n ≡ tag_at s (at + 1)) (a : 1 ≤ t) (b : t ≤ 2) where
-    pub wrong : (d : ℕ) → (d ≡ 0 → ⊥) → count_fits t n ≡ false → value_from s d at ≡ Bad (at + 1)
+    pub wrong : (d : ℕ) → (d ≡ 0 → ⊥) → count_fits t n ≡ false → value_from s d at ≡ Err (at + 1)
     wrong zero z k = absurd (z refl)
     wrong (suc d) z k = one_or_two _ a b (wrong_in n q d k) (wrong_wide n q d k)
 

@@ -5,23 +5,36 @@ ghost use Rattle.std.specs.Prelude.{◌≡◌, ◌-◌, ◌/◌, ◌<◌, min, l
 ghost use Rattle.rules.specs.Reading.{read_target};
 ghost use Rattle.rules.specs.Causes.{cause_of};
 ghost use Rattle.words.specs.Words.{tag_at};
-ghost use Rattle.test_target.specs.Targets.{cause_at, count_cause, count_fits, found, plain_at, plain_run, value_from, valued_from, whole_value};
+ghost use Rattle.test_target.specs.Targets.{count_cause, count_fits, fault_at, found, number_of, numbers_of, plain_at, plain_run, told, value_from, valued_from};
 
-use test_forms::{Ended, LARGEST_WIDTH, LEAST_WIDTH, between};
+use test_forms::{LARGEST_WIDTH, LEAST_WIDTH, between};
 use words::{tag_at, tag_of, target};
 
-// Where a value ends, or the place and the cause of the first word at fault.
-#[derive(Drop)]
-pub enum Valued {
-    End(usize),
-    Bad(usize, u32),
+// What is wrong with a target's words, under document 01's numbers.
+#[derive(Clone, Copy, Debug, PartialEq, Eq)]
+pub enum Cause {
+    OverLength = 1,
+    UnknownTag = 2,
+    BadCount = 3,
+    TooDeep = 4,
+    CutShort = 5,
+    LeftOver = 6,
+    BadWidth = 7,
 }
 
-// What the test finds: nothing at fault, or the place and the cause of the first word at fault.
-#[derive(Drop)]
-pub enum Found {
-    Passed,
-    Fault(usize, u32),
+impl Cause {
+    pub fn number(self) -> u32
+        ensures { result ≡ number_of self }
+    {
+        self as u32
+    }
+}
+
+// The first word at fault, and why.
+#[derive(Clone, Copy, Debug, PartialEq, Eq)]
+pub struct Fault {
+    pub place: usize,
+    pub cause: Cause,
 }
 
 // The limits of a target and of a collection.
@@ -35,22 +48,8 @@ pub const TARGET_LEVELS: u32 = 8;
 // The words of an integer.
 pub const INTEGER_WORDS: usize = 2;
 
-// The causes of a target's fault.
-pub const OVER_LENGTH: u32 = 1;
-
-pub const UNKNOWN_TAG: u32 = 2;
-
-pub const BAD_COUNT: u32 = 3;
-
-pub const TOO_DEEP: u32 = 4;
-
-pub const CUT_SHORT: u32 = 5;
-
-pub const LEFT_OVER: u32 = 6;
-
-pub const BAD_WIDTH: u32 = 7;
-
 // Whether a collection may have n elements, or a tuple n parts.
+#[tactic(auto, unfolding(crate::specs::Targets::count_fits))]
 fn count_fits(t: u32, n: u32) -> bool
     ensures { result ≡ count_fits t n }
 {
@@ -62,32 +61,36 @@ fn count_fits(t: u32, n: u32) -> bool
 }
 
 // The cause where it may not.
-fn count_cause(t: u32) -> u32
-    ensures { result ≡ count_cause t }
+#[tactic(auto, unfolding(crate::specs::Targets::count_cause, rules::specs::Causes::cause_number))]
+fn count_cause(t: u32) -> Cause
+    ensures { number_of result ≡ count_cause t }
 {
     if t == target::COLLECTION {
-        BAD_COUNT
+        Cause::BadCount
     } else {
-        BAD_WIDTH
+        Cause::BadWidth
     }
 }
 
-// The cause at an index whose word is wrong: where there is none, the words are cut short.
-fn cause_at(ts: &[i32], at: usize, wrong: u32) -> u32
-    ensures { result ≡ cause_at ts.now at wrong }
+// The fault at an index whose word is wrong: where there is none, the words are cut short.
+#[tactic(auto, unfolding(crate::specs::Targets::fault_at, crate::specs::Targets::cause_at, rules::specs::Causes::cause_number))]
+fn fault_at(ts: &[i32], place: usize, wrong: Cause) -> Fault
+    ensures { numbers_of result ≡ fault_at ts.now place (number_of wrong) }
 {
-    if at < ts.len() { wrong } else { CUT_SHORT }
+    let cause = if place < ts.len() {
+        wrong
+    } else {
+        Cause::CutShort
+    };
+    Fault { place, cause }
 }
 
 // Whether an integer stands whole at an index.
+#[tactic(auto, unfolding(crate::specs::Targets::plain_at))]
 pub fn plain_at(ts: &[i32], at: usize) -> bool
     ensures { result ≡ plain_at ts.now at }
 {
-    if tag_at(ts, at) == target::INTEGER {
-        at + 1 < ts.len()
-    } else {
-        false
-    }
+    tag_at(ts, at) == target::INTEGER && at + 1 < ts.len()
 }
 
 // The tag at an index that has a word.
@@ -103,103 +106,89 @@ pub fn most(ts: &[i32], at: usize, each: usize, n: u32) -> u32
     requires { 0 < each }
     ensures { result ≡ min n ((length ts.now - at) / each) }
 {
-    if ts.len() <= at {
-        return 0;
-    }
-    let m = (ts.len() - at) / each;
-    if (n as usize) < m { n } else { m as u32 }
+    let room = ts.len().saturating_sub(at) / each;
+    room.min(n as usize) as u32
 }
 
 // How many integers stand whole from an index on, one after the other, at most n. There are words for m, so the loop tests no length.
+// Beside test_unfit's run of pairs, not one function over a closure: each test may be asked only where its words are, which the closure's clauses would say at each call.
+#[tactic(auto, using(crate::proofs::Runs::run_rules))]
 pub fn plain_run(ts: &[i32], at: usize, n: u32) -> u32
     ensures { result ≡ plain_run ts.now n at }
 {
     let m = most(ts, at, INTEGER_WORDS, n);
-    let mut end = at;
-    let mut i: u32 = 0;
-    while i < m {
-        if tag_there(ts, end) == target::INTEGER {
-            end += INTEGER_WORDS;
-            i += 1;
-        } else {
+    for i in 0..m {
+        if tag_there(ts, at + INTEGER_WORDS * (i as usize)) != target::INTEGER {
             return i;
         }
     }
-    i
+    m
 }
 
-// The value at an index, in which so many collections or tuples may stand one inside the other.
-fn read_value(ts: &[i32], at: usize, depth: u32) -> Valued
-    ensures { result ≡ valued_from ts.now depth at }
+// The end of the value at an index, in which so many collections or tuples may stand one inside the other.
+#[tactic(auto, using(crate::proofs::Steps::own_rules))]
+fn read_value(ts: &[i32], at: usize, depth: u32) -> Result<usize, Fault>
+    ensures { told result ≡ valued_from ts.now depth at }
 {
     let t = tag_at(ts, at);
     if target::TUPLE < t {
-        return Valued::Bad(at, cause_at(ts, at, UNKNOWN_TAG));
+        return Err(fault_at(ts, at, Cause::UnknownTag));
     }
     if t == target::INTEGER {
         return if at + 1 < ts.len() {
-            Valued::End(at + INTEGER_WORDS)
+            Ok(at + INTEGER_WORDS)
         } else {
-            Valued::Bad(at + 1, CUT_SHORT)
+            Err(Fault {
+                place: at + 1,
+                cause: Cause::CutShort,
+            })
         };
     }
     if depth == 0 {
-        return Valued::Bad(at, TOO_DEEP);
+        return Err(Fault {
+            place: at,
+            cause: Cause::TooDeep,
+        });
     }
-    let mut left = tag_at(ts, at + 1);
-    if !count_fits(t, left) {
-        return Valued::Bad(at + 1, cause_at(ts, at + 1, count_cause(t)));
+    let n = tag_at(ts, at + 1);
+    if !count_fits(t, n) {
+        return Err(fault_at(ts, at + 1, count_cause(t)));
     }
     let mut e = at + 2;
-    while 0 < left {
-        if plain_at(ts, e) {
-            e += INTEGER_WORDS;
-            left -= 1;
+    for _member in 0..n {
+        e = if plain_at(ts, e) {
+            e + INTEGER_WORDS
         } else {
-            match read_value(ts, e, depth - 1) {
-                Valued::End(x) => {
-                    e = x;
-                    left -= 1;
-                }
-                Valued::Bad(p, c) => return Valued::Bad(p, c),
-            }
-        }
+            read_value(ts, e, depth - 1)?
+        };
     }
-    Valued::End(e)
+    Ok(e)
 }
 
 // Where it ends, or the place of the first word at fault.
-pub fn value_end(ts: &[i32], at: usize, depth: u32) -> Ended
+pub fn value_end(ts: &[i32], at: usize, depth: u32) -> Result<usize, usize>
     ensures { result ≡ value_from ts.now depth at }
 {
-    match read_value(ts, at, depth) {
-        Valued::End(e) => Ended::End(e),
-        Valued::Bad(i, _) => Ended::Bad(i),
-    }
+    read_value(ts, at, depth).map_err(|fault| fault.place)
 }
 
-// What the end of a value says where it is to be the whole slice: a word that is left over is at fault.
-fn whole_value(ts: &[i32], e: Valued) -> Found
-    ensures { result ≡ whole_value ts.now e }
-{
-    match e {
-        Valued::End(at) => {
-            if at < ts.len() {
-                Found::Fault(at, LEFT_OVER)
-            } else {
-                Found::Passed
-            }
-        }
-        Valued::Bad(i, c) => Found::Fault(i, c),
-    }
-}
-
-// Whether the words are one whole target.
-pub fn test_target(ts: &[i32]) -> Found
-    ensures { result ≡ found (read_target ts.now) (cause_of ts.now) }
+// Whether the words are one whole target: a word that is left over is at fault.
+#[tactic(auto, using(crate::proofs::Steps::whole_rules))]
+pub fn test_target(ts: &[i32]) -> Result<(), Fault>
+    ensures { told result ≡ found (read_target ts.now) (cause_of ts.now) }
 {
     if TARGET_WORDS < ts.len() {
-        return Found::Fault(TARGET_WORDS, OVER_LENGTH);
+        return Err(Fault {
+            place: TARGET_WORDS,
+            cause: Cause::OverLength,
+        });
     }
-    whole_value(ts, read_value(ts, 0, TARGET_LEVELS))
+    let end = read_value(ts, 0, TARGET_LEVELS)?;
+    if end < ts.len() {
+        return Err(Fault {
+            place: end,
+            cause: Cause::LeftOver,
+        });
+    }
+    Ok(())
 }

@@ -1,5 +1,5 @@
 -- The walk over a target's words finds what the rule of fit finds of the value. Assumes nothing.
-use mathlib.Core.Path.{◌≡◌, refl, sym, ◌∙◌, ap}
+use mathlib.Core.Path.{◌≡◌, refl, sym, ◌∙◌}
 use mathlib.Core.Bool.{Bool, true, false, cond}
 use mathlib.Core.List.{List, [], ◌∷◌, ◌++◌, append_assoc, append-nil}
 use Prim.Native.Nat.{ℕ, zero, suc, ◌+◌, ◌≤◌}
@@ -8,9 +8,10 @@ use borrow.Author.Tests.{le-ltb, eqb-true}
 use lib.Dec.{eqb}
 use lib.ListN.{length, drop}
 use lib.IntN.{ℤ, pos}
+use Rattle.std.specs.Prelude.{Result, Ok, Err}
 use Rattle.rules.specs.Forms.{Matcher, something, integer, list, multiset, tuple_of, Matchers, no_matchers, ◌▸ᵐ◌, countᵐ}
 use Rattle.rules.specs.Forms.{Value, int, collection, tupled, Values, empty, ◌▸◌, count, words, words_all, size, size_all}
-use Rattle.rules.specs.Reading.{Verdict, ok, fault, ◌then◌, target, read_matcher, read_target}
+use Rattle.rules.specs.Reading.{Verdict, ok, fault, ◌then◌, read_matcher, read_target}
 use Rattle.rules.specs.Variables.{demand}
 use Rattle.rules.specs.Fit.{fits_all, fits_value, fits_each}
 use Rattle.forms.specs.Written.{matcher_words, deepest, deepest_of, largest, largest_of, IsWidth, Widths, WidthsAll, Widthsᵐ, length_words}
@@ -20,10 +21,6 @@ use Rattle.test_forms.specs.Ends.{end_of, onward, within}
 use Rattle.test_fit.specs.Shapes.{width_fits}
 use Rattle.test_target.specs.Targets.{value_from}
 use Rattle.test_unfit.specs.Unfit.{opens_at, under_tag, members_of, next_member, by_members, in_each, inside_from, fit_from}
-use Rattle.test_forms.specs.declared.Ended.{Ended}
-use Rattle.test_forms.specs.declared.Ended.TheVariants.{End, Bad}
-use Rattle.test_unfit.specs.declared.Members.{Members}
-use Rattle.test_unfit.specs.declared.Members.TheVariants.{From}
 use Rattle.test_forms.proofs.After.{after}
 use Rattle.test_forms.proofs.Turns.{is_width}
 use Rattle.test_fit.proofs.shapes.Standing.{At, AtAll, tag_of, tag_drop, after_words, at_whole, at_tag, at_end, at_list, at_multiset, at_width, at_parts, at_first, at_others}
@@ -39,18 +36,18 @@ module _ (s m : List ℤ) where
 
   Fitted : Value → Type 0
   Fitted v = (k : Matcher) (i d at : ℕ) (us : List ℤ) → At m i k → Under v d at us
-      → fit_from s m d i at ≡ after Bad (fits_value k v at) (λ _. End (at + size v))
+      → fit_from s m d i at ≡ after Err (fits_value k v at) (λ _. Ok (at + size v))
 
   -- Elements under one matcher, t the tag of the list or multiset around it; and parts, each under its own.
   FittedAll : Values → Type 0
   FittedAll vs = (k : Matcher) (t i d at : ℕ) (us : List ℤ) → eqb t 4 ≡ false → At m i k → UnderAll vs d at us
-      → in_each (fit_from s m d) (next_member m t) (count vs) i at ≡ after Bad (fits_all (λ v e. fits_value k v e) vs at) (λ _. End (at + size_all vs))
+      → in_each (fit_from s m d) (next_member m t) (count vs) i at ≡ after Err (fits_all (λ v e. fits_value k v e) vs at) (λ _. Ok (at + size_all vs))
 
   FittedEach : Values → Type 0
   FittedEach vs = (ks : Matchers) (i d at : ℕ) (us : List ℤ) → countᵐ ks ≡ count vs → AtAll m i ks → UnderAll vs d at us
-      → in_each (fit_from s m d) (next_member m 4) (count vs) i at ≡ after Bad (fits_each ks vs at) (λ _. End (at + size_all vs))
+      → in_each (fit_from s m d) (next_member m 4) (count vs) i at ≡ after Err (fits_each ks vs at) (λ _. Ok (at + size_all vs))
 
-  value_at_lem : (v : Value) (d at : ℕ) (us : List ℤ) → Under v d at us → value_from s d at ≡ End (at + size v)
+  value_at_lem : (v : Value) (d at : ℕ) (us : List ℤ) → Under v d at us → value_from s d at ≡ Ok (at + size v)
   unfolding Under value_from end_of
   value_at_lem v d at us u = rw (u.0, target_complete d v (u.1, u.2, u.3) at us, length_words v)
 
@@ -67,15 +64,15 @@ module _ (s m : List ℤ) where
       unfolding inside inside_from members_of by_members
       open_parts h = rw (p, q, r, h)
 
-      no_parts : width_fits k n ≡ false → inside s m (suc d) i at ≡ Bad at
+      no_parts : width_fits k n ≡ false → inside s m (suc d) i at ≡ Err at
       unfolding inside inside_from members_of by_members
       no_parts h = rw (p, q, r, h)
 
   -- Equal widths, or unequal ones.
   by_width : (vs : Values) (ks : Matchers) (d i at : ℕ) → tag_at s (at + 1) ≡ count vs → tag_at m i ≡ 4 → tag_at m (i + 1) ≡ countᵐ ks → IsWidth (countᵐ ks)
-      → (countᵐ ks ≡ count vs → in_each (fit_from s m d) (next_member m 4) (count vs) (i + 2) (at + 2) ≡ after Bad (fits_each ks vs (at + 2)) (λ _. End (at + 2 + size_all vs)))
+      → (countᵐ ks ≡ count vs → in_each (fit_from s m d) (next_member m 4) (count vs) (i + 2) (at + 2) ≡ after Err (fits_each ks vs (at + 2)) (λ _. Ok (at + 2 + size_all vs)))
       → inside s m (suc d) i at
-      ≡ after Bad (demand {A = Unit {0}} (eqb (countᵐ ks) (count vs)) at tt then λ _. fits_each ks vs (at + 2)) (λ _. End (at + 2 + size_all vs))
+      ≡ after Err (demand {A = Unit {0}} (eqb (countᵐ ks) (count vs)) at tt then λ _. fits_each ks vs (at + 2)) (λ _. Ok (at + 2 + size_all vs))
   unfolding width_fits demand ◌then◌ after
   by_width vs ks d i at n p r w g = go (eqb (countᵐ ks) (count vs)) refl
     where
@@ -87,13 +84,13 @@ module _ (s m : List ℤ) where
       width b e = rw (is_width (countᵐ ks) w, e) (same b)
 
       go : (b : Bool) → eqb (countᵐ ks) (count vs) ≡ b → inside s m (suc d) i at
-          ≡ after Bad (demand {A = Unit {0}} b at tt then λ _. fits_each ks vs (at + 2)) (λ _. End (at + 2 + size_all vs))
+          ≡ after Err (demand {A = Unit {0}} b at tt then λ _. fits_each ks vs (at + 2)) (λ _. Ok (at + 2 + size_all vs))
       go true e = open_parts d i at (count vs) n (countᵐ ks) p r (width true e) ∙ g (eqb-true (countᵐ ks) (count vs) e)
       go false e = no_parts d i at (count vs) n (countᵐ ks) p r (width false e)
 
   -- The elements of a collection under a list or a multiset of k.
   elements : (vs : Values) → FittedAll vs → (k : Matcher) (t i d at : ℕ) (us : List ℤ) → Under (collection vs) d at us → eqb t 4 ≡ false → tag_at m i ≡ t
-      → At m (i + 1) k → inside s m d i at ≡ after Bad (fits_all (λ v e. fits_value k v e) vs (at + 2)) (λ _. End (at + size (collection vs)))
+      → At m (i + 1) k → inside s m d i at ≡ after Err (fits_all (λ v e. fits_value k v e) vs (at + 2)) (λ _. Ok (at + size (collection vs)))
   unfolding Under UnderAll FittedAll words size deepest largest Widths
   elements vs f k t i zero at us u h q a = let l = u.1 in absurd (omega arith)
   elements vs f k t i (suc d) at us u h q a =
@@ -107,7 +104,7 @@ module _ (s m : List ℤ) where
   -- The parts of a tuple under the matchers ks.
   parts : (vs : Values) → FittedEach vs → (ks : Matchers) (i d at : ℕ) (us : List ℤ) → Under (tupled vs) d at us → At m i (tuple_of ks)
       → inside s m d i at
-      ≡ after Bad (demand {A = Unit {0}} (eqb (countᵐ ks) (count vs)) at tt then λ _. fits_each ks vs (at + 2)) (λ _. End (at + size (tupled vs)))
+      ≡ after Err (demand {A = Unit {0}} (eqb (countᵐ ks) (count vs)) at tt then λ _. fits_each ks vs (at + 2)) (λ _. Ok (at + size (tupled vs)))
   unfolding Under UnderAll FittedEach words size deepest largest Widths Widthsᵐ tag_of
   parts vs f ks i zero at us u a = let l = u.1 in absurd (omega arith)
   parts vs f ks i (suc d) at us u a =
@@ -122,15 +119,15 @@ module _ (s m : List ℤ) where
 
   module _ (i d at : ℕ) (us : List ℤ) where
     -- The tags of the matcher and of the value.
-    by : (k : Matcher) → At m i k → (t : ℕ) → tag_at s at ≡ t → fit_from s m d i at ≡ under_tag (tag_of k) t (value_from s d at) (inside s m d i at) (Bad at)
+    by : (k : Matcher) → At m i k → (t : ℕ) → tag_at s at ≡ t → fit_from s m d i at ≡ under_tag (tag_of k) t (value_from s d at) (inside s m d i at) (Err at)
     by k a t e = by_tags s m d i at ∙ rw (at_tag m i k a, e)
 
     fitted_int : (x : ℤ) → Under (int x) d at us → (k : Matcher) → At m i k
-        → fit_from s m d i at ≡ after Bad (fits_value k (int x) at) (λ _. End (at + size (int x)))
+        → fit_from s m d i at ≡ after Err (fits_value k (int x) at) (λ _. Ok (at + size (int x)))
     unfolding Under words fits_value after tag_of under_tag opens_at within
     fitted_int x u k a = by k a 0 (tag_drop s at 0 at (pos 0 ∷ x ∷ us) u.0 (omega arith)) ∙ go k
       where
-        go : (k : Matcher) → under_tag (tag_of k) 0 (value_from s d at) (inside s m d i at) (Bad at) ≡ after Bad (fits_value k (int x) at) (λ _. End (at + size (int x)))
+        go : (k : Matcher) → under_tag (tag_of k) 0 (value_from s d at) (inside s m d i at) (Err at) ≡ after Err (fits_value k (int x) at) (λ _. Ok (at + size (int x)))
         go something = value_at_lem (int x) d at us u
         go integer = value_at_lem (int x) d at us u
         go (list k) = refl
@@ -138,12 +135,12 @@ module _ (s m : List ℤ) where
         go (tuple_of ks) = refl
 
     fitted_all_lem : (vs : Values) → FittedAll vs → Under (collection vs) d at us → (k : Matcher) → At m i k
-        → fit_from s m d i at ≡ after Bad (fits_value k (collection vs) at) (λ _. End (at + size (collection vs)))
+        → fit_from s m d i at ≡ after Err (fits_value k (collection vs) at) (λ _. Ok (at + size (collection vs)))
     unfolding Under words fits_value after tag_of under_tag opens_at within
     fitted_all_lem vs f u k a = by k a 1 (tag_drop s at 0 at (pos 1 ∷ pos (count vs) ∷ (words_all vs ++ us)) u.0 (omega arith)) ∙ go k a
       where
         go : (k : Matcher) → At m i k
-            → under_tag (tag_of k) 1 (value_from s d at) (inside s m d i at) (Bad at) ≡ after Bad (fits_value k (collection vs) at) (λ _. End (at + size (collection vs)))
+            → under_tag (tag_of k) 1 (value_from s d at) (inside s m d i at) (Err at) ≡ after Err (fits_value k (collection vs) at) (λ _. Ok (at + size (collection vs)))
         go something a = value_at_lem (collection vs) d at us u
         go integer a = refl
         go (list k) a = elements vs f k 2 i d at us u refl (at_tag m i (list k) a) (at_list m i k a)
@@ -151,12 +148,12 @@ module _ (s m : List ℤ) where
         go (tuple_of ks) a = refl
 
     fitted_each_lem : (vs : Values) → FittedEach vs → Under (tupled vs) d at us → (k : Matcher) → At m i k
-        → fit_from s m d i at ≡ after Bad (fits_value k (tupled vs) at) (λ _. End (at + size (tupled vs)))
+        → fit_from s m d i at ≡ after Err (fits_value k (tupled vs) at) (λ _. Ok (at + size (tupled vs)))
     unfolding Under words fits_value after tag_of under_tag opens_at within
     fitted_each_lem vs f u k a = by k a 2 (tag_drop s at 0 at (pos 2 ∷ pos (count vs) ∷ (words_all vs ++ us)) u.0 (omega arith)) ∙ go k a
       where
         go : (k : Matcher) → At m i k
-            → under_tag (tag_of k) 2 (value_from s d at) (inside s m d i at) (Bad at) ≡ after Bad (fits_value k (tupled vs) at) (λ _. End (at + size (tupled vs)))
+            → under_tag (tag_of k) 2 (value_from s d at) (inside s m d i at) (Err at) ≡ after Err (fits_value k (tupled vs) at) (λ _. Ok (at + size (tupled vs)))
         go something a = value_at_lem (tupled vs) d at us u
         go integer a = refl
         go (list k) a = refl
@@ -178,9 +175,9 @@ module _ (s m : List ℤ) where
     u.3.1,
   )
 
-  next : (v : Value) (vs : Values) (at : ℕ) (y : Verdict (Unit {0})) (f : ℕ → Ended) (r : Verdict (Unit {0}))
-      → f (at + size v) ≡ after Bad r (λ _. End (at + size v + size_all vs))
-      → onward (after Bad y (λ _. End (at + size v))) f ≡ after Bad (y then λ _. r) (λ _. End (at + (size v + size_all vs)))
+  next : (v : Value) (vs : Values) (at : ℕ) (y : Verdict (Unit {0})) (f : ℕ → Result ℕ ℕ) (r : Verdict (Unit {0}))
+      → f (at + size v) ≡ after Err r (λ _. Ok (at + size v + size_all vs))
+      → onward (after Err y (λ _. Ok (at + size v))) f ≡ after Err (y then λ _. r) (λ _. Ok (at + (size v + size_all vs)))
   unfolding after onward ◌then◌
   next v vs at (ok x) f r p = let j : at + size v + size_all vs ≡ at + (size v + size_all vs) = omega arith in rw (← j) p
   next v vs at (fault i) f r p = refl
@@ -225,7 +222,7 @@ module _ (s m : List ℤ) where
     fitted_each (v ▸ vs) = more_each v vs (λ k i d at us a u. fitted v k i d at us a u) (fitted_each vs)
 
 pub of_target_lem : (ms ts : List ℤ) (m : Matcher) (v : Value) → read_matcher ms ≡ ok m → read_target ts ≡ ok v
-    → fit_from ts ms 8 0 0 ≡ after Bad (fits_value m v 0) (λ _. End (0 + size v))
+    → fit_from ts ms 8 0 0 ≡ after Err (fits_value m v 0) (λ _. Ok (0 + size v))
 unfolding Fitted Under
 of_target_lem ms ts m v e f =
     let g = (target_read ts v).0 f in

@@ -5,74 +5,29 @@ use mathlib.Core.List.{List}
 use Prim.Native.Nat.{ℕ, zero, suc, min, ◌+◌, ◌-◌, ◌*◌, ◌/◌, ◌^◌, ◌<◌, ◌≤◌}
 use native.Mathlib.Omega.{arith}
 use borrow.Author.Rules.{rules}
-use borrow.Author.Tests.{lt-ltb, le-ltb, ltb-true, eq-eqb, ne_eqb, eqb-true}
+use borrow.Author.Tests.{ltb-true, eq-eqb, ne_eqb, eqb-true}
 use mir.Syntax.{w64}
 use mir.Val.{Fits}
 use lib.Dec.{eqb, ltb}
 use lib.ListN.{length}
 use lib.IntN.{ℤ}
+use Rattle.std.specs.Prelude.{Result, Ok}
 use Rattle.words.specs.Words.{tag_at}
 use Rattle.words.proofs.Signed as signed
 use Rattle.test_forms.specs.Ends.{onward}
 use Rattle.test_target.specs.Targets.{plain_at, run_of, plain_run}
 use Rattle.test_target.proofs.Steps.{plain_words_lem}
-use Rattle.test_target.proofs.Runs.{Passed, plain_whole, run_most, run_within, run_start, run_there, run_out, run_next, run_on, run_here}
+use Rattle.test_target.proofs.Runs.{Passed, plain_whole, run_most, run_within, run_start, run_there, run_out, run_words, run_index, run_on, run_here}
 use Rattle.test_unfit.specs.Unfit.{next_member, number_fits, is_pair, pair_fits, asks_pairs, plain_pair, pair_run, passed, fit_run, in_each, fit_from}
-use Rattle.test_forms.specs.declared.Ended.{Ended}
-use Rattle.test_forms.specs.declared.Ended.TheVariants.{End}
 use Rattle.test_unfit.specs.declared.Run.{Run}
-use Rattle.test_unfit.proofs.Steps.{holds, behind_pair, number_end, pair_end}
+use Rattle.test_unfit.proofs.Steps.{holds, number_end, pair_end}
 
 -- ---- A tuple of two integers.
-
-pub asked_deep : (m : List ℤ) (j d : ℕ) → d ≤ 1 → false ≡ asks_pairs m j d
-unfolding asks_pairs
-asked_deep m j d l = rw (le-ltb 1 d l)
-
-module _ (m : List ℤ) (j d : ℕ) (l : 1 < d) (a : Bool) (e : a ≡ is_pair m j 4) where
-  pub asked_other : a ≡ false → false ≡ asks_pairs m j d
-  unfolding asks_pairs
-  asked_other h = rw (lt-ltb 1 d l, ← e, h)
-
-  module _ (h : a ≡ true) (t : ℕ) (q : t ≡ tag_at m (j + 2)) where
-    pub asked_half : (t ≡ 1 → ⊥) → false ≡ asks_pairs m j d
-    unfolding asks_pairs
-    asked_half z = rw (lt-ltb 1 d l, ← e, h, ← q, ne_eqb t 1 z)
-
-    pub asked_both : t ≡ 1 → (u : ℕ) → u ≡ tag_at m (j + 3) → eqb u 1 ≡ asks_pairs m j d
-    unfolding asks_pairs
-    asked_both z u x = rw (lt-ltb 1 d l, ← e, h, ← q, z, x)
 
 pub behind_asked : (m : List ℤ) (j t : ℕ) → t ≡ tag_at m (j + 2) → t ≡ 1 → length m < 2 ^ 64 → Fits w64 (j + 3)
 behind_asked m j t q z l = let w = signed.within m (j + 2) t q (omega arith) in record { fits = omega arith }
 
-pub ruleset asked_rules = (asked_deep, asked_other, asked_half, asked_both, behind_pair, behind_asked, rules)
-
 -- ---- A pair of integers.
-
-kept : (c : Bool) → c ≡ cond c true false
-kept true = refl
-kept false = refl
-
-module _ (s : List ℤ) (at t : ℕ) (e : t ≡ tag_at s at) where
-  pub there_other : (t ≡ 2 → ⊥) → false ≡ plain_pair s at
-  unfolding plain_pair is_pair
-  there_other h = rw (← e, ne_eqb t 2 h)
-
-  module _ (h : t ≡ 2) (n : ℕ) (q : n ≡ tag_at s (at + 1)) where
-    pub there_wide : (n ≡ 2 → ⊥) → false ≡ plain_pair s at
-    unfolding plain_pair is_pair
-    there_wide z = rw (← e, h, ← q, ne_eqb n 2 z)
-
-    module _ (z : n ≡ 2) (a : ℕ) (x : a ≡ tag_at s (at + 2)) where
-      pub there_half : (a ≡ 0 → ⊥) → false ≡ plain_pair s at
-      unfolding plain_pair is_pair plain_at
-      there_half y = rw (← e, h, ← q, z, ← x, ne_eqb a 0 y)
-
-      pub there_both : a ≡ 0 → at + 6 ≤ length s → (b : ℕ) → b ≡ tag_at s (at + 4) → eqb b 0 ≡ plain_pair s at
-      unfolding plain_pair is_pair plain_at
-      there_both y l b w =
-          rw (← e, h, ← q, z, ← x, y, lt-ltb (at + 2 + 1) (length s) (omega arith), ← w, lt-ltb (at + 4 + 1) (length s) (omega arith)) (kept (eqb b 0))
 
 pub plain_pair_whole : (s : List ℤ) (e : ℕ) → plain_pair s e ≡ true → e + 6 ≤ length s
 unfolding plain_pair
@@ -81,24 +36,16 @@ plain_pair_whole s e h =
     let y = (plain_words_lem s (e + 4) x).1 in
     omega arith
 
-pub pair_start : (s : List ℤ) (n at m : ℕ) → m ≡ min n ((length s - at) / 6) → Passed (plain_pair s) 6 (length s) (pair_run s n at) m 0 at
+pub pair_start : (s : List ℤ) (n at m : ℕ) → m ≡ min n ((length s - at) / 6) → Passed (plain_pair s) 6 (length s) (pair_run s n at) m at 0
 unfolding pair_run
 pair_start s n at m q = run_start (plain_pair s) 6 (length s) n at m (omega arith) (plain_pair_whole s) q
 
 pub pair_seen : (s : List ℤ) (e : ℕ) (b c : Bool) → b ≡ plain_pair s e → b ≡ c → plain_pair s e ≡ c
 pair_seen s e b c q h = sym q ∙ h
 
-pub ruleset there_rules = (there_other, there_wide, there_half, there_both, rules)
-
-pub ruleset pair_run_rules = (pair_start, pair_seen, run_there, run_out, run_next, run_on, run_here, rules)
+pub ruleset pair_run_rules = (pair_start, pair_seen, run_there, run_out, run_words, run_index, run_on, run_here, rules)
 
 -- ---- Those that fit at once.
-
-pub pass_is : (at each n : ℕ) → record { members = n; end = at + each * n } ≡ passed at each n
-unfolding passed
-pass_is at each n = refl
-
-pub ruleset pass_rules = (pass_is, rules)
 
 module _ (s m : List ℤ) (at n k j d : ℕ) (r : Run) where
   pub run_tuple : k ≡ 4 → r ≡ passed at 0 0 → r ≡ fit_run s at n m k j d
@@ -148,14 +95,14 @@ by_run s m at n k j d P z f g = go (eqb k 4) refl (eqb (tag_at m j) 1) refl (ask
 -- ---- Past them.
 
 module _ (s m : List ℤ) (d k j : ℕ) where
-  abbrev rest : ℕ → ℕ → Ended
+  abbrev rest : ℕ → ℕ → Result ℕ ℕ
   rest n e = in_each (fit_from s m d) (next_member m k) n j e
 
   rest_at : {a b x y : ℕ} → a ≡ b → x ≡ y → rest a x ≡ rest b y
   rest_at p q = rw (p, q)
 
   -- Where p holds, a value of so many words fits.
-  module _ (f : k ≡ 4 → ⊥) (p : ℕ → Bool) (each : ℕ) (w : (e : ℕ) → p e ≡ true → End (e + each) ≡ fit_from s m d j e) where
+  module _ (f : k ≡ 4 → ⊥) (p : ℕ → Bool) (each : ℕ) (w : (e : ℕ) → p e ≡ true → Ok (e + each) ≡ fit_from s m d j e) where
     one_on : (n e : ℕ) → p e ≡ true → rest (suc n) e ≡ rest n (e + each)
     unfolding in_each onward next_member
     one_on n e h = rw (← w e h, ne_eqb k 4 f)
@@ -171,11 +118,11 @@ module _ (s m : List ℤ) (d k j : ℕ) where
         go false h r = rest_at (omega arith) (omega arith)
 
 -- An integer under integer, and a pair of integers under a tuple of two.
-integer_end : (s m : List ℤ) (d j : ℕ) → tag_at m j ≡ 1 → (e : ℕ) → plain_at s e ≡ true → End (e + 2) ≡ fit_from s m d j e
+integer_end : (s m : List ℤ) (d j : ℕ) → tag_at m j ≡ 1 → (e : ℕ) → plain_at s e ≡ true → Ok (e + 2) ≡ fit_from s m d j e
 unfolding number_fits
 integer_end s m d j h e p = number_end s m e j d (rw (eq-eqb (tag_at m j) 1 h) p)
 
-integers_end : (s m : List ℤ) (depth j : ℕ) → asks_pairs m j depth ≡ true → (e : ℕ) → plain_pair s e ≡ true → End (e + 6) ≡ fit_from s m (depth - 1) j e
+integers_end : (s m : List ℤ) (depth j : ℕ) → asks_pairs m j depth ≡ true → (e : ℕ) → plain_pair s e ≡ true → Ok (e + 6) ≡ fit_from s m (depth - 1) j e
 unfolding asks_pairs plain_pair pair_fits number_fits
 integers_end s m depth j h e p =
     let l = holds (ltb 1 depth) _ h in
@@ -187,12 +134,8 @@ integers_end s m depth j h e p =
     rw z (pair_end s m e j (depth - 2) (rw (a.0, u.0, b.0, v.0, b.1) v.1))
 
 module _ (s m : List ℤ) (k j n e depth : ℕ) (r : Run) (q : r ≡ fit_run s e n m k j depth) where
-  pub run_few : r.members ≤ n
-  unfolding passed plain_run pair_run
-  run_few = rw q (by_run s m e n k j depth (λ c. c.members ≤ n) (omega arith) (λ f h. run_most (plain_at s) 2 n e) (λ f h. run_most (plain_pair s) 6 n e))
-
   -- What the members give, v, is what those behind the run give.
-  pub loop_run : (v : Ended) → v ≡ in_each (fit_from s m (depth - 1)) (next_member m k) n j e
+  pub loop_run : (v : Result ℕ ℕ) → v ≡ in_each (fit_from s m (depth - 1)) (next_member m k) n j e
       → v ≡ in_each (fit_from s m (depth - 1)) (next_member m k) (n - r.members) j r.end
   unfolding passed plain_run pair_run
   loop_run v x = x ∙ rw q (by_run s m e n k j depth (λ c. rest s m (depth - 1) k j n e ≡ rest s m (depth - 1) k j (n - c.members) c.end)

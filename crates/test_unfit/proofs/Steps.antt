@@ -5,12 +5,13 @@ use mathlib.Core.List.{List}
 use Prim.Native.Nat.{ℕ, zero, suc, ◌+◌, ◌-◌, ◌*◌, ◌^◌, ◌<◌, ◌≤◌}
 use native.Mathlib.Omega.{arith}
 use borrow.Author.Rules.{rules}
-use borrow.Author.Tests.{lt-ltb, le-ltb, ltb-true, ltb-false, eq-eqb, ne_eqb, eqb-true, not-true, not-false}
+use borrow.Author.Tests.{lt-ltb, ltb-true, ltb-false, ne_eqb, eqb-true, not-true, not-false}
 use mir.Syntax.{w64}
 use mir.Val.{Fits}
 use lib.Dec.{eqb, ltb}
 use lib.ListN.{length}
 use lib.IntN.{ℤ}
+use Rattle.std.specs.Prelude.{Option, Some, None, ok_or, Result, Ok, Err}
 use Rattle.words.specs.Words.{tag_at}
 use Rattle.words.proofs.Signed as signed
 use Rattle.test_forms.specs.Ends.{onward, within}
@@ -21,28 +22,12 @@ use Rattle.test_target.specs.Targets.{plain_at, value_from}
 use Rattle.test_target.proofs.Values.{integer}
 use Rattle.test_target.proofs.Steps.{plain_words_lem}
 use Rattle.test_unfit.specs.Unfit.{opens_at, under_tag, members_of, next_member, number_fits, is_pair, pair_fits, plain_words, under_integer, by_members, in_each, inside_from, fit_from}
-use Rattle.test_forms.specs.declared.Ended.{Ended}
-use Rattle.test_forms.specs.declared.Ended.TheVariants.{End, Bad}
-use Rattle.test_unfit.specs.declared.Members.{Members}
-use Rattle.test_unfit.specs.declared.Members.TheVariants.{Unfit, From}
 use Rattle.test_forms.proofs.Turns.{width_most, next_two, depth_pos, depth_less}
 use Rattle.test_fit.proofs.shapes.Steps.{most, same_most}
 
 -- ---- The members.
 
 module _ (k t : ℕ) where
-  pub opens_tuple : k ≡ 4 → eqb t 2 ≡ opens_at k t
-  unfolding opens_at
-  opens_tuple h = rw h
-
-  pub opens_collection : (k ≡ 4 → ⊥) → (b : Bool) → b ≡ within 2 k 3 → b ≡ true → eqb t 1 ≡ opens_at k t
-  unfolding opens_at
-  opens_collection h b e q = rw (ne_eqb k 4 h, ← e, q)
-
-  pub opens_none : (k ≡ 4 → ⊥) → (b : Bool) → b ≡ within 2 k 3 → b ≡ false → false ≡ opens_at k t
-  unfolding opens_at
-  opens_none h b e q = rw (ne_eqb k 4 h, ← e, q)
-
   -- Only lists, multisets and tuples are of something, only collections and tuples have anything inside.
   opened_low : opens_at k t ≡ true → (k ≤ 4) × (t ≤ 2)
   unfolding opens_at
@@ -61,35 +46,19 @@ module _ (k t : ℕ) where
       go false e h = in_two (within 2 k 3) refl h
 
 module _ (m : List ℤ) (i k n : ℕ) where
-  pub members_wide : k ≡ 4 → (w : ℕ) → w ≡ tag_at m (i + 1) → (b : Bool) → b ≡ width_fits w n → b ≡ true → From (i + 2) ≡ members_of m i k n
-  unfolding members_of
-  members_wide h w e b q r = rw (h, ← e, ← q, r)
-
-  pub members_unequal : k ≡ 4 → (w : ℕ) → w ≡ tag_at m (i + 1) → (b : Bool) → b ≡ width_fits w n → b ≡ false → Unfit ≡ members_of m i k n
-  unfolding members_of
-  members_unequal h w e b q r = rw (h, ← e, ← q, r)
-
-  pub members_over : (k ≡ 4 → ⊥) → 64 < n → Unfit ≡ members_of m i k n
-  unfolding members_of
-  members_over h l = rw (ne_eqb k 4 h, lt-ltb 64 n l)
-
-  pub members_in : (k ≡ 4 → ⊥) → n ≤ 64 → From (i + 1) ≡ members_of m i k n
-  unfolding members_of
-  members_in h l = rw (ne_eqb k 4 h, le-ltb 64 n l)
-
-  members_most : (j : ℕ) → members_of m i k n ≡ From j → n ≤ 64
+  members_most : (j : ℕ) → members_of m i k n ≡ Some j → n ≤ 64
   unfolding members_of width_fits
   members_most j = go (eqb k 4)
     where
-      wide : (b : Bool) → cond (eqb (tag_at m (i + 1)) n) (within 2 (tag_at m (i + 1)) 4) false ≡ b → cond b (From (i + 2)) Unfit ≡ From j → n ≤ 64
+      wide : (b : Bool) → cond (eqb (tag_at m (i + 1)) n) (within 2 (tag_at m (i + 1)) 4) false ≡ b → cond b (Some (i + 2)) None ≡ Some j → n ≤ 64
       wide true e h = let l = same_most (tag_at m (i + 1)) n 2 4 e in omega arith
       wide false e h = let z : ◌≡◌ {A = ℕ} 0 1 = cc in absurd (omega arith)
 
-      many : (b : Bool) → ltb 64 n ≡ b → cond b Unfit (From (i + 1)) ≡ From j → n ≤ 64
+      many : (b : Bool) → ltb 64 n ≡ b → cond b None (Some (i + 1)) ≡ Some j → n ≤ 64
       many true e h = let z : ◌≡◌ {A = ℕ} 0 1 = cc in absurd (omega arith)
       many false e h = ltb-false 64 n e
 
-      go : (b : Bool) → cond b (cond (cond (eqb (tag_at m (i + 1)) n) (within 2 (tag_at m (i + 1)) 4) false) (From (i + 2)) Unfit) (cond (ltb 64 n) Unfit (From (i + 1))) ≡ From j → n ≤ 64
+      go : (b : Bool) → cond b (cond (cond (eqb (tag_at m (i + 1)) n) (within 2 (tag_at m (i + 1)) 4) false) (Some (i + 2)) None) (cond (ltb 64 n) None (Some (i + 1))) ≡ Some j → n ≤ 64
       go true h = wide (cond (eqb (tag_at m (i + 1)) n) (within 2 (tag_at m (i + 1)) 4) false) refl h
       go false h = many (ltb 64 n) refl h
 
@@ -110,10 +79,6 @@ plain_end m j t e l =
     end_none m (j + 1) (1 - 1 + 0) (matcher_end m j) on (omega arith)
 
 module _ (m : List ℤ) (k j : ℕ) where
-  pub next_part : k ≡ 4 → (e : ℕ) → e ≡ matcher_end m j → e ≡ next_member m k j
-  unfolding next_member
-  next_part h e q = rw h q
-
   pub next_plain : k ≡ 4 → (t : ℕ) → t ≡ tag_at m j → t < 2 → j + 1 ≡ next_member m k j
   unfolding next_member
   next_plain h t e l = rw h (plain_end m j t e l)
@@ -121,35 +86,7 @@ module _ (m : List ℤ) (k j : ℕ) where
   pub next_fits : (t : ℕ) → t ≡ tag_at m j → t < 2 → length m * 4 < 2 ^ 63 → Fits w64 (j + 1)
   next_fits t e l q = let w = signed.within m j t e (omega arith) in record { fits = omega arith }
 
-  pub next_element : (k ≡ 4 → ⊥) → j ≡ next_member m k j
-  unfolding next_member
-  next_element h = rw (ne_eqb k 4 h)
-
-pub ruleset member_rules = (opens_tuple, opens_collection, opens_none, members_wide, members_unequal, members_over, members_in, width_next_lem, next_part, next_plain, next_fits, next_element, rules)
-
 -- ---- An integer under integer.
-
-module _ (s m : List ℤ) (at j k : ℕ) (e : k ≡ tag_at m j) where
-  pub number_there : k ≡ 1 → (b : Bool) → b ≡ plain_at s at → b ≡ number_fits s at m j
-  unfolding number_fits
-  number_there h b q = rw (← e, h) q
-
-  pub number_other : (k ≡ 1 → ⊥) → false ≡ number_fits s at m j
-  unfolding number_fits
-  number_other h = rw (← e, ne_eqb k 1 h)
-
-pub ruleset number_rules = (number_there, number_other, rules)
-
-module _ (s : List ℤ) (at t d : ℕ) where
-  pub under_number : (r : Ended) → t ≡ 0 → r ≡ value_from s d at → r ≡ under_integer s at t d
-  unfolding under_integer
-  under_number r h q = q ∙ rw h
-
-  pub under_other : (t ≡ 0 → ⊥) → Bad at ≡ under_integer s at t d
-  unfolding under_integer
-  under_other h = rw (ne_eqb t 0 h)
-
-pub ruleset under_rules = (under_number, under_other, rules)
 
 number_words : (s m : List ℤ) (at j : ℕ) → number_fits s at m j ≡ true → (tag_at m j ≡ 1) × (plain_at s at ≡ true)
 unfolding number_fits
@@ -161,31 +98,31 @@ number_words s m at j = go (eqb (tag_at m j) 1) refl
 
 -- ---- A value under a matcher.
 
-unfoldable pub inside : (s m : List ℤ) (d i at : ℕ) → Ended
-inside s m zero i at = Bad at
+unfoldable pub inside : (s m : List ℤ) (d i at : ℕ) → Result ℕ ℕ
+inside s m zero i at = Err at
 inside s m (suc d) i at = inside_from s m (λ j e. fit_from s m d j e) i at
 
-pub by_tags : (s m : List ℤ) (d i at : ℕ) → fit_from s m d i at ≡ under_tag (tag_at m i) (tag_at s at) (value_from s d at) (inside s m d i at) (Bad at)
+pub by_tags : (s m : List ℤ) (d i at : ℕ) → fit_from s m d i at ≡ under_tag (tag_at m i) (tag_at s at) (value_from s d at) (inside s m d i at) (Err at)
 unfolding fit_from inside
 by_tags s m zero i at = refl
 by_tags s m (suc d) i at = refl
 
 module _ (s m : List ℤ) (i at k d : ℕ) (e : k ≡ tag_at m i) where
-  pub ret_something : (r : Ended) → k ≡ 0 → r ≡ value_from s d at → r ≡ fit_from s m d i at
+  pub ret_something : (r : Result ℕ ℕ) → k ≡ 0 → r ≡ value_from s d at → r ≡ fit_from s m d i at
   unfolding under_tag
   ret_something r h x = x ∙ sym (by_tags s m d i at ∙ rw (← e, h))
 
   module _ (t : ℕ) (q : t ≡ tag_at s at) where
-    ret_integer : (r : Ended) → k ≡ 1 → t ≡ 0 → r ≡ value_from s d at → r ≡ fit_from s m d i at
+    ret_integer : (r : Result ℕ ℕ) → k ≡ 1 → t ≡ 0 → r ≡ value_from s d at → r ≡ fit_from s m d i at
     unfolding under_tag
     ret_integer r h y x = x ∙ sym (by_tags s m d i at ∙ rw (← e, h, ← q, y))
 
-    pub ret_under : (r : Ended) → k ≡ 1 → r ≡ under_integer s at t d → r ≡ fit_from s m d i at
+    pub ret_under : (r : Result ℕ ℕ) → k ≡ 1 → r ≡ under_integer s at t d → r ≡ fit_from s m d i at
     unfolding under_tag under_integer
     ret_under r h x = x ∙ sym (by_tags s m d i at ∙ rw (← e, h, ← q))
 
     module _ (f : k ≡ 0 → ⊥) (g : k ≡ 1 → ⊥) (b : Bool) (h : b ≡ opens_at k t) where
-      pub ret_closed : not b ≡ true → Bad at ≡ fit_from s m d i at
+      pub ret_closed : not b ≡ true → Err at ≡ fit_from s m d i at
       unfolding under_tag
       ret_closed y = sym (by_tags s m d i at ∙ rw (← e, ← q, ne_eqb k 0 f, ne_eqb k 1 g, ← h, not-true b y))
 
@@ -194,45 +131,37 @@ module _ (s m : List ℤ) (i at k d : ℕ) (e : k ≡ tag_at m i) where
         unfolding under_tag
         opened = by_tags s m d i at ∙ rw (← e, ← q, ne_eqb k 0 f, ne_eqb k 1 g, ← h, not-false b y)
 
-        pub ret_deep : d ≡ 0 → Bad at ≡ fit_from s m d i at
+        pub ret_deep : d ≡ 0 → Err at ≡ fit_from s m d i at
         unfolding inside
         ret_deep z = sym (opened ∙ rw z)
 
-        module _ (z : d ≡ 0 → ⊥) (n : ℕ) (j : n ≡ tag_at s (at + 1)) (a : Members) (w : a ≡ members_of m i k n) where
-          within_it : fit_from s m d i at ≡ by_members a (Bad at) (λ j. in_each (fit_from s m (d - 1)) (next_member m k) n j (at + 2))
+        module _ (z : d ≡ 0 → ⊥) (n : ℕ) (j : n ≡ tag_at s (at + 1)) (a : Option ℕ) (w : a ≡ members_of m i k n) where
+          within_it : fit_from s m d i at ≡ by_members a (Err at) (λ j. in_each (fit_from s m (d - 1)) (next_member m k) n j (at + 2))
           unfolding inside inside_from
           within_it = opened ∙ go d z
             where
-              go : (c : ℕ) → (c ≡ 0 → ⊥) → inside s m c i at ≡ by_members a (Bad at) (λ j. in_each (fit_from s m (c - 1)) (next_member m k) n j (at + 2))
+              go : (c : ℕ) → (c ≡ 0 → ⊥) → inside s m c i at ≡ by_members a (Err at) (λ j. in_each (fit_from s m (c - 1)) (next_member m k) n j (at + 2))
               go zero x = absurd (x refl)
               go (suc c) x = let p : suc c - 1 ≡ c = omega arith in rw (p, w, ← j, ← e)
 
-          pub ret_unfit : a ≡ Unfit → Bad at ≡ fit_from s m d i at
+          pub ret_unfit : a ≡ None → Err at ≡ fit_from s m d i at
           unfolding by_members
           ret_unfit x = sym (within_it ∙ rw x)
 
-          pub loop_in : (l : ℕ) → a ≡ From l → fit_from s m d i at ≡ in_each (fit_from s m (d - 1)) (next_member m k) n l (at + 2)
+          pub loop_in : (l : ℕ) → a ≡ Some l → fit_from s m d i at ≡ in_each (fit_from s m (d - 1)) (next_member m k) n l (at + 2)
           unfolding by_members
           loop_in l x = within_it ∙ rw x
 
-pub number_end : (s m : List ℤ) (at j d : ℕ) → number_fits s at m j ≡ true → End (at + 2) ≡ fit_from s m d j at
+pub number_end : (s m : List ℤ) (at j d : ℕ) → number_fits s at m j ≡ true → Ok (at + 2) ≡ fit_from s m d j at
 number_end s m at j d h =
     let a = number_words s m at j h in
     let b = plain_words_lem s at a.1 in
-    ret_integer s m j at (tag_at m j) d refl (tag_at s at) refl (End (at + 2)) a.0 b.0 (sym (integer s at (tag_at s at) refl d b.0 ∙ rw (lt-ltb (at + 1) (length s) b.1)))
+    ret_integer s m j at (tag_at m j) d refl (tag_at s at) refl (Ok (at + 2)) a.0 b.0 (sym (integer s at (tag_at s at) refl d b.0 ∙ rw (lt-ltb (at + 1) (length s) b.1)))
 
 -- ---- A pair of integers under two integers.
 
 module _ (ws : List ℤ) (at tag t : ℕ) (e : t ≡ tag_at ws at) where
-  pub pair_other_tag : (t ≡ tag → ⊥) → false ≡ is_pair ws at tag
-  unfolding is_pair
-  pair_other_tag h = rw (← e, ne_eqb t tag h)
-
   module _ (z : t ≡ tag) where
-    pub pair_width : (n : ℕ) → n ≡ tag_at ws (at + 1) → eqb n 2 ≡ is_pair ws at tag
-    unfolding is_pair
-    pair_width n q = rw (← e, eq-eqb t tag z, q)
-
     pub pair_next : tag ≤ 4 → length ws < 2 ^ 64 → Fits w64 (at + 1)
     pair_next h l = let w = signed.within ws at t e (omega arith) in record { fits = omega arith }
 
@@ -264,56 +193,12 @@ third s m at j c q z l = let w = behind_integer s m (at + 2) (j + 2) c q z l in 
 pub fourth : (s m : List ℤ) (at j : ℕ) (c : Bool) → c ≡ number_fits s (at + 2) m (j + 2) → c ≡ true → length s < 2 ^ 64 → Fits w64 (at + 4)
 fourth s m at j c q z l = let w = behind_number s m (at + 2) (j + 2) c q z l in record { fits = omega arith }
 
-module _ (s m : List ℤ) (at j : ℕ) (a : Bool) (e : a ≡ is_pair m j 4) where
-  pub pair_not_asked : a ≡ false → false ≡ pair_fits s at m j
-  unfolding pair_fits
-  pair_not_asked h = rw (← e, h)
-
-  module _ (h : a ≡ true) (b : Bool) (d : b ≡ is_pair s at 2) where
-    pub pair_not_there : b ≡ false → false ≡ pair_fits s at m j
-    unfolding pair_fits
-    pair_not_there y = rw (← e, h, ← d, y)
-
-    module _ (y : b ≡ true) (c : Bool) (q : c ≡ number_fits s (at + 2) m (j + 2)) where
-      pub pair_half : c ≡ false → false ≡ pair_fits s at m j
-      unfolding pair_fits
-      pair_half z = rw (← e, h, ← d, y, ← q, z)
-
-      pub pair_whole : c ≡ true → (r : Bool) → r ≡ number_fits s (at + 4) m (j + 3) → r ≡ pair_fits s at m j
-      unfolding pair_fits
-      pair_whole z r x = rw (← e, h, ← d, y, ← q, z) x
-
-module _ (s m : List ℤ) (at j d : ℕ) (b : Bool) (e : b ≡ number_fits s at m j) where
-  pub plain_two : b ≡ true → 2 ≡ plain_words s at m j d
-  unfolding plain_words
-  plain_two h = rw (← e, h)
-
-  module _ (h : b ≡ false) where
-    pub plain_deep : d ≤ 1 → 0 ≡ plain_words s at m j d
-    unfolding plain_words
-    plain_deep l = rw (← e, h, le-ltb 1 d l)
-
-    module _ (l : 1 < d) (c : Bool) (q : c ≡ pair_fits s at m j) where
-      pub plain_six : c ≡ true → 6 ≡ plain_words s at m j d
-      unfolding plain_words
-      plain_six z = rw (← e, h, lt-ltb 1 d l, ← q, z)
-
-      pub plain_none : c ≡ false → 0 ≡ plain_words s at m j d
-      unfolding plain_words
-      plain_none z = rw (← e, h, lt-ltb 1 d l, ← q, z)
-
-pub ruleset is_pair_rules = (pair_other_tag, pair_width, pair_next, rules)
-
-pub ruleset pair_rules = (pair_not_asked, pair_not_there, pair_half, pair_whole, behind_pair, third, fourth, rules)
-
-pub ruleset plain_rules = (plain_two, plain_six, plain_none, plain_deep, rules)
-
 pair_second : (s m : List ℤ) (at j : ℕ) → pair_fits s at m j ≡ true → number_fits s (at + 4) m (j + 3) ≡ true
 unfolding pair_fits
 pair_second s m at j h = (holds (number_fits s (at + 2) m (j + 2)) _ (holds (is_pair s at 2) _ (holds (is_pair m j 4) _ h).1).1).1
 
 -- Its value, where a depth is left.
-pub pair_end : (s m : List ℤ) (at j d : ℕ) → pair_fits s at m j ≡ true → End (at + 6) ≡ fit_from s m (suc d) j at
+pub pair_end : (s m : List ℤ) (at j d : ℕ) → pair_fits s at m j ≡ true → Ok (at + 6) ≡ fit_from s m (suc d) j at
 unfolding pair_fits in_each onward next_member opens_at members_of width_fits within
 pair_end s m at j d h =
     let a = holds (is_pair m j 4) _ h in
@@ -326,9 +211,9 @@ pair_end s m at j d h =
     let next : j + 3 ≡ matcher_end m (j + 2) = ap (λ (c : ℕ). c) (omega (arith, plain_end m (j + 2) (tag_at m (j + 2)) refl (omega (arith, (number_words s m (at + 2) (j + 2) b.0).0)))) in
     let x : at + 2 + 2 ≡ at + 4 = omega arith in
     let y : at + 4 + 2 ≡ at + 6 = omega arith in
-    let inner : in_each (fit_from s m d) (next_member m 4) 2 (j + 2) (at + 2) ≡ End (at + 6) = rw (← first, x, ← next, ← second, y) in
+    let inner : in_each (fit_from s m d) (next_member m 4) 2 (j + 2) (at + 2) ≡ Ok (at + 6) = rw (← first, x, ← next, ← second, y) in
     let less : suc d - 1 ≡ d = omega arith in
-    sym (loop_in s m j at 4 (suc d) (sym tuple.0) 2 (sym pair.0) (λ z. absurd (omega arith)) (λ z. absurd (omega arith)) true refl refl (λ z. absurd (omega arith)) 2 (sym pair.1) (From (j + 2))
+    sym (loop_in s m j at 4 (suc d) (sym tuple.0) 2 (sym pair.0) (λ z. absurd (omega arith)) (λ z. absurd (omega arith)) true refl refl (λ z. absurd (omega arith)) 2 (sym pair.1) (Some (j + 2))
     (rw tuple.1) (j + 2) refl ∙ rw less inner)
 
 plain_within : (s m : List ℤ) (at j d : ℕ) → 0 < plain_words s at m j d → length s < 2 ^ 64 → at + plain_words s at m j d < 2 ^ 64
@@ -343,48 +228,49 @@ plain_within s m at j d = go (number_fits s at m j) refl (ltb 1 d) (pair_fits s 
     go false p false c u h l = absurd (omega arith)
 
 -- What fits at once.
-plain_ends : (s m : List ℤ) (at j d : ℕ) → 0 < plain_words s at m j d → (0 < d) → End (at + plain_words s at m j d) ≡ fit_from s m (d - 1) j at
+plain_ends : (s m : List ℤ) (at j d : ℕ) → 0 < plain_words s at m j d → (0 < d) → Ok (at + plain_words s at m j d) ≡ fit_from s m (d - 1) j at
 unfolding plain_words
 plain_ends s m at j d = go (number_fits s at m j) refl (ltb 1 d) refl (pair_fits s at m j) refl
   where
     go : (a : Bool) → number_fits s at m j ≡ a → (b : Bool) → ltb 1 d ≡ b → (c : Bool) → pair_fits s at m j ≡ c → 0 < cond a 2 (cond b (cond c 6 0) 0) → 0 < d
-        → End (at + cond a 2 (cond b (cond c 6 0) 0)) ≡ fit_from s m (d - 1) j at
+        → Ok (at + cond a 2 (cond b (cond c 6 0) 0)) ≡ fit_from s m (d - 1) j at
     go true p b q c u h l = number_end s m at j (d - 1) p
     go false p true q true u h l = let v = ltb-true 1 d q in let z : d - 1 ≡ suc (d - 2) = omega arith in rw z (pair_end s m at j (d - 2) u)
     go false p true q false u h l = absurd (omega arith)
     go false p false q c u h l = absurd (omega arith)
 
--- ---- The elements or parts; v is what they are to give.
+-- What `ok_or` handed on.
+pub told_some : (o : Option ℕ) (i : ℕ) (r : Result ℕ ℕ) → r ≡ ok_or o i → (x : ℕ) → r ≡ Ok x → o ≡ Some x
+told_some None i r e x w = cc
+told_some (Some y) i r e x w = cc
 
-module _ (s m : List ℤ) (d k n j e : ℕ) (v : Ended) (x : v ≡ in_each (fit_from s m d) (next_member m k) n j e) where
-  pub loop_out : n ≤ 0 → End e ≡ v
+-- ---- The elements or parts; v is what those from the i-th on are to give.
+
+module _ (s m : List ℤ) (d k n i j e : ℕ) (v : Result ℕ ℕ) (x : v ≡ in_each (fit_from s m d) (next_member m k) (n - i) j e) where
+  pub loop_out : n ≤ i → Ok e ≡ v
   unfolding in_each
-  loop_out h = let z : n ≡ 0 = omega arith in sym (x ∙ rw z)
+  loop_out h = let z : n - i ≡ 0 = omega arith in sym (x ∙ rw z)
 
-  each_on : 0 < n → (r : Ended) → r ≡ fit_from s m d j e → v ≡ onward r (in_each (fit_from s m d) (next_member m k) (n - 1) (next_member m k j))
-  unfolding in_each
-  each_on h r q = x ∙ rw q (go n h)
-    where
-      go : (c : ℕ) → 0 < c
-          → in_each (fit_from s m d) (next_member m k) c j e ≡ onward (fit_from s m d j e) (in_each (fit_from s m d) (next_member m k) (c - 1) (next_member m k j))
-      go zero l = absurd (omega arith)
-      go (suc c) l = let p : suc c - 1 ≡ c = omega arith in rw p
+  module _ (h : i < n) where
+    each_on : v ≡ onward (fit_from s m d j e) (in_each (fit_from s m d) (next_member m k) (n - (i + 1)) (next_member m k j))
+    unfolding in_each
+    each_on = x ∙ (let z : n - i ≡ suc (n - (i + 1)) = omega arith in rw z)
 
-  pub loop_turn : 0 < n → (r : Ended) → r ≡ fit_from s m d j e → (y : ℕ) → r ≡ End y → (l : ℕ) → l ≡ next_member m k j
-      → v ≡ in_each (fit_from s m d) (next_member m k) (n - 1) l y
-  unfolding onward
-  loop_turn h r q y w l z = each_on h r q ∙ rw (w, z)
+    pub loop_turn : (r : Result ℕ ℕ) → r ≡ fit_from s m d j e → (y : ℕ) → r ≡ Ok y → (l : ℕ) → l ≡ next_member m k j
+        → v ≡ in_each (fit_from s m d) (next_member m k) (n - (i + 1)) l y
+    unfolding onward
+    loop_turn r q y w l z = each_on ∙ rw (← q, w, z)
 
-  pub loop_plain : 0 < n → (c : ℕ) → d ≡ c - 1 → (c ≡ 0 → ⊥) → (w : ℕ) → w ≡ plain_words s e m j c → 0 < w → (l : ℕ) → l ≡ next_member m k j
-      → v ≡ in_each (fit_from s m d) (next_member m k) (n - 1) l (e + w)
-  loop_plain h c p z w q y l r =
-      let x = plain_ends s m e j c (rw (← q) y) (omega arith) in
-      let u : End (e + w) ≡ fit_from s m d j e = rw (q, p) x in
-      loop_turn h (End (e + w)) u (e + w) refl l r
+    pub loop_plain : (c : ℕ) → d ≡ c - 1 → (c ≡ 0 → ⊥) → (w : ℕ) → w ≡ plain_words s e m j c → 0 < w → (l : ℕ) → l ≡ next_member m k j
+        → v ≡ in_each (fit_from s m d) (next_member m k) (n - (i + 1)) l (e + w)
+    loop_plain c p z w q y l r =
+        let t = plain_ends s m e j c (rw (← q) y) (omega arith) in
+        let u : Ok (e + w) ≡ fit_from s m d j e = rw (q, p) t in
+        loop_turn (Ok (e + w)) u (e + w) refl l r
 
-  pub loop_bad : 0 < n → (r : Ended) → r ≡ fit_from s m d j e → (p : ℕ) → r ≡ Bad p → Bad p ≡ v
-  unfolding onward
-  loop_bad h r q p w = sym (each_on h r q ∙ rw w)
+    pub loop_bad : (r : Result ℕ ℕ) → r ≡ fit_from s m d j e → (p : ℕ) → r ≡ Err p → Err p ≡ v
+    unfolding onward
+    loop_bad r q p w = sym (each_on ∙ rw (← q, w))
 
 -- ---- Bounds.
 
@@ -401,7 +287,7 @@ module _ (k t : ℕ) (b : Bool) (h : b ≡ opens_at k t) (y : not b ≡ false) w
       let x = signed.within s at t e (omega arith) in
       record { fits = omega arith }
 
-pub next_2 : (s m : List ℤ) (at i k n j : ℕ) → n ≡ tag_at s (at + 1) → (a : Members) → a ≡ members_of m i k n → a ≡ From j → length s < 2 ^ 64 → Fits w64 (at + 2)
+pub next_2 : (s m : List ℤ) (at i k n j : ℕ) → n ≡ tag_at s (at + 1) → (a : Option ℕ) → a ≡ members_of m i k n → a ≡ Some j → length s < 2 ^ 64 → Fits w64 (at + 2)
 next_2 s m at i k n j e a w x l = let o = members_most m i k n j (sym w ∙ x) in next_two s at n e (omega arith) l
 
 pub plain_next : (s m : List ℤ) (e j d w : ℕ) → w ≡ plain_words s e m j d → 0 < w → length s < 2 ^ 64 → Fits w64 (e + w)

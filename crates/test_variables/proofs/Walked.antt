@@ -1,7 +1,7 @@
 -- Walking a pattern's words finds what the rule on variables finds of the pattern. Assumes nothing.
 use mathlib.Core.Path.{◌≡◌, refl, sym, ◌∙◌, ap}
 use mathlib.Core.Bool.{Bool, true, false, ◌&&◌}
-use mathlib.Core.List.{List, [], ◌∷◌, ◌++◌, append_assoc, append-nil}
+use mathlib.Core.List.{List, [], ◌++◌, append_assoc, append-nil}
 use Prim.Native.Nat.{ℕ, suc, ◌+◌}
 use native.Mathlib.Numerals.{add-one, add-two}
 use native.Mathlib.Omega.{arith}
@@ -20,10 +20,7 @@ use Rattle.test_forms.specs.Ends.{within}
 use Rattle.test_forms.specs.Table.{row_of, by_row}
 use Rattle.test_forms.specs.Patterns.{width_in}
 use Rattle.test_variables.specs.Variables.{counted, allowed_at, and_next, inside_after, vars_p, vars_of}
-use Rattle.test_forms.specs.declared.Tested.{Tested}
-use Rattle.test_forms.specs.declared.Tested.TheVariants as tests
-use Rattle.test_variables.specs.declared.Counted.{Counted}
-use Rattle.test_variables.specs.declared.Counted.TheVariants.{Number, Fault}
+use Rattle.std.specs.Prelude.{Result, Ok, Err}
 use Rattle.test_forms.proofs.After.{after, after_then, after_same, after_demand}
 use Rattle.test_forms.proofs.Turns.{is_width}
 
@@ -70,23 +67,23 @@ opens false t b e h = let z : e + b ≡ b + (0 + e) = omega arith in rw (add_one
 
 Follows : Pattern → Bool → Type 0
 Follows a may = (e n p : ℕ) (ws : List ℤ)
-    → vars_p 0 n (deep may 1 e) p (pattern_words a ++ ws) ≡ after Fault (variables a may p n) (λ k. vars_p 0 k (deep may 0 e) (p + span a) ws)
+    → vars_p 0 n (deep may 1 e) p (pattern_words a ++ ws) ≡ after Err (variables a may p n) (λ k. vars_p 0 k (deep may 0 e) (p + span a) ws)
 
 -- The two parts of a cons, a join, an and or an or.
 two : (a b : Pattern) (may : Bool) → Follows a may → Follows b may → (e n p : ℕ) (ws : List ℤ)
     → vars_p 0 n (deep may 2 e) (suc p) ((pattern_words a ++ pattern_words b) ++ ws)
-    ≡ after Fault (variables a may (p + 1) n then λ k. variables b may (p + 1 + span a) k) (λ i. vars_p 0 i (deep may 0 e) (p + (1 + span a + span b)) ws)
+    ≡ after Err (variables a may (p + 1) n then λ k. variables b may (p + 1 + span a) k) (λ i. vars_p 0 i (deep may 0 e) (p + (1 + span a + span b)) ws)
 unfolding Follows
 two a b may f g e n p ws =
     let z : p + 1 + span a + span b ≡ p + (1 + span a + span b) = omega arith in
-    rw (append_assoc (pattern_words a) (pattern_words b) ws, ← add-one p, after_then Fault (variables a may (p + 1) n), deep_first may 1 e)
+    rw (append_assoc (pattern_words a) (pattern_words b) ws, ← add-one p, after_then Err (variables a may (p + 1) n), deep_first may 1 e)
     (f (1 + e) n (p + 1) (pattern_words b ++ ws)
-    ∙ after_same Fault (variables a may (p + 1) n) _ _ (λ k. rw (← z, deep_rest may 1 e) (g e k (p + 1 + span a) ws)))
+    ∙ after_same Err (variables a may (p + 1) n) _ _ (λ k. rw (← z, deep_rest may 1 e) (g e k (p + 1 + span a) ws)))
 
 -- The part of a not.
 one : (a : Pattern) → Follows a false → (e n p : ℕ) (ws : List ℤ)
     → vars_p 0 n (deep false 1 e) (suc p) (pattern_words a ++ ws)
-    ≡ after Fault (variables a false (p + 1) n) (λ i. vars_p 0 i e (p + (1 + span a)) ws)
+    ≡ after Err (variables a false (p + 1) n) (λ i. vars_p 0 i e (p + (1 + span a)) ws)
 unfolding Follows
 one a f e n p ws =
     let z : p + 1 + span a ≡ p + (1 + span a) = omega arith in
@@ -96,7 +93,7 @@ one a f e n p ws =
 FollowsAll : Patterns → Bool → Type 0
 FollowsAll ps may = (e n p : ℕ) (ws : List ℤ)
     → vars_p 0 n (deep may (countᵖ ps) e) p (pattern_words_all ps ++ ws)
-    ≡ after Fault (variables_all ps may p n) (λ k. vars_p 0 k (deep may 0 e) (p + span_all ps) ws)
+    ≡ after Err (variables_all ps may p n) (λ k. vars_p 0 k (deep may 0 e) (p + span_all ps) ws)
 
 mutual
   unfolding Follows FollowsAll vars_p pattern_words Widthsᵖ variables span countᵖ after row_of by_row pattern_tags allowed_at and_next width_in
@@ -106,11 +103,11 @@ mutual
   walked nil w may e n p ws = rw (passes may 4 0 e refl, add-one p)
   walked (variable v) w may e n p ws =
       rw (passes may 1 0 e refl, deep_may may e, ← add-two p)
-      (after_demand Fault (may && is_next v n) p (suc n) (λ k. vars_p 0 k (deep may 0 e) (p + 2) ws))
+      (after_demand Err (may && is_next v n) p (suc n) (λ k. vars_p 0 k (deep may 0 e) (p + 2) ws))
   walked (constant c) w may e n p ws = rw (passes may 2 0 e refl, add-two p)
   walked (value v c) w may e n p ws =
       let z : suc (suc (suc p)) ≡ p + 3 = omega arith in
-      rw (passes may 3 0 e refl, z) (after_demand Fault (is_left v n) p n (λ k. vars_p 0 k (deep may 0 e) (p + 3) ws))
+      rw (passes may 3 0 e refl, z) (after_demand Err (is_left v n) p n (λ k. vars_p 0 k (deep may 0 e) (p + 3) ws))
   walked (cons a b) w may e n p ws =
       ap (λ (d : ℕ). vars_p 0 n d (suc p) ((pattern_words a ++ pattern_words b) ++ ws)) (passes may 5 2 e refl)
       ∙ two a b may (walked a w.0 may) (walked b w.1 may) e n p ws
@@ -134,11 +131,11 @@ mutual
   walked_all no_patterns w may e n p ws = let z : p + 0 ≡ p = omega arith in rw z
   walked_all (a ▸ᵖ ps) w may e n p ws =
       let z : p + (span a + span_all ps) ≡ p + span a + span_all ps = omega arith in
-      rw (append_assoc (pattern_words a) (pattern_words_all ps) ws, z, after_then Fault (variables a may p n), deep_first may (countᵖ ps) e)
+      rw (append_assoc (pattern_words a) (pattern_words_all ps) ws, z, after_then Err (variables a may p n), deep_first may (countᵖ ps) e)
       (walked a w.0 may (countᵖ ps + e) n p (pattern_words_all ps ++ ws)
-      ∙ after_same Fault (variables a may p n) _ _ (λ k. rw (deep_rest may (countᵖ ps) e) (walked_all ps w.1 may e k (p + span a) ws)))
+      ∙ after_same Err (variables a may p n) _ _ (λ k. rw (deep_rest may (countᵖ ps) e) (walked_all ps w.1 may e k (p + span a) ws)))
 
-at_end : (x : Verdict ℕ) → after Fault x (λ k. Number k) ≡ counted x
+at_end : (x : Verdict ℕ) → after Err x (λ k. Ok k) ≡ counted x
 unfolding after counted
 at_end (ok k) = refl
 at_end (fault i) = refl
@@ -151,21 +148,21 @@ of_pattern s a e =
 
 -- ---- The whole test, as the code asks it.
 
-module _ (s : List ℤ) (v : Tested) (e : v ≡ tested (read_pattern s)) where
-  pub ret_passed : v ≡ tests.Passed → (r : Counted) → r ≡ vars_of s → r ≡ counted (read_pattern s then λ p. variables p true 0 0)
+module _ (s : List ℤ) (v : Result (Unit {0}) ℕ) (e : v ≡ tested (read_pattern s)) where
+  pub ret_passed : (u : Unit {0}) → v ≡ Ok u → (r : Result ℕ ℕ) → r ≡ vars_of s → r ≡ counted (read_pattern s then λ p. variables p true 0 0)
   unfolding tested ◌then◌
-  ret_passed f r x = go (read_pattern s) refl (sym f ∙ e)
+  ret_passed u f r x = go (read_pattern s) refl (sym f ∙ e)
     where
-      go : (y : Verdict Pattern) → read_pattern s ≡ y → tests.Passed ≡ tested y → r ≡ counted (y then λ p. variables p true 0 0)
+      go : (y : Verdict Pattern) → read_pattern s ≡ y → Ok u ≡ tested y → r ≡ counted (y then λ p. variables p true 0 0)
       go (ok a) g h = x ∙ of_pattern s a g
       go (fault i) g h = let z : ◌≡◌ {A = ℕ} 0 1 = cc in absurd (omega arith)
 
-  pub ret_fault : (i : ℕ) → v ≡ tests.Fault i → Fault i ≡ counted (read_pattern s then λ p. variables p true 0 0)
+  pub ret_fault : (i : ℕ) → v ≡ Err i → Err i ≡ counted (read_pattern s then λ p. variables p true 0 0)
   unfolding tested ◌then◌ counted
   ret_fault i f = go (read_pattern s) (sym f ∙ e)
     where
-      go : (y : Verdict Pattern) → tests.Fault i ≡ tested y → Fault i ≡ counted (y then λ p. variables p true 0 0)
+      go : (y : Verdict Pattern) → Err i ≡ tested y → Err i ≡ counted (y then λ p. variables p true 0 0)
       go (ok a) h = let z : ◌≡◌ {A = ℕ} 0 1 = cc in absurd (omega arith)
-      go (fault j) h = let q : i ≡ j = cc in ap Fault q
+      go (fault j) h = let q : i ≡ j = cc in ap Err q
 
 pub ruleset own_rules = (ret_passed, ret_fault, rules)

@@ -1,2 +1,3 @@
--- What the proofs of the ordered tests use.
+-- What the proofs of the ordered tests use, and what an answer says to the crates above.
 pub mod Laws
+pub mod Told

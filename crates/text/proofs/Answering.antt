@@ -1,6 +1,6 @@
 -- From the input to what is printed, as the code asks. Assumes nothing.
 use mathlib.Core.Path.{◌≡◌, refl, sym, ◌∙◌, ap}
-use mathlib.Core.Option.{Option, none, some}
+use Rattle.std.specs.Prelude.{Some, None}
 use mathlib.Core.List.{List, [], ◌∷◌, ◌++◌}
 use Prim.Native.Nat.{ℕ, zero, suc, ◌+◌, ◌-◌, ◌*◌, ◌<◌, ◌≤◌}
 use native.Mathlib.Omega.{arith}
@@ -17,16 +17,11 @@ use Rattle.services.specs.Matches.{told}
 use Rattle.services.specs.declared.matching.Matched.{Matched}
 use Rattle.text_print.specs.Decimal.{line_of}
 use Rattle.text_print.specs.Rows.{cut_rows, empty_rows, lines}
-use Rattle.text_ask.specs.Question.{Question, asked}
+use Rattle.text_ask.specs.Question.{asked}
 use Rattle.text.specs.Printed.{variables_of, first_line, report, matched, answer_to, printed, empty_report, empty_to, empty_lines}
-use Rattle.text_ask.specs.Meaning.{of_asked, Few}
 use Rattle.text_print.specs.Meaning.{unreadable, Text, six_line}
-use Rattle.text.specs.Meaning.{zero_words, Answer}
+use Rattle.text.specs.Meaning.{Answer}
 use Rattle.text_print.specs.declared.rows.Rest.{Rest}
-use Rattle.text_ask.specs.declared.question.Asked.{Asked}
-use Rattle.text_ask.specs.declared.question.Asked.TheVariants as Asked
-use Rattle.text.specs.declared.Printed.{Printed}
-use Rattle.text.specs.declared.Printed.TheVariants as Printed
 
 -- No more words are written than the room has: what was written and what is left of the room are as long as the room.
 WordsIn : List ℤ → paper.Matched → Type 0
@@ -87,93 +82,18 @@ pub ruleset answered_rules = (so_many, counted, few_words, as_report, as_empty, 
 
 -- ---- The whole way.
 
-pub too_short : (input old : List ℕ) → length old < 98304 → Answer input old old Printed.Short
-unfolding Answer
-too_short input old h = (h, refl)
-
-module _ (r : Asked) (f : Few r) (a b c d e : ℕ) (q : r ≡ Asked.Of a b c d e) where
-  each : (a ≤ 2000) × (b ≤ 2000) × (c ≤ 2000) × (e ≤ 4096)
-  unfolding Few
-  each = rw q at f
-
-  module _ (n k : ℕ) (h : n ≡ k) (o : 2000 ≡ k) where
-    pub matcher_in_lem : a ≤ n
-    matcher_in_lem = let x = each.0 in omega arith
-
-    pub pattern_in_lem : b ≤ n
-    pattern_in_lem = let x = each.1 in omega arith
-
-    pub target_in_lem : c ≤ n
-    target_in_lem = let x = each.2 in omega arith
-
-  module _ (l : List ℤ) (k : ℕ) (h : length l ≡ k) (o : 2000 ≡ k) where
-    pub matcher_count : a ≡ length (take a l)
-    matcher_count = sym (length-take-le a l (matcher_in_lem (length l) k h o))
-
-    pub pattern_count : b ≡ length (take b l)
-    pattern_count = sym (length-take-le b l (pattern_in_lem (length l) k h o))
-
-    pub target_count : c ≡ length (take c l)
-    target_count = sym (length-take-le c l (target_in_lem (length l) k h o))
-
-  module _ (l : List ℤ) (z : l ≡ zero_words 4096) where
-    long : length l ≡ 4096
-    unfolding zero_words
-    long = ap length z ∙ length-replicate 4096 (pos 0)
-
-    pub room_in : e ≤ length l
-    room_in = let x = each.3 in let y = long in omega arith
-
-    pub room_count : e ≡ length (take e l)
-    room_count = sym (length-take-le e l room_in)
-
-    pub room_few : length (take e l) ≤ 4096
-    room_few = let x = each.3 in let y = room_count in omega arith
-
-zeros_taken : (n k : ℕ) → n ≤ k → take n (zero_words k) ≡ zero_words n
-unfolding zero_words
+pub zeros_taken : (n k : ℕ) → n ≤ k → take n (replicate k (pos 0)) ≡ replicate n (pos 0)
 zeros_taken zero k h = refl
 zeros_taken (suc n) zero h = absurd (omega arith)
 zeros_taken (suc n) (suc k) h = ap (λ (l : List ℤ). pos 0 ∷ l) (zeros_taken n k (omega arith))
 
--- What is printed, and where it stands.
-stands : (input old new : List ℕ) (rest : Rest) (x : Printed) → 98304 ≤ length old → x ≡ Printed.Text rest.at rest.lines
-    → rest.lines ≡ empty_lines input → Text old new rest (printed input) → Answer input old new x
-unfolding Answer
-stands input old new rest x h e l t = rw e (h, l, t)
+module _ (input old new : List ℕ) (r : Rest) (h : 98304 ≤ length old) where
+  pub not_read : None ≡ asked input → r.lines ≡ 0 → Text old new r unreadable → Answer input old new (Some r)
+  unfolding Answer printed answer_to empty_lines empty_to
+  not_read e l t = (h, rw (← e) l, rw (← e) t)
 
-asking : (ms ps ts : List ℤ) (budget room : ℕ) → Question
-asking ms ps ts budget room = record { matcher = ms; pattern = ps; target = ts; limits = record { budget = budget; room = room } }
-
-was_asked : (r : Asked) (m p t : List ℤ) (a b c d e : ℕ) → r ≡ Asked.Of a b c d e → of_asked r m p t ≡ some (asking (take a m) (take b p) (take c t) d e)
-unfolding of_asked asking
-was_asked r m p t a b c d e o = rw o
-
-answers_to : (input : List ℕ) (ms ps ts : List ℤ) (budget room : ℕ) → asked input ≡ some (asking ms ps ts budget room)
-    → printed input ≡ report (variables_of ps) (match ms ps ts budget (zero_words room))
-unfolding printed answer_to matched zero_words asking
-answers_to input ms ps ts budget room e = rw e
-
-empty_to_lem : (input : List ℕ) (ms ps ts : List ℤ) (budget room : ℕ) → asked input ≡ some (asking ms ps ts budget room)
-    → empty_lines input ≡ empty_report (variables_of ps) (match ms ps ts budget (zero_words room))
-unfolding empty_lines empty_to matched zero_words asking
-empty_to_lem input ms ps ts budget room e = rw e
-
-module _ (input old new : List ℕ) (rest : Rest) (x : Printed) (h : 98304 ≤ length old) (y : x ≡ Printed.Text rest.at rest.lines)
-    (r : Asked) (m p t : List ℤ) (q : of_asked r m p t ≡ asked input) where
-  pub not_read : r ≡ Asked.Other → Text old new rest unreadable → rest.lines ≡ 0 → Answer input old new x
-  unfolding of_asked printed answer_to empty_lines empty_to
-  not_read e w l = stands input old new rest x h y (rw (← q, e) l) (rw (← q, e) w)
-
-  pub was_read : (a b c d e : ℕ) (room : List ℤ) → r ≡ Asked.Of a b c d e → Few r → room ≡ zero_words 4096
-      → Text old new rest (report (variables_of (take b p)) (match (take a m) (take b p) (take c t) d (take e room)))
-      → rest.lines ≡ empty_report (variables_of (take b p)) (match (take a m) (take b p) (take c t) d (take e room))
-      → Answer input old new x
-  was_read a b c d e room o f z w l =
-      let k = (each r f a b c d e o).3 in
-      let i = sym q ∙ was_asked r m p t a b c d e o in
-      let n = answers_to input (take a m) (take b p) (take c t) d e i in
-      let j = empty_to_lem input (take a m) (take b p) (take c t) d e i in
-      stands input old new rest x h y (rw (j, ← zeros_taken e 4096 k, ← z) l) (rw (n, ← zeros_taken e 4096 k, ← z) w)
-
-pub ruleset answer_rules = (too_short, matcher_in_lem, pattern_in_lem, target_in_lem, matcher_count, pattern_count, target_count, room_in, room_count, room_few, not_read, was_read, rules)
+  pub was_read : (ms ps ts : List ℤ) (budget room : ℕ) (ws : List ℤ) → Some (record { matcher = ms; pattern = ps; target = ts; limits = record { budget = budget; room = room } }) ≡ asked input
+      → ws ≡ replicate room (pos 0) → r.lines ≡ empty_report (variables_of ps) (match ms ps ts budget ws) → Text old new r (report (variables_of ps) (match ms ps ts budget ws))
+      → Answer input old new (Some r)
+  unfolding Answer printed answer_to empty_lines empty_to matched
+  was_read ms ps ts budget room ws e z l t = (h, rw (← e, ← z) l, rw (← e, ← z) t)

@@ -1,6 +1,5 @@
 -- Document 01, section 9: what the trial program prints, as a function of its input.
-use Rattle.std.specs.Prelude.{ℕ, true, List, [], ◌∷◌, ◌++◌, take, replicate, ℤ, pos}
-use Rattle.std.proofs.Math.Option.{Option, none, some}
+use Rattle.std.specs.Prelude.{ℕ, true, List, [], ◌∷◌, ◌++◌, take, replicate, ℤ, pos, Option, Some, None}
 use Rattle.rules.specs.Reading.{Verdict, ok, fault, ◌then◌, read_pattern}
 use Rattle.rules.specs.Variables.{variables}
 use Rattle.rules.specs.Services.{Matched, match}
@@ -35,8 +34,8 @@ matched q = match q.matcher q.pattern q.target q.limits.budget (replicate q.limi
 
 unfoldable pub answer_to : Option Question → List ℕ
 unfolding report variables_of matched
-answer_to none = unreadable
-answer_to (some q) = report (variables_of q.pattern) (matched q)
+answer_to None = unreadable
+answer_to (Some q) = report (variables_of q.pattern) (matched q)
 
 unfoldable pub printed : List ℕ → List ℕ
 unfolding asked answer_to
@@ -49,8 +48,8 @@ empty_report values m = empty_rows values m.rows (take m.words m.room)
 
 unfoldable pub empty_to : Option Question → ℕ
 unfolding empty_report variables_of matched
-empty_to none = 0
-empty_to (some q) = empty_report (variables_of q.pattern) (matched q)
+empty_to None = 0
+empty_to (Some q) = empty_report (variables_of q.pattern) (matched q)
 
 unfoldable pub empty_lines : List ℕ → ℕ
 unfolding asked empty_to

@@ -1,2 +1,2 @@
--- What the proofs of reading the input use.
+-- What the proofs of reading an input use.
 pub mod Laws

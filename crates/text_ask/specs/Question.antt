@@ -1,6 +1,5 @@
 -- Document 01, section 9: what the trial program's input asks of match.
-use Rattle.std.specs.Prelude.{ℕ, ◌-◌, ◌^◌, List, [], ◌∷◌, length, leb, ℤ}
-use Rattle.std.proofs.Math.Option.{Option, none, some}
+use Rattle.std.specs.Prelude.{ℕ, ◌-◌, ◌^◌, List, [], ◌∷◌, length, leb, ℤ, Option, Some, None}
 use Rattle.text_number.specs.Decimal.{newline, space, ◌then◌, given, number, split}
 use Rattle.text_number.specs.Word.{word, at_most}
 
@@ -8,8 +7,8 @@ use Rattle.text_number.specs.Word.{word, at_most}
 
 unfoldable pub every : {A B : Type 0} → (A → Option B) → List A → Option (List B)
 unfolding ◌then◌
-every f [] = some []
-every f (a ∷ as') = f a then λ b. every f as' then λ bs. some (b ∷ bs)
+every f [] = Some []
+every f (a ∷ as') = f a then λ b. every f as' then λ bs. Some (b ∷ bs)
 
 -- "Parted by single spaces; a line may be empty".
 unfoldable pub pieces : List ℕ → List (List ℕ)
@@ -20,7 +19,7 @@ pieces (b ∷ bs) = split space (b ∷ bs)
 -- "Holds at most 2,000 numbers".
 unfoldable pub words_of : List ℕ → Option (List ℤ)
 unfolding ◌then◌ given every word pieces
-words_of line = every word (pieces line) then λ ws. given (leb (length ws) 2000) (some ws)
+words_of line = every word (pieces line) then λ ws. given (leb (length ws) 2000) (Some ws)
 
 -- ---- Line 4.
 
@@ -31,13 +30,13 @@ pub record Limits : Type 0 where
 -- "The budget and the room (0 to 4,096), exactly these two".
 unfoldable pub limits : List (List ℕ) → Option Limits
 unfolding ◌then◌ number at_most
-limits [] = none
-limits (a ∷ []) = none
+limits [] = None
+limits (a ∷ []) = None
 limits (a ∷ b ∷ []) =
     number a then at_most (2 ^ 32 - 1) then λ budget.
     number b then at_most 4096 then λ room.
-    some (record { budget = budget; room = room })
-limits (a ∷ b ∷ c ∷ ps) = none
+    Some (record { budget = budget; room = room })
+limits (a ∷ b ∷ c ∷ ps) = None
 
 -- ---- The input.
 
@@ -49,14 +48,14 @@ pub record Lines : Type 0 where
 
 -- "Four lines, each ended by a newline": nothing stands behind the fourth newline.
 unfoldable pub lines : List (List ℕ) → Option Lines
-lines [] = none
-lines (a ∷ []) = none
-lines (a ∷ b ∷ []) = none
-lines (a ∷ b ∷ c ∷ []) = none
-lines (a ∷ b ∷ c ∷ d ∷ []) = none
-lines (a ∷ b ∷ c ∷ d ∷ [] ∷ []) = some (record { one = a; two = b; three = c; four = d })
-lines (a ∷ b ∷ c ∷ d ∷ [] ∷ (e ∷ ls)) = none
-lines (a ∷ b ∷ c ∷ d ∷ (x ∷ xs) ∷ ls) = none
+lines [] = None
+lines (a ∷ []) = None
+lines (a ∷ b ∷ []) = None
+lines (a ∷ b ∷ c ∷ []) = None
+lines (a ∷ b ∷ c ∷ d ∷ []) = None
+lines (a ∷ b ∷ c ∷ d ∷ [] ∷ []) = Some (record { one = a; two = b; three = c; four = d })
+lines (a ∷ b ∷ c ∷ d ∷ [] ∷ (e ∷ ls)) = None
+lines (a ∷ b ∷ c ∷ d ∷ (x ∷ xs) ∷ ls) = None
 
 -- "It reads at most 32,768 bytes".
 unfoldable pub lines_of : List ℕ → Option Lines
@@ -77,7 +76,7 @@ question ls =
     words_of ls.two then λ p.
     words_of ls.three then λ t.
     limits (pieces ls.four) then λ l.
-    some (record { matcher = m; pattern = p; target = t; limits = l })
+    Some (record { matcher = m; pattern = p; target = t; limits = l })
 
 unfoldable pub asked : List ℕ → Option Question
 unfolding ◌then◌ lines_of question

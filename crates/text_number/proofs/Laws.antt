@@ -1,208 +1,128 @@
--- Reading numbers, as the code asks: digits one by one, and the next byte of a kind. Assumes nothing.
-use mathlib.Core.Path.{◌≡◌, refl, sym, ◌∙◌, ap}
-use mathlib.Core.Bool.{Bool, true, false, ◌&&◌}
-use mathlib.Core.Option.{Option, none, some}
-use mathlib.Core.List.{List, [], ◌∷◌}
-use Prim.Native.Nat.{ℕ, zero, suc, ◌+◌, ◌-◌, ◌*◌, ◌^◌, ◌<◌, ◌≤◌}
-use native.Mathlib.Numerals.{add-one}
-use native.Mathlib.Nat.{pow-suc, pow-le-pow_right, le_trans, le_of_lt}
-use native.Mathlib.Omega.{arith}
-use borrow.Author.Rules.{rules}
-use borrow.Author.Tests.{lt-ltb, le-ltb, le-leb, lt-leb, eq-eqb, ne_eqb}
-use lib.Dec.{leb, eqb}
-use lib.ListN.{length, get_or, take, drop, drop_of_length-le}
-use lib.Seq.{drop-cons, take_all}
-use mir.Syntax.{w32, w64}
-use mir.Val.{Fits, to_z}
-use mir.Facts.{to_z_pos, to_z-neg}
-use lib.IntN.{ℤ, pos, negsuc, neg_ℤ}
-use Rattle.text_number.specs.Decimal.{◌then◌, given, is_digit, digits, natural, number}
-use Rattle.text_number.specs.Word.{at_most, word}
+-- Numbers, read from left to right: digits, a sign, and the limits. Assumes nothing.
+use Rattle.std.proofs.Common.{◌≡◌, refl, sym, ◌∙◌, Bool, true, false, ◌==◌, ◌⊎◌, inl, inr, List, [], ◌∷◌, Some, None, ℕ, ◌+◌, ◌-◌, ◌*◌, ◌^◌, ◌<◌, ◌≤◌, length, get_or, take, drop, arith, add-one, drop-cons, ◌≢◌, ℤ, pos, negsuc, neg_ℤ, ◌-ℤ◌, Result, Ok, Err, OkIff, to_z, of_z, w32, w64, unsigned_abs}
+use native.Mathlib.Nat.{pow-suc, pow-le-pow_right}
+use borrow.Author.Tests.{lt-ltb, ltb-true, lt-leb, le-leb, eq-eqb, ne_eqb, eqb-true, eqb-false}
+use lib.ListN.{drop_of_length-le}
+use lib.Seq.{take_all}
+use mir.Val.{SFits}
+use Rattle.std.specs.Int.{FitsUnsignedBits}
+use Rattle.std.specs.Result.{result_ok}
+use Rattle.std.proofs.lemmas.Int.{to_z_pos, ints}
 use Rattle.rules.specs.Numbers.{in_range}
-use Rattle.text_number.specs.Meaning.{of_digits, of_signed, of_piece, before}
-use Rattle.text_number.specs.declared.Digits.{Digits}
-use Rattle.text_number.specs.declared.Signed.{Signed}
-use Rattle.text_number.specs.declared.Piece.{Piece}
-use Rattle.text_number.specs.declared.Digits.TheVariants as Digits
-use Rattle.text_number.specs.declared.Signed.TheVariants as Signed
-use Rattle.text_number.specs.declared.Piece.TheVariants as Piece
+use Rattle.text_number.specs.Decimal.{◌then◌, given, is_digit, digits, natural, number}
+use Rattle.text_number.specs.Word.{at_most}
 
--- ---- The next byte c.
-
-module _ (s : List ℕ) (c i x : ℕ) (e : x ≡ i + before c (drop i s)) where
-  pub found : i < length s → get_or s i 0 ≡ c → i ≡ x
-  unfolding before
-  found h q = sym (e ∙ rw (drop-cons s i 0 h, eq-eqb (get_or s i 0) c q) (omega arith))
-
-  pub find_turn : i < length s → (get_or s i 0 ≡ c → ⊥) → x ≡ i + 1 + before c (drop (i + 1) s)
-  unfolding before
-  find_turn h q = e ∙ rw (drop-cons s i 0 h, ne_eqb (get_or s i 0) c q, add-one i) (omega arith)
-
-  pub find_end : length s ≤ i → i ≡ x
-  unfolding before
-  find_end h = sym (e ∙ rw (drop_of_length-le s h) (omega arith))
-
-pub ruleset find_rules = (found, find_turn, find_end, rules)
-
--- ---- Digits.
-
-few : (s : List ℕ) → (length s ≡ 0 → ⊥) → length s ≤ 10 → natural s ≡ digits 0 s
+few : (s : List ℕ) → 1 ≤ length s → length s ≤ 10 → natural s ≡ digits 0 s
 unfolding natural given
-few s z l = let o : 1 ≤ length s = omega (arith, z) in rw (le-leb 1 (length s) o, le-leb (length s) 10 l)
+few s o l = rw (le-leb 1 (length s) o, le-leb (length s) 10 l)
 
-pub none_there : (s : List ℕ) → length s ≡ 0 → of_digits Digits.Other ≡ natural s
-unfolding natural given of_digits
-none_there s z = let o : length s < 1 = omega arith in rw (lt-leb 1 (length s) o)
+pub none_or_many : (s : List ℕ) (b : Bool) → b ≡ (length s == 0) → (b ≡ true) ⊎ ((b ≡ false) × (10 < length s)) → None ≡ natural s
+unfolding natural given
+none_or_many s b e (inl t) =
+    let z : length s ≡ 0 = eqb-true (length s) 0 (sym e ∙ t) in
+    let o : length s < 1 = omega arith in
+    rw (lt-leb 1 (length s) o)
+none_or_many s b e (inr (f, l)) = let o : 1 ≤ length s = omega arith in rw (le-leb 1 (length s) o, lt-leb (length s) 10 l)
 
-pub too_many : (s : List ℕ) → 10 < length s → of_digits Digits.Other ≡ natural s
-unfolding natural given of_digits
-too_many s l = let o : 1 ≤ length s = omega arith in rw (le-leb 1 (length s) o, lt-leb (length s) 10 l)
-
-no_digit_low : (b : ℕ) → b < 48 → is_digit b ≡ false
+no_digit : (b : ℕ) → (b < 48) ⊎ (57 < b) → is_digit b ≡ false
 unfolding is_digit
-no_digit_low b h = rw (lt-leb 48 b h)
-
-no_digit_high : (b : ℕ) → 57 < b → is_digit b ≡ false
-unfolding is_digit
-no_digit_high b h = let o : 48 ≤ b = omega arith in rw (le-leb 48 b o, lt-leb b 57 h)
+no_digit b (inl h) = rw (lt-leb 48 b h)
+no_digit b (inr h) = let o : 48 ≤ b = omega arith in rw (le-leb 48 b o, lt-leb b 57 h)
 
 a_digit : (b : ℕ) → 48 ≤ b → b ≤ 57 → is_digit b ≡ true
 unfolding is_digit
 a_digit b h l = rw (le-leb 48 b h, le-leb b 57 l)
 
-module _ (s : List ℕ) (i n b : ℕ) (h : i < length s) (q : b ≡ get_or s i 0) where
-  digits_stop : is_digit b ≡ false → digits n (drop i s) ≡ none
+-- So far a number was read, and the digits that are left go on from it.
+module _ (s : List ℕ) (o : (length s == 0) ≡ false) (m : length s ≤ 10) (i n : ℕ) (e : digits 0 s ≡ digits n (drop i s)) where
+  whole : natural s ≡ digits n (drop i s)
+  whole = let z = eqb-false (length s) 0 o in few s (omega (arith, z)) m ∙ e
+
+  pub all_read : length s ≤ i → Some n ≡ natural s
+  unfolding digits
+  all_read h = sym (whole ∙ rw (drop_of_length-le s h))
+
+  pub other_byte : i < length s → (get_or s i 0 < 48) ⊎ (57 < get_or s i 0) → None ≡ natural s
   unfolding digits given
-  digits_stop d = rw (drop-cons s i 0 h, ← q, d)
+  other_byte l d = sym (whole ∙ rw (drop-cons s i 0 l, no_digit (get_or s i 0) d))
 
-  digits_step : is_digit b ≡ true → digits n (drop i s) ≡ digits (n * 10 + (b - 48)) (drop (i + 1) s)
-  unfolding digits given
-  digits_step d = rw (drop-cons s i 0 h, ← q, d, add-one i)
+pub digit_more : (s : List ℕ) (i n : ℕ) → digits 0 s ≡ digits n (drop i s) → i < length s → 48 ≤ get_or s i 0 → get_or s i 0 ≤ 57
+    → digits 0 s ≡ digits (n * 10 + (get_or s i 0 - 48)) (drop (i + 1) s)
+unfolding digits given
+digit_more s i n e l lo hi = e ∙ rw (drop-cons s i 0 l, a_digit (get_or s i 0) lo hi, add-one i)
 
-module _ (s : List ℕ) (i n : ℕ) (z : length s ≡ 0 → ⊥) (l : length s ≤ 10) (e : digits 0 s ≡ digits n (drop i s)) where
-  pub too_low : (b : ℕ) → i < length s → b ≡ get_or s i 0 → b < 48 → of_digits Digits.Other ≡ natural s
-  unfolding of_digits
-  too_low b h q o = sym (few s z l ∙ e ∙ digits_stop s i n b h q (no_digit_low b o))
+pub digit_below : (i n d : ℕ) → n < 10 ^ i → d ≤ 9 → n * 10 + d < 10 ^ (i + 1)
+digit_below i n d h o = rw (add-one i, pow-suc 10 i) (omega arith)
 
-  pub too_high : (b : ℕ) → i < length s → b ≡ get_or s i 0 → 57 < b → of_digits Digits.Other ≡ natural s
-  unfolding of_digits
-  too_high b h q o = sym (few s z l ∙ e ∙ digits_stop s i n b h q (no_digit_high b o))
-
-  pub all_read : length s ≤ i → of_digits (Digits.Of n) ≡ natural s
-  unfolding of_digits digits
-  all_read h = sym (few s z l ∙ e ∙ rw (drop_of_length-le s h))
-
-pub digit_turn : (s : List ℕ) (i n b : ℕ) (x : Option ℕ) → x ≡ digits n (drop i s) → i < length s → b ≡ get_or s i 0 → 48 ≤ b → b ≤ 57
-    → x ≡ digits (n * 10 + (b - 48)) (drop (i + 1) s)
-digit_turn s i n b x e h q lo hi = e ∙ digits_step s i n b h q (a_digit b lo hi)
-
-pub digit_less : (i n b : ℕ) → n < 10 ^ i → b ≤ 57 → n * 10 + (b - 48) < 10 ^ (i + 1)
-digit_less i n b h o = rw (add-one i, pow-suc 10 i) (omega arith)
-
-below_ten : (i n : ℕ) → n < 10 ^ i → i ≤ 10 → n < 10 ^ 10
+pub below_ten : (i n : ℕ) → n < 10 ^ i → i ≤ 10 → n < 10 ^ 10
 below_ten i n h l = let p : 10 ^ i ≤ 10 ^ 10 = pow-le-pow_right (omega arith) l in omega arith
-
-pub digit_fits : (s : List ℕ) (i n b : ℕ) → n < 10 ^ i → i < length s → length s ≤ 10 → b ≤ 57 → Fits w64 (n * 10 + (b - 48))
-digit_fits s i n b h k l o = let p : n < 10 ^ 10 = below_ten i n h (omega arith) in record { fits = omega arith }
-
-pub ten_fits : (s : List ℕ) (i n : ℕ) → n < 10 ^ i → i < length s → length s ≤ 10 → Fits w64 (n * 10)
-ten_fits s i n h k l = let p : n < 10 ^ 10 = below_ten i n h (omega arith) in record { fits = omega arith }
-
-pub ruleset digit_rules = (none_there, too_many, too_low, too_high, all_read, digit_turn, digit_less, digit_fits, ten_fits, rules)
 
 -- ---- A sign and digits.
 
-pub no_number : (s : List ℕ) → length s ≡ 0 → of_signed Signed.Other ≡ number s
-unfolding number of_signed
-no_number [] z = refl
-no_number (b ∷ bs) z = absurd (omega arith)
-
-with_minus : (s : List ℕ) → (length s ≡ 0 → ⊥) → get_or s 0 0 ≡ 45
-    → number s ≡ (natural (take (length s - 1) (drop 1 s)) then λ n. some (neg_ℤ (pos n)))
+with_minus : (s : List ℕ) → 1 ≤ length s → get_or s 0 0 ≡ 45 → number s ≡ (natural (take (length s - 1) (drop 1 s)) then λ n. Some (neg_ℤ (pos n)))
 unfolding number
-with_minus [] z m = absurd (z refl)
-with_minus (b ∷ bs) z m = rw (eq-eqb b 45 m, take_all (length (b ∷ bs) - 1) bs (omega arith))
+with_minus [] o m = absurd (omega arith)
+with_minus (b ∷ bs) o m = rw (eq-eqb b 45 m, take_all (length (b ∷ bs) - 1) bs (omega arith))
 
-with_none : (s : List ℕ) → (length s ≡ 0 → ⊥) → (get_or s 0 0 ≡ 45 → ⊥) → number s ≡ (natural s then λ n. some (pos n))
-unfolding number
-with_none [] z m = absurd (z refl)
-with_none (b ∷ bs) z m = rw (ne_eqb b 45 m)
+with_none : (s : List ℕ) → (length s < 1) ⊎ (get_or s 0 0 ≢ 45) → number s ≡ (natural s then λ n. Some (pos n))
+unfolding number natural given ◌then◌
+with_none [] h = refl
+with_none (b ∷ bs) (inl l) = absurd (omega arith)
+with_none (b ∷ bs) (inr m) = rw (ne_eqb b 45 m)
 
-module _ (s : List ℕ) (d : Digits) (z : length s ≡ 0 → ⊥) where
-  pub below_zero : (n : ℕ) → get_or s 0 0 ≡ 45 → of_digits d ≡ natural (take (length s - 1) (drop 1 s)) → d ≡ Digits.Of n
-      → of_signed (Signed.Minus n) ≡ number s
-  unfolding ◌then◌ of_digits of_signed
-  below_zero n m e q = sym (with_minus s z m ∙ rw (← e, q))
+module _ (s : List ℕ) (o : 1 ≤ length s) (m : get_or s 0 0 ≡ 45) where
+  pub no_minus : None ≡ natural (take (length s - 1) (drop 1 s)) → None ≡ number s
+  unfolding ◌then◌
+  no_minus e = sym (with_minus s o m ∙ rw (← e))
 
-  pub no_minus : get_or s 0 0 ≡ 45 → of_digits d ≡ natural (take (length s - 1) (drop 1 s)) → d ≡ Digits.Other → of_signed Signed.Other ≡ number s
-  unfolding ◌then◌ of_digits of_signed
-  no_minus m e q = sym (with_minus s z m ∙ rw (← e, q))
+  pub minus_read : (n : ℕ) → Some n ≡ natural (take (length s - 1) (drop 1 s)) → n < 10 ^ 10 → Some (to_z w64 (of_z w64 (pos 0 -ℤ to_z w64 n))) ≡ number s
+  unfolding ◌then◌
+  minus_read n e l = sym (with_minus s o m ∙ rw (← e, negated n l))
+    where
+      negated : (n : ℕ) → n < 10 ^ 10 → neg_ℤ (pos n) ≡ to_z w64 (of_z w64 (pos 0 -ℤ to_z w64 n))
+      negated n l = omega (arith, ints)
 
-  pub from_zero : (n : ℕ) → (get_or s 0 0 ≡ 45 → ⊥) → of_digits d ≡ natural s → d ≡ Digits.Of n → of_signed (Signed.Plus n) ≡ number s
-  unfolding ◌then◌ of_digits of_signed
-  from_zero n m e q = sym (with_none s z m ∙ rw (← e, q))
+module _ (s : List ℕ) (h : (length s < 1) ⊎ (get_or s 0 0 ≢ 45)) where
+  pub no_plus : None ≡ natural s → None ≡ number s
+  unfolding ◌then◌
+  no_plus e = sym (with_none s h ∙ rw (← e))
 
-  pub no_plus : (get_or s 0 0 ≡ 45 → ⊥) → of_digits d ≡ natural s → d ≡ Digits.Other → of_signed Signed.Other ≡ number s
-  unfolding ◌then◌ of_digits of_signed
-  no_plus m e q = sym (with_none s z m ∙ rw (← e, q))
+  pub plus_read : (n : ℕ) → Some n ≡ natural s → n < 10 ^ 10 → Some (to_z w64 n) ≡ number s
+  unfolding ◌then◌
+  plus_read n e l = sym (with_none s h ∙ rw (← e, to_z_pos w64 n (omega arith)))
 
-pub ruleset number_rules = (no_number, below_zero, no_minus, from_zero, no_plus, rules)
+-- ---- Within limits.
 
--- ---- From 0 to most.
+fits_word : (z : ℤ) → SFits w32 z → in_range z ≡ true
+unfolding in_range
+fits_word (pos n) f = lt-ltb n (2 ^ 31) f.sfits
+fits_word (negsuc n) f = lt-ltb n (2 ^ 31) f.sfits
 
-module _ (s : List ℕ) (most : ℕ) (d : Signed) (e : of_signed d ≡ number s) where
-  pub in_range_lem : (n : ℕ) → d ≡ Signed.Plus n → n ≤ most → of_digits (Digits.Of n) ≡ (number s then at_most most)
-  unfolding ◌then◌ at_most given of_digits of_signed
-  in_range_lem n q h = rw (← e, q, le-leb n most h)
+word_fits : (z : ℤ) → in_range z ≡ true → SFits w32 z
+unfolding in_range
+word_fits (pos n) e = record { sfits = ltb-true n (2 ^ 31) e }
+word_fits (negsuc n) e = record { sfits = ltb-true n (2 ^ 31) e }
 
-  pub over : (n : ℕ) → d ≡ Signed.Plus n → most < n → of_digits Digits.Other ≡ (number s then at_most most)
-  unfolding ◌then◌ at_most given of_digits of_signed
-  over n q h = rw (← e, q, lt-leb n most h)
+pub word_of : {E : Type 0} (z : ℤ) (r : Result ℤ E) → OkIff r (SFits w32 z) z → result_ok r ≡ given (in_range z) (Some z)
+unfolding given
+word_of z (Ok x) (f, e) = rw (fits_word z f, e)
+word_of z (Err e) h = go (in_range z) refl
+  where
+    go : (b : Bool) → in_range z ≡ b → None ≡ given b (Some z)
+    go true i = absurd (h (word_fits z i))
+    go false i = refl
 
-  pub minus_zero : (n : ℕ) → d ≡ Signed.Minus n → n ≡ 0 → of_digits (Digits.Of 0) ≡ (number s then at_most most)
-  unfolding ◌then◌ at_most given of_digits of_signed
-  minus_zero n q h = rw (← e, q, h, le-leb 0 most (omega arith))
+pub within_most : (most n : ℕ) (z : ℤ) → FitsUnsignedBits 64 z → n ≡ unsigned_abs z → n ≤ most → Some n ≡ at_most most z
+unfolding at_most given
+within_most most n (pos k) f e l = rw (e, le-leb k most (omega (arith, e)))
+within_most most n (negsuc k) f e l = absurd f
 
-  pub under : (n : ℕ) → d ≡ Signed.Minus n → (n ≡ 0 → ⊥) → of_digits Digits.Other ≡ (number s then at_most most)
-  unfolding ◌then◌ at_most given of_digits of_signed
-  under zero q h = absurd (h refl)
-  under (suc n) q h = rw (← e, q)
+pub above_most : (most n : ℕ) (z : ℤ) → n ≡ unsigned_abs z → most < n → None ≡ at_most most z
+unfolding at_most given
+above_most most n (pos k) e l = rw (lt-leb k most (omega (arith, e)))
+above_most most n (negsuc k) e l = refl
 
-  pub no_count_lem : d ≡ Signed.Other → of_digits Digits.Other ≡ (number s then at_most most)
-  unfolding ◌then◌ of_digits of_signed
-  no_count_lem q = rw (← e, q)
-
-pub ruleset count_rules = (in_range_lem, over, minus_zero, under, no_count_lem, rules)
-
--- ---- Words.
-
-module _ (s : List ℕ) (d : Signed) (e : of_signed d ≡ number s) where
-  pub a_word : (n : ℕ) (r : ℤ) → d ≡ Signed.Plus n → n < 2147483648 → r ≡ to_z w32 n → of_piece (Piece.Word r) ≡ word s
-  unfolding ◌then◌ word in_range given of_signed of_piece
-  a_word n r q h p = rw (← e, q, lt-ltb n 2147483648 h, p, to_z_pos w32 {n = n} h)
-
-  pub above_words : (n : ℕ) → d ≡ Signed.Plus n → 2147483648 ≤ n → of_piece Piece.Other ≡ word s
-  unfolding ◌then◌ word in_range given of_signed of_piece
-  above_words n q h = rw (← e, q, le-ltb n 2147483648 h)
-
-  pub zero_word : (n : ℕ) → d ≡ Signed.Minus n → n ≡ 0 → of_piece (Piece.Word (pos 0)) ≡ word s
-  unfolding ◌then◌ word in_range given of_signed of_piece
-  zero_word n q h = rw (← e, q, h)
-
-  pub minus_word : (n : ℕ) (r : ℤ) → d ≡ Signed.Minus n → (n ≡ 0 → ⊥) → n ≤ 2147483648 → r ≡ to_z w32 (4294967296 - n) → of_piece (Piece.Word r) ≡ word s
-  unfolding ◌then◌ word in_range given of_signed of_piece
-  minus_word zero r q z h p = absurd (z refl)
-  minus_word (suc n) r q z h p =
-      let o : n < 2147483648 = omega arith in
-      rw (← e, q, lt-ltb n 2147483648 o, p, to_z-neg w32 n o)
-
-  pub below_words : (n : ℕ) → d ≡ Signed.Minus n → 2147483648 < n → of_piece Piece.Other ≡ word s
-  unfolding ◌then◌ word in_range given of_signed of_piece
-  below_words zero q h = absurd (omega arith)
-  below_words (suc n) q h = let o : 2147483648 ≤ n = omega arith in rw (← e, q, le-ltb n 2147483648 o)
-
-  pub no_word : d ≡ Signed.Other → of_piece Piece.Other ≡ word s
-  unfolding ◌then◌ word of_signed of_piece
-  no_word q = rw (← e, q)
-
-pub ruleset word_rules = (a_word, above_words, zero_word, minus_word, below_words, no_word, rules)
+pub no_count : (most : ℕ) (z : ℤ) → SFits w64 z → ¬ (FitsUnsignedBits 64 z) → None ≡ at_most most z
+unfolding at_most given
+no_count most (pos k) f h = let l = f.sfits in absurd (h (omega arith))
+no_count most (negsuc k) f h = refl

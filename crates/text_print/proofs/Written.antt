@@ -1,12 +1,11 @@
 -- Texts written one behind the other. Assumes nothing.
 use mathlib.Core.Path.{◌≡◌, refl, sym, ◌∙◌, ap}
 use mathlib.Core.List.{List, [], ◌∷◌, ◌++◌, append_assoc}
-use Prim.Native.Nat.{ℕ, zero, suc, ◌+◌, ◌-◌, ◌<◌, ◌≤◌}
-use native.Mathlib.Nat.{add_assoc, add-suc, add-zero, suc-add}
-use native.Mathlib.Numerals.{add-one}
+use Prim.Native.Nat.{ℕ, suc, ◌+◌, ◌-◌, ◌≤◌}
+use native.Mathlib.Nat.{add_assoc, add-zero}
 use native.Mathlib.Omega.{arith}
-use lib.ListN.{length, take, drop, set, length-append, length-set}
-use lib.Seq.{sets, length-sets, sets-eq, take_at, drop_at, length-take-le, drop-drop}
+use lib.ListN.{length, take, drop, set, length-append}
+use lib.Seq.{length-sets, sets-eq, take_at, drop_at, length-take-le, drop-drop}
 use Rattle.text_print.specs.Meaning.{put, Wrote}
 
 pub length_put : (l : List ℕ) (i : ℕ) (bs : List ℕ) → length (put l i bs) ≡ length l
@@ -74,9 +73,6 @@ pub record Going (old : List ℕ) (at : ℕ) (text out : List ℕ) (o : ℕ) (re
   pub whole : take o out ++ rest ≡ take at old ++ text
   pub kept : drop o out ≡ drop o old
   pub long : length out ≡ length old
-
-pub going_all : (old : List ℕ) (at : ℕ) (text : List ℕ) → Going old at text old at text
-going_all old at text = record { whole = refl; kept = refl; long = refl }
 
 pub going_on : (old : List ℕ) (at : ℕ) (text out m line rest more : List ℕ) (o r : ℕ) → Going old at text out o rest → Wrote out m o r line
     → o + length line ≤ length out → rest ≡ line ++ more → Going old at text m r more

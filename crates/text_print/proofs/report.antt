@@ -1,2 +1,2 @@
--- What the proofs of printing the whole answer use.
+-- What the proofs of printing an answer use.
 pub mod Laws

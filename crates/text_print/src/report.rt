@@ -3,8 +3,21 @@ ghost use Rattle.std.specs.Prelude.{◌≡◌, ◌++◌, ◌≤◌, length};
 ghost use Rattle.text_print.specs.Rows.{cut_rows, empty_rows, lines};
 ghost use Rattle.text_print.specs.Meaning.{unreadable, six_line, Text};
 
-use crate::print::put_first;
+use crate::print::put_line;
 use crate::rows::{Rest, put_rows};
+
+const UNREADABLE: &[u8] = b"unreadable\n";
+
+// The numbers of an answer, in the order of its line.
+#[derive(Clone, Copy)]
+pub struct Numbers {
+    pub answer: u64,
+    pub place: u64,
+    pub rows: u64,
+    pub steps: u64,
+    pub words: u64,
+    pub cause: u64,
+}
 
 // The one line `unreadable`.
 pub fn put_unreadable(out: &mut [u8]) -> Rest
@@ -12,37 +25,26 @@ pub fn put_unreadable(out: &mut [u8]) -> Rest
     ensures text { Text out.old out.new result unreadable }
     ensures lines_value { result.lines ≡ 0 }
 {
-    out[0] = b'u';
-    out[1] = b'n';
-    out[2] = b'r';
-    out[3] = b'e';
-    out[4] = b'a';
-    out[5] = b'd';
-    out[6] = b'a';
-    out[7] = b'b';
-    out[8] = b'l';
-    out[9] = b'e';
-    out[10] = b'\n';
-    Rest { at: 11, lines: 0 }
+    let at = UNREADABLE.len();
+    out[..at].copy_from_slice(UNREADABLE);
+    Rest { at, lines: 0 }
 }
 
 // The six numbers, and the rows that `ws` holds.
-pub fn put_report(
-    out: &mut [u8],
-    answer: u64,
-    place: u64,
-    rows: u64,
-    steps: u64,
-    words: u64,
-    cause: u64,
-    ws: &[i32],
-    values: u32,
-) -> Rest
+pub fn put_report(out: &mut [u8], numbers: Numbers, ws: &[i32], values: u32) -> Rest
     requires in_bounds { 98304 ≤ length out.old }
     requires ws_len_bound { length ws.now ≤ 4096 }
-    ensures text { Text out.old out.new result (six_line answer place rows steps words cause ++ lines (cut_rows values rows ws.now)) }
-    ensures lines_value { result.lines ≡ empty_rows values rows ws.now }
+    ensures text { Text out.old out.new result (six_line numbers.answer numbers.place numbers.rows numbers.steps numbers.words numbers.cause ++ lines (cut_rows values numbers.rows ws.now)) }
+    ensures lines_value { result.lines ≡ empty_rows values numbers.rows ws.now }
 {
-    let at = put_first(out, answer, place, rows, steps, words, cause);
+    let Numbers {
+        answer,
+        place,
+        rows,
+        steps,
+        words,
+        cause,
+    } = numbers;
+    let at = put_line(&[answer, place, rows, steps, words, cause], out, 0);
     put_rows(ws, values, rows, out, at)
 }

@@ -1,31 +1,26 @@
 // The rows that match wrote one after the other, cut apart and printed.
-ghost use Rattle.std.specs.Prelude.{◌≡◌, ◌+◌, ◌*◌, ◌<◌, ◌≤◌, length};
+ghost use Rattle.std.specs.Prelude.{◌≡◌, ◌+◌, ◌*◌, ◌≤◌, length};
 ghost use Rattle.text_print.specs.Rows.{extent, inside as Rows·inside};
 ghost use Rattle.text_print.specs.Meaning.{WroteRows};
 
 use crate::print::put_line;
-use words::casts::wide;
-use words::{NO_TAG, tag_of, target};
+use words::{tag_of, target};
 
 // Where the rows' text ends, and how many empty lines follow it.
-#[derive(Drop)]
+#[derive(Clone, Copy)]
 pub struct Rest {
     pub at: usize,
     pub lines: u64,
 }
 
 // How many values come in a value's own words: none in an integer.
-fn inside(t: i32, c: i32) -> u32
-    ensures { result ≡ Rows·inside t c }
+fn inside(tag: i32, count: i32) -> u32
+    ensures { result ≡ Rows·inside tag count }
 {
-    if tag_of(t) == target::INTEGER {
+    if tag_of(tag) == target::INTEGER {
         return 0;
     }
-    let n = tag_of(c);
-    if n == NO_TAG {
-        return 0;
-    }
-    n
+    u32::try_from(count).unwrap_or(0)
 }
 
 // How many words the next values have.
@@ -34,18 +29,16 @@ fn extent_of(ws: &[i32], values: u32) -> usize
     ensures value { result ≡ extent values ws.now }
     ensures upper_bound { result ≤ length ws.now }
 {
-    let mut k = wide(values);
-    let mut i: usize = 0;
-    loop {
-        if k == 0 {
-            return i;
+    let mut left = u64::from(values);
+    let mut rest = ws;
+    while let [tag, count, behind @ ..] = rest {
+        if left == 0 {
+            break;
         }
-        if ws.len() <= i + 1 {
-            return i;
-        }
-        k = k - 1 + wide(inside(ws[i], ws[i + 1]));
-        i += 2;
+        left = left - 1 + u64::from(inside(*tag, *count));
+        rest = behind;
     }
+    ws.len() - rest.len()
 }
 
 // Prints rows until none is left that has words: the others are empty lines.
@@ -54,18 +47,18 @@ pub(crate) fn put_rows(ws: &[i32], values: u32, rows: u64, out: &mut [u8], at: u
     requires ws_in_bounds { at + 22 * length ws.now ≤ length out.old }
     ensures { WroteRows out.old out.new at result values rows ws.now }
 {
-    let mut o = at;
-    let mut from: usize = 0;
-    let mut left = rows;
-    while 0 < left {
-        let e = extent_of(&ws[from..], values);
-        if e == 0 {
-            return Rest { at: o, lines: left };
+    let mut at = at;
+    let mut rest = ws;
+    for done in 0..rows {
+        let (row, behind) = rest.split_at(extent_of(rest, values));
+        if row.is_empty() {
+            return Rest {
+                at,
+                lines: rows - done,
+            };
         }
-        let to = from + e;
-        o = put_line(&ws[from..to], out, o);
-        from = to;
-        left -= 1;
+        at = put_line(row, out, at);
+        rest = behind;
     }
-    Rest { at: o, lines: left }
+    Rest { at, lines: 0 }
 }

@@ -19,29 +19,17 @@ pub(crate) fn open(rt: &impl Files<File = File>, path: &[u8], change: bool) -> R
 
 // Whether the file has so many bytes: then all of it was read.
 pub(crate) fn is_whole(file: &mut File, n: usize) -> bool {
-    if LARGEST < n {
-        return false;
-    }
-    match file.seek(SeekFrom::End(0)) {
-        Ok(end) => end == n as u64,
-        Err(_) => false,
-    }
+    n <= LARGEST && file.seek(SeekFrom::End(0)).is_ok_and(|end| end == n as u64)
 }
 
 // Whether a read or a write was of a whole block.
 fn was_whole(done: Result<usize>) -> bool {
-    match done {
-        Ok(n) => n == BLOCK,
-        Err(_) => false,
-    }
+    done.is_ok_and(|n| n == BLOCK)
 }
 
 // Writes bytes to a place in the file, and waits until the disc has them.
 fn write_at(file: &File, bytes: &[u8], at: u64) -> bool {
-    if was_whole(file.write_at(bytes, at)) {
-        return file.sync_all().is_ok();
-    }
-    false
+    was_whole(file.write_at(bytes, at)) && file.sync_all().is_ok()
 }
 
 // Writes a block to its place in the file, which had so many bytes; where that fails, what stood there is put back.
@@ -59,16 +47,12 @@ fn replace(file: &File, block: &[u8], at: u64, had: u64) -> bool {
 }
 
 pub(crate) fn store(file: &File, book: &[u8], k: usize, had: usize) -> bool {
-    if BLOCKS <= k {
-        return false;
-    }
-    if LARGEST < had {
+    if BLOCKS <= k || LARGEST < had {
         return false;
     }
     let at = BLOCK * k;
-    let end = at + BLOCK;
-    if book.len() < end {
-        return false;
+    match book.get(at..at + BLOCK) {
+        Some(block) => replace(file, block, at as u64, had as u64),
+        None => false,
     }
-    replace(file, &book[at..end], at as u64, had as u64)
 }

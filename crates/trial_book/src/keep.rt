@@ -1,69 +1,62 @@
 // What is asked of a book, done with its bytes in memory and then in the file.
-ghost use Rattle.std.specs.Prelude.{◌≤◌};
-
 use crate::disc::store;
 use crate::line::{print_rule, tell};
 use book::adding::add;
-use book::lookup::{Shown, read, show};
+use book::lookup::{read, show};
 use book::testing::test;
 use book::totals::total;
-use book::withdrawal::{Changed, withdraw};
+use book::withdrawal::withdraw;
 use book_blocks::BLOCK;
-use book_blocks::form::{FORM, GOOD, LONGEST, NO_BADGE};
-use book_blocks::writing::Named;
+use book_blocks::fault::Fault;
+use book_blocks::form::LONGEST;
+use book_blocks::reading::Head;
+use book_blocks::writing::Entry;
 use std::fs::File;
-use tests::{Judgement, rule_refused_in};
-use words::casts::{half_index, wide, wide_index};
+use tests::rule_refused_in;
 use words::dialect::FIRST_PLACES;
 
-// The commands, by their numbers.
-const LIST: usize = 0;
+#[derive(Clone, Copy, PartialEq, Eq)]
+pub enum Command {
+    List,
+    Add,
+    Withdraw,
+    Check,
+    Show,
+}
 
-const ADD: usize = 1;
+impl From<usize> for Command {
+    fn from(number: usize) -> Command {
+        match number {
+            0 => Command::List,
+            1 => Command::Add,
+            2 => Command::Withdraw,
+            3 => Command::Check,
+            _ => Command::Show,
+        }
+    }
+}
 
-const WITHDRAW: usize = 2;
-
-const CHECK: usize = 3;
-
-// What is asked; a command of another number is `show`.
+// What is asked: a command, and the rule or the badge that it is about.
 #[derive(Clone, Copy)]
-pub struct Request {
-    pub version: u16,
-    pub dialect: u32,
-    pub badge: u16,
-    pub command: usize,
+pub struct Request<'a> {
+    pub command: Command,
+    pub entry: Entry<'a>,
 }
 
-// How many numbers of 16 bits there are.
-const NUMBERS: u32 = 65536;
-
-// A number of 16 bits; `./book` asks for no other.
-pub(crate) fn half(x: u32) -> u16 {
-    if x < NUMBERS { x as u16 } else { 0 }
-}
-
-fn least(a: usize, b: usize) -> usize
-    ensures upper_bound { result ≤ a }
-    ensures upper_bound_2 { result ≤ b }
-{
-    if a < b { a } else { b }
-}
-
-pub(crate) fn is_change(asked: Request) -> bool {
-    let command = asked.command;
-    command == ADD || command == WITHDRAW
+pub(crate) fn is_change(command: Command) -> bool {
+    command == Command::Add || command == Command::Withdraw
 }
 
 // What a block says of its rule, whose words stand together, the matcher's first.
-fn print_words(rt: &impl Print, s: Shown, words: &[i32]) {
-    let m = least(s.matcher, words.len());
-    let n = m + least(s.pattern, words.len() - m);
+fn print_head(rt: &impl Print, badge: u16, head: Head, words: &[i32]) {
+    let m = head.matcher.min(words.len());
+    let n = m + head.pattern.min(words.len() - m);
     print_rule(
         rt,
-        wide_index(half_index(s.version)),
-        wide_index(half_index(s.badge)),
-        wide(s.dialect),
-        &words[0..m],
+        head.version,
+        badge,
+        head.dialect,
+        &words[..m],
         &words[m..n],
     );
 }
@@ -71,144 +64,99 @@ fn print_words(rt: &impl Print, s: Shown, words: &[i32]) {
 // The rule of a block, unless it is withdrawn.
 fn print_block(rt: &impl Print, book: &[u8], k: usize) {
     let mut words = [0i32; LONGEST];
-    let s = show(book, k, &mut words);
-    if s.badge != NO_BADGE {
-        print_words(rt, s, &words);
+    if let Ok(Some(shown)) = show(book, k, &mut words) {
+        print_head(rt, shown.badge, shown.head, &words);
     }
 }
 
 fn list(rt: &impl Print, book: &[u8], used: usize) {
-    tell(rt, b"done", 0, 0);
-    let mut k: usize = 0;
-    while k < used {
+    tell(rt, "done", 0, 0);
+    for k in 0..used {
         print_block(rt, book, k);
-        k += 1;
     }
 }
 
 fn show_badge(rt: &impl Print, book: &[u8], used: usize, badge: u16) {
     let mut words = [0i32; LONGEST];
-    let r = read(book, used, badge, &mut words);
-    if r.found == 0 {
-        tell(rt, b"none", 0, 0);
-        return;
+    match read(book, used, badge, &mut words) {
+        Ok(Some(head)) => {
+            tell(rt, "done", 0, 0);
+            print_head(rt, badge, head, &words);
+        }
+        _ => tell(rt, "none", 0, 0),
     }
-    tell(rt, b"done", 0, 0);
-    print_words(
-        rt,
-        Shown {
-            answer: GOOD,
-            badge: badge,
-            version: r.version,
-            dialect: r.dialect,
-            matcher: r.matcher,
-            pattern: r.pattern,
-        },
-        &words,
-    );
 }
 
 fn check(rt: &impl Print, book: &[u8], used: usize) {
-    let t = total(book, used);
-    tell(rt, b"good", wide_index(t.number), wide_index(used));
+    let number = total(book, used).unwrap_or(0);
+    tell(rt, "good", number as u64, used as u64);
 }
 
 // The block that was changed goes to the file, which had so many bytes.
-fn keep(rt: &impl Print, file: &File, book: &[u8], c: Changed, had: usize) {
-    if store(file, book, c.block, had) {
-        tell(rt, b"done", wide_index(c.block), 0);
+fn keep(rt: &impl Print, file: &File, book: &[u8], block: usize, had: usize) {
+    let word = if store(file, book, block, had) {
+        "done"
     } else {
-        tell(rt, b"unwritten", wide_index(c.block), 0);
-    }
+        "unwritten"
+    };
+    tell(rt, word, block as u64, 0);
+}
+
+fn refuse(rt: &impl Print, fault: Fault) {
+    tell(rt, "refused", u64::from(fault.number()), 0);
 }
 
 // A refusal of an add: with 15, review's answer and place where the rule is at fault in its dialect.
-fn add_refused(rt: &impl Print, answer: u32, dialect: u32, matcher: &[i32], pattern: &[i32]) {
-    if answer == FORM {
-        if let Judgement::Refused(a, i) = rule_refused_in(
-            dialect == FIRST_PLACES,
-            matcher,
-            pattern,
-        ) {
-            tell(rt, b"rule", wide(a), wide_index(i));
+fn refuse_add(rt: &impl Print, fault: Fault, e: Entry) {
+    if fault == Fault::Form {
+        let firsts = e.dialect == FIRST_PLACES;
+        if let Err(refusal) = rule_refused_in(firsts, e.matcher, e.pattern) {
+            tell(
+                rt,
+                "rule",
+                u64::from(refusal.answer()),
+                refusal.place() as u64,
+            );
             return;
         }
     }
-    tell(rt, b"refused", wide(answer), 0);
+    refuse(rt, fault);
 }
 
-fn add_rule(
-    rt: &impl Print,
-    file: &File,
-    book: &mut [u8],
-    had: usize,
-    asked: Request,
-    matcher: &[i32],
-    pattern: &[i32],
-) {
-    let e = Named {
-        version: asked.version,
-        badge: asked.badge,
-        dialect: asked.dialect,
-    };
-    let c = add(book, had / BLOCK, e, matcher, pattern);
-    if c.answer == GOOD {
-        keep(rt, file, book, c, had);
-    } else {
-        add_refused(rt, c.answer, asked.dialect, matcher, pattern);
+fn add_rule(rt: &impl Print, file: &File, book: &mut [u8], had: usize, e: Entry) {
+    match add(book, had / BLOCK, e) {
+        Ok(changed) => keep(rt, file, book, changed.block, had),
+        Err(fault) => refuse_add(rt, fault, e),
     }
 }
 
 fn withdraw_rule(rt: &impl Print, file: &File, book: &mut [u8], had: usize, badge: u16) {
-    let c = withdraw(book, had / BLOCK, badge);
-    if c.answer == GOOD {
-        keep(rt, file, book, c, had);
-    } else {
-        tell(rt, b"refused", wide(c.answer), 0);
+    match withdraw(book, had / BLOCK, badge) {
+        Ok(changed) => keep(rt, file, book, changed.block, had),
+        Err(fault) => refuse(rt, fault),
     }
 }
 
-// What is asked of a book that was tested.
-fn obey(
-    rt: &impl Print,
-    file: &File,
-    book: &mut [u8],
-    had: usize,
-    asked: Request,
-    matcher: &[i32],
-    pattern: &[i32],
-) {
-    let command = asked.command;
-    match command {
-        LIST => list(rt, book, had / BLOCK),
-        ADD => add_rule(rt, file, book, had, asked, matcher, pattern),
-        WITHDRAW => withdraw_rule(rt, file, book, had, asked.badge),
-        CHECK => check(rt, book, had / BLOCK),
-        _ => show_badge(rt, book, had / BLOCK, asked.badge),
+// What is asked of a book that was tested. The lent slice is longer than the file: a book grows into it, so its length goes beside it.
+fn obey(rt: &impl Print, file: &File, book: &mut [u8], had: usize, asked: Request) {
+    let badge = asked.entry.badge;
+    match asked.command {
+        Command::List => list(rt, book, had / BLOCK),
+        Command::Add => add_rule(rt, file, book, had, asked.entry),
+        Command::Withdraw => withdraw_rule(rt, file, book, had, badge),
+        Command::Check => check(rt, book, had / BLOCK),
+        Command::Show => show_badge(rt, book, had / BLOCK, badge),
     }
 }
 
 // A book that is at fault is left alone, whatever is asked.
-pub(crate) fn answer(
-    rt: &impl Print,
-    file: &File,
-    book: &mut [u8],
-    had: usize,
-    asked: Request,
-    matcher: &[i32],
-    pattern: &[i32],
-) {
-    let t = test(book, had / BLOCK);
-    if t.answer != GOOD {
-        tell(rt, b"block", wide(t.answer), wide_index(t.block));
+pub(crate) fn answer(rt: &impl Print, file: &File, book: &mut [u8], had: usize, asked: Request) {
+    if let Err(refused) = test(book, had / BLOCK) {
+        let number = refused.fault.number();
+        tell(rt, "block", u64::from(number), refused.block as u64);
     } else if had % BLOCK != 0 {
-        tell(
-            rt,
-            b"part",
-            wide_index(had / BLOCK),
-            wide_index(had % BLOCK),
-        );
+        tell(rt, "part", (had / BLOCK) as u64, (had % BLOCK) as u64);
     } else {
-        obey(rt, file, book, had, asked, matcher, pattern);
+        obey(rt, file, book, had, asked);
     }
 }

@@ -7,16 +7,15 @@ mod disc;
 mod keep;
 mod line;
 
-ghost use Rattle.std.specs.Prelude.{◌≡◌, ◌≤◌, length};
-
+use book_blocks::writing::Entry;
 use disc::LARGEST;
-use keep::Request;
+use keep::{Command, Request};
 use line::tell;
 use std::env::Env;
 use std::fs::{File, Files};
 use streams::{arg, read_full};
-use text_ask::question::{Asked, read_input};
-use text_ask::{INPUT_BYTES, in_table, table};
+use text_ask::question::read_input;
+use text_ask::{INPUT_BYTES, LINE_WORDS};
 use words::tag_at;
 
 // Where the third part has its version and its dialect, and the program its file.
@@ -34,53 +33,46 @@ fn blank() -> [u8; LARGEST] {
 }
 
 // Reads the book, and does what is asked.
-fn serve(rt: &impl Print, mut file: File, asked: Request, matcher: &[i32], pattern: &[i32]) {
+fn serve(rt: &impl Print, mut file: File, asked: Request) {
     let mut book = blank();
     let n = read_full(&mut file, &mut book);
     if disc::is_whole(&mut file, n) {
-        keep::answer(rt, &file, &mut book, n, asked, matcher, pattern);
+        keep::answer(rt, &file, &mut book, n, asked);
     } else {
-        tell(rt, b"unread", 0, 0);
+        tell(rt, "unread", 0, 0);
     }
 }
 
 // Opens the file, which is changed by an add or a withdrawal alone.
-fn open(
-    rt: &(impl Files<File = File> + Print),
-    path: &[u8],
-    asked: Request,
-    matcher: &[i32],
-    pattern: &[i32],
-) {
-    match disc::open(rt, path, keep::is_change(asked)) {
-        Ok(file) => serve(rt, file, asked, matcher, pattern),
-        Err(_) => tell(rt, b"unopened", 0, 0),
+fn open(rt: &(impl Files<File = File> + Print), path: &[u8], asked: Request) {
+    match disc::open(rt, path, keep::is_change(asked.command)) {
+        Ok(file) => serve(rt, file, asked),
+        Err(_) => tell(rt, "unopened", 0, 0),
     }
+}
+
+// A number of 16 bits; `./book` asks for no other.
+fn half(x: u32) -> u16 {
+    u16::try_from(x).unwrap_or(0)
 }
 
 // Reads what is asked.
 fn respond(rt: &(impl Files<File = File> + Print), path: &[u8], input: &[u8]) {
-    let mut m = table();
-    let mut p = table();
-    let mut t = table();
+    let mut m = [0; LINE_WORDS];
+    let mut p = [0; LINE_WORDS];
+    let mut t = [0; LINE_WORDS];
     match read_input(input, &mut m, &mut p, &mut t) {
-        Asked::Other => tell(rt, b"unreadable", 0, 0),
-        Asked::Of {
-            matcher,
-            pattern,
-            target,
-            budget,
-            room,
-        } => {
-            let i = in_table(matcher);
-            let j = in_table(pattern);
-            let asked = Request {
-                version: keep::half(tag_at(&t, VERSION_AT)),
+        None => tell(rt, "unreadable", 0, 0),
+        Some(asked) => {
+            let entry = Entry {
+                version: half(tag_at(&t, VERSION_AT)),
+                badge: half(asked.budget),
                 dialect: tag_at(&t, DIALECT_AT),
-                badge: keep::half(budget),
-                command: room,
+                matcher: &m[..asked.matcher],
+                pattern: &p[..asked.pattern],
             };
-            open(rt, path, asked, &m[..i], &p[..j]);
+            let command = Command::from(asked.room);
+            open(rt, path, Request { command, entry });
         }
     }
 }

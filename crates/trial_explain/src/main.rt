@@ -1,81 +1,64 @@
 // Writes the rule and the units of the game on standard input in Egison's notation: line 1 is the matcher, line 2 the pattern, line 3 the units, if any.
 #![tactic(auto)]
 
-ghost use Rattle.std.specs.Prelude.{◌≡◌, ◌<◌, ◌≤◌, length};
-
 use notation_write::write_rule;
 use streams::read_full;
-use test_target::{Found, test_target};
-use tests::{Judgement, TARGET, rule_refused};
-use text_ask::question::{Asked, read_input};
-use text_ask::{INPUT_BYTES, in_table, table};
+use test_target::test_target;
+use tests::{Refusal, rule_refused};
+use text_ask::question::read_input;
+use text_ask::{INPUT_BYTES, LINE_WORDS};
 
 fn say(rt: &impl Print, text: &[u8]) {
     let _ = rt.write_all(text);
 }
 
 // An answer in whose place there is no text.
-fn say_refused(rt: &impl Print, answer: u32, place: usize) {
+fn say_refused(rt: &impl Print, refusal: Refusal) {
     say(rt, b"refused, answer ");
-    let _ = rt.print(answer as u64);
+    let _ = rt.print(u64::from(refusal.answer()));
     say(rt, b", place ");
-    let _ = rt.print(place as u64);
+    let _ = rt.print(refusal.place() as u64);
     say(rt, b"\n");
 }
 
 // The bytes of a page: the longest text of a rule and its units is shorter.
 const PAGE: usize = 32768;
 
-fn page() -> [u8; PAGE]
-    ensures { 32768 ≡ length result }
-{
-    [0; PAGE]
-}
-
-// How many bytes of a page a text has.
-fn bytes_of(n: usize) -> usize
-    ensures { result ≤ 32768 }
-{
-    if PAGE < n { PAGE } else { n }
-}
-
 fn say_rule(rt: &impl Print, m: &[i32], p: &[i32], t: &[i32]) {
-    let mut text = page();
-    let n = bytes_of(write_rule(m, p, t, &mut text));
+    let mut text = [0; PAGE];
+    let n = write_rule(m, p, t, &mut text).min(PAGE);
     say(rt, &text[..n]);
     say(rt, b"\n");
 }
 
+// No units at all are no fault.
+fn judged(m: &[i32], p: &[i32], t: &[i32]) -> Result<(), Refusal> {
+    rule_refused(m, p)?;
+    if !t.is_empty() {
+        test_target(t).map_err(Refusal::Target)?;
+    }
+    Ok(())
+}
+
 fn explain(rt: &impl Print, m: &[i32], p: &[i32], t: &[i32]) {
-    if let Judgement::Refused(a, i) = rule_refused(m, p) {
-        return say_refused(rt, a, i);
+    match judged(m, p, t) {
+        Ok(()) => say_rule(rt, m, p, t),
+        Err(refusal) => say_refused(rt, refusal),
     }
-    if 0 < t.len() {
-        if let Found::Fault(i, _) = test_target(t) {
-            return say_refused(rt, TARGET, i);
-        }
-    }
-    say_rule(rt, m, p, t);
 }
 
 fn answer(rt: &impl Print, input: &[u8]) {
-    let mut m = table();
-    let mut p = table();
-    let mut t = table();
+    let mut m = [0; LINE_WORDS];
+    let mut p = [0; LINE_WORDS];
+    let mut t = [0; LINE_WORDS];
     match read_input(input, &mut m, &mut p, &mut t) {
-        Asked::Other => say(rt, b"unreadable\n"),
-        Asked::Of {
-            matcher,
-            pattern,
-            target,
-            budget,
-            room,
-        } => {
-            let i = in_table(matcher);
-            let j = in_table(pattern);
-            let k = in_table(target);
-            explain(rt, &m[..i], &p[..j], &t[..k]);
-        }
+        None => say(rt, b"unreadable\n"),
+        Some(asked) => explain(
+            rt,
+            &m[..asked.matcher],
+            &p[..asked.pattern],
+            &t[..asked.target],
+        ),
     }
 }
 

@@ -1,14 +1,12 @@
 // Asks review about the rule on standard input and says the answer in words: line 1 is the matcher, line 2 the pattern, line 4 begins with the cap.
 #![tactic(auto)]
 
-ghost use Rattle.std.specs.Prelude.{◌≡◌, ◌<◌, ◌≤◌, length};
-
-use services::review::{CAP, TOO_BIG, review};
+use services::refusal::{CAP, TOO_BIG};
+use services::review::{Reviewed, review};
 use streams::read_full;
 use tests::{MATCHER, MISFIT, PATTERN, VARIABLE};
-use text_ask::question::{Asked, read_input};
-use text_ask::{INPUT_BYTES, in_table, table};
-use words::of_bits;
+use text_ask::question::read_input;
+use text_ask::{INPUT_BYTES, LINE_WORDS};
 
 // The answer to a rule that is counted.
 const DONE: u32 = 0;
@@ -37,28 +35,28 @@ fn say_cap(rt: &impl Print, cap: u32, count: u64, text: &[u8]) {
 }
 
 // What an answer of review means.
-fn say_answer(rt: &impl Print, cap: u32, answer: u32, place: usize, count: u64) {
-    match answer {
-        DONE => say_cap(rt, cap, count, b" steps\n"),
+fn say_answer(rt: &impl Print, cap: u32, r: Reviewed) {
+    match r.answer {
+        DONE => say_cap(rt, cap, r.count, b" steps\n"),
         MATCHER => say_place(
             rt,
             b"refused, answer 1: line 1 is not one whole matcher; see its place ",
-            place,
+            r.place,
         ),
         PATTERN => say_place(
             rt,
             b"refused, answer 2: line 2 is not one whole pattern; see its place ",
-            place,
+            r.place,
         ),
         VARIABLE => say_place(
             rt,
             b"refused, answer 3: a variable out of order, or inside an or or a not; see line 2, place ",
-            place,
+            r.place,
         ),
         MISFIT => say_place(
             rt,
             b"refused, answer 4: the pattern does not fit the matcher; see line 2, place ",
-            place,
+            r.place,
         ),
         CAP => say_cap(
             rt,
@@ -80,27 +78,16 @@ fn say_answer(rt: &impl Print, cap: u32, answer: u32, place: usize, count: u64) 
 }
 
 fn say_review(rt: &impl Print, m: &[i32], p: &[i32], cap: u32) {
-    let r = review(m, p, of_bits(cap));
-    say_answer(rt, cap, r.answer, r.place, r.count);
+    say_answer(rt, cap, review(m, p, cap.cast_signed()));
 }
 
 fn answer(rt: &impl Print, input: &[u8]) {
-    let mut m = table();
-    let mut p = table();
-    let mut t = table();
+    let mut m = [0; LINE_WORDS];
+    let mut p = [0; LINE_WORDS];
+    let mut t = [0; LINE_WORDS];
     match read_input(input, &mut m, &mut p, &mut t) {
-        Asked::Other => say(rt, b"unreadable\n"),
-        Asked::Of {
-            matcher,
-            pattern,
-            target,
-            budget,
-            room,
-        } => {
-            let i = in_table(matcher);
-            let j = in_table(pattern);
-            say_review(rt, &m[..i], &p[..j], budget);
-        }
+        None => say(rt, b"unreadable\n"),
+        Some(asked) => say_review(rt, &m[..asked.matcher], &p[..asked.pattern], asked.budget),
     }
 }
 

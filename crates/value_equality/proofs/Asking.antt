@@ -1,24 +1,23 @@
 -- What the code of a level asks: its outcome, the level after an answer, its question, the table, and two held values. Assumes nothing.
-use mathlib.Core.Path.{◌≡◌, refl, sym, ◌∙◌, ap}
-use mathlib.Core.Bool.{Bool, true, false, cond}
+use mathlib.Core.Path.{◌≡◌, sym, ◌∙◌, ap}
+use mathlib.Core.Bool.{Bool, true, false}
 use mathlib.Core.List.{List}
-use Prim.Native.Nat.{ℕ, zero, suc, ◌+◌, ◌-◌, ◌*◌, ◌^◌, ◌<◌, ◌≤◌}
+use Prim.Native.Nat.{ℕ, zero, suc, ◌+◌, ◌-◌, ◌^◌, ◌<◌, ◌≤◌}
 use native.Mathlib.Omega.{arith}
 use borrow.Author.Rules.{rules}
 use borrow.Author.Tests.{eq-eqb, ne_eqb}
 use lib.Dec.{eqb, eqb-suc-zero}
-use lib.ListN.{length, get_or, set, replicate, length-replicate}
+use lib.ListN.{get_or, set, replicate, length-replicate}
 use lib.IntN.{ℤ}
 use lib.Count.{count_trailing_zeros}
-use Rattle.forms.specs.Written.{deepest}
 use Rattle.words.specs.Marks.{clear}
 use Rattle.words.proofs.marks.Places.{low_lt}
 use Rattle.matchers.specs.Places.{matcher_end}
-use Rattle.value_places.specs.Places.{value_at, count_at, Target, Tag, element_at}
+use Rattle.value_places.specs.Places.{count_at, Target, Tag, element_at}
 use Rattle.value_places.specs.Held.{Held, whole_at}
 use Rattle.value_places.proofs.Held.{whole_held}
 use Rattle.value_equality.specs.declared.Level.{Level}
-use Rattle.value_equality.specs.Equality.{equal_at, wholes_equal}
+use Rattle.value_equality.specs.Equality.{equal_at}
 use Rattle.value_equality.specs.Levels.{ended_of, outcome_of, level_of, onward_of, settled_of, pair_taken, other_tried, taken_of, first_of, second_of, question_of, comes_to, Marks, Open, Opens}
 use Rattle.value_equality.proofs.Marks.{marks_64, low_in, low_tag}
 use Rattle.value_equality.proofs.Comparing.{wholes_equal_lem}

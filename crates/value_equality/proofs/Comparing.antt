@@ -1,7 +1,7 @@
 -- Equality of words, of whole values and of what is left of collections and tuples, by the next of each. Assumes nothing.
 use mathlib.Core.Path.{◌≡◌, refl, sym, ◌∙◌, ap}
 use mathlib.Core.Bool.{Bool, true, false, cond, ◌&&◌}
-use mathlib.Core.Option.{Option, none, some}
+use mathlib.Core.Option.{none, some}
 use mathlib.Core.List.{List, ◌∷◌}
 use Prim.Native.Nat.{ℕ, ◌+◌, ◌<◌, ◌≤◌}
 use native.Mathlib.Omega.{arith}
@@ -12,7 +12,7 @@ use lib.Dec.{eqb}
 use lib.ListN.{get_or}
 use lib.IntN.{ℤ, pos}
 use lib.Count.{count_trailing_zeros}
-use Rattle.rules.specs.Numbers.{same, plus}
+use Rattle.rules.specs.Numbers.{plus}
 use Rattle.rules.specs.Forms.{no_matchers, Value, Values, empty, ◌▸◌, count}
 use Rattle.rules.specs.Equality.{in_order, equal, equal_parts}
 use Rattle.forms.specs.Pairing.{without_first, greedy}

@@ -1,16 +1,16 @@
 -- The first element marked that passes a test, by its place. Assumes nothing.
-use mathlib.Core.Path.{◌≡◌, refl, sym, ◌∙◌, ap, subst}
+use mathlib.Core.Path.{◌≡◌, refl, sym, ◌∙◌, ap}
 use mathlib.Core.Bool.{Bool, true, false, cond}
 use mathlib.Core.Option.{Option, none, some}
 use mathlib.Core.Logic.{⊎_elim}
 use mathlib.Core.List.Memᴰ
 use mathlib.Core.List.{List, [], ◌∷◌, map, Memᴰ}
-use Prim.Native.Nat.{ℕ, zero, suc, ◌+◌, ◌-◌, ◌*◌, ◌/◌, ◌%◌, ◌^◌, ◌<◌, ◌≤◌}
+use Prim.Native.Nat.{ℕ, zero, suc, ◌/◌, ◌%◌, ◌^◌, ◌<◌}
 use native.Mathlib.Omega.{arith}
 use Rattle.rules.specs.Forms.{Value, Values, empty, ◌▸◌, count}
 use Rattle.forms.specs.Pairing.{without_first, add_front}
-use Rattle.words.specs.Marks.{positions, zero_if, clear, digit}
-use Rattle.words.specs.Marked.{nth, keep, marked}
+use Rattle.words.specs.Marks.{positions, zero_if, clear}
+use Rattle.words.specs.Marked.{nth, marked}
 use Rattle.words.proofs.marks.Places.{by_digit_lem, half_lt, double_digit, double_half, digit_2, even_digit, even_half, positions_none}
 use Rattle.words.proofs.marks.Marked.{marked_none}
 use Rattle.value_equality.specs.Equality.{first_in}

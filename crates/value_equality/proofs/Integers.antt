@@ -1,14 +1,14 @@
 -- Comparing where the matcher is integer, as the code asks: two values, the first that equals one, and two multisets by two loops. Assumes nothing.
-use mathlib.Core.Path.{◌≡◌, refl, sym, ◌∙◌, ap}
+use mathlib.Core.Path.{◌≡◌, refl, sym, ◌∙◌}
 use mathlib.Core.Bool.{Bool, true, false, cond}
 use mathlib.Core.List.{List, [], ◌∷◌}
-use Prim.Native.Nat.{ℕ, zero, suc, ◌+◌, ◌^◌, ◌<◌, ◌≤◌}
+use Prim.Native.Nat.{ℕ, ◌+◌, ◌^◌, ◌<◌, ◌≤◌}
 use native.Mathlib.Omega.{arith}
 use native.Mathlib.Decide.{dec_le}
 use borrow.Author.Rules.{rules}
 use borrow.Author.Tests.{eq-eqb, ne_eqb}
 use lib.Dec.{eqb}
-use lib.ListN.{length, get_or}
+use lib.ListN.{get_or}
 use lib.IntN.{ℤ, pos}
 use lib.Count.{count_trailing_zeros}
 use lib.Pow.{pow_pos}
@@ -16,7 +16,7 @@ use Rattle.rules.specs.Numbers.{same}
 use Rattle.rules.specs.Forms.{integer}
 use Rattle.rules.specs.Equality.{equal}
 use Rattle.words.specs.Words.{tag_at}
-use Rattle.words.specs.Marks.{clear, positions}
+use Rattle.words.specs.Marks.{clear}
 use Rattle.words.proofs.marks.Places.{low_digit, clear_is}
 use Rattle.matchers.specs.Places.{matcher_at}
 use Rattle.matchers.proofs.Matchers.{matcher_1}
@@ -26,7 +26,7 @@ use Rattle.value_equality.specs.declared.Level.{Level}
 use Rattle.value_equality.specs.Equality.{wholes_equal, left_paired, first_equal, integers_equal, first_integer, integers_paired}
 use Rattle.value_equality.specs.Levels.{level_of, taken_of, first_of, second_of, question_of, marked_off, paired_from, comes_to, Marks, Both, Open}
 use Rattle.value_equality.proofs.First.{first_found}
-use Rattle.value_equality.proofs.Marks.{marks_64, marks_clear, low_in, low_64, low_tag}
+use Rattle.value_equality.proofs.Marks.{marks_64, marks_clear, low_in, low_tag}
 use Rattle.value_equality.proofs.Comparing.{find_out, find_is, pair_is}
 use Rattle.value_equality.proofs.Levels.{comes_3}
 use Rattle.value_equality.proofs.ByTag.{first_other, second_other}

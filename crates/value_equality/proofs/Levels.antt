@@ -2,7 +2,7 @@
 use mathlib.Core.Path.{◌≡◌, refl, sym, ◌∙◌, ap}
 use mathlib.Core.Bool.{Bool, true, false, cond, ◌&&◌}
 use mathlib.Core.List.{List}
-use Prim.Native.Nat.{ℕ, zero, suc, ◌+◌, ◌-◌, ◌*◌, ◌^◌, ◌<◌, ◌≤◌}
+use Prim.Native.Nat.{ℕ, ◌+◌, ◌*◌, ◌<◌, ◌≤◌}
 use native.Mathlib.Omega.{arith}
 use native.Mathlib.Decide.{dec_le, ℕ_discrete}
 use borrow.Author.Tests.{eq-eqb, ne_eqb}
@@ -11,12 +11,12 @@ use lib.IntN.{ℤ}
 use lib.Count.{count_trailing_zeros}
 use Rattle.words.specs.Marks.{clear}
 use Rattle.matchers.specs.Places.{matcher_end}
-use Rattle.rules.specs.Forms.{empty, count}
+use Rattle.rules.specs.Forms.{count}
 use Rattle.value_places.specs.Places.{Target, Tag, element_at}
 use Rattle.value_places.specs.Held.{left}
 use Rattle.value_places.proofs.Held.{left_none}
 use Rattle.value_equality.specs.declared.Level.{Level}
-use Rattle.value_equality.specs.Equality.{wholes_equal, left_in_order, left_paired, first_equal}
+use Rattle.value_equality.specs.Equality.{left_in_order, left_paired, first_equal}
 use Rattle.value_equality.specs.Levels.{ended_of, outcome_of, level_of, onward_of, settled_of, pair_taken, other_tried, taken_of, first_of, second_of, question_of, marked_off, paired_from, parts_of, open_to, comes_to, Marks, Open, Opens}
 use Rattle.value_equality.proofs.Marks.{marks_clear, left_64, low_64, low_count}
 use Rattle.value_equality.proofs.Comparing.{order_out, pair_out, parts_out, order_short, parts_short, order_is, parts_is, find_out, find_is, pair_is}

@@ -1,13 +1,13 @@
 -- What the calls of a comparison ask of the matcher at an index, and the matchers of a tuple's parts. Assumes nothing.
-use mathlib.Core.Path.{◌≡◌, refl, sym, ◌∙◌, ap}
+use mathlib.Core.Path.{◌≡◌, ◌∙◌, ap}
 use mathlib.Core.List.{List}
-use Prim.Native.Nat.{ℕ, zero, suc, ◌+◌, ◌-◌, ◌*◌, ◌^◌, ◌<◌, ◌≤◌}
+use Prim.Native.Nat.{ℕ, zero, suc, ◌+◌, ◌^◌, ◌<◌, ◌≤◌}
 use native.Mathlib.Omega.{arith}
 use lib.ListN.{length}
 use lib.IntN.{ℤ}
 use mir.Syntax.{w64}
 use mir.Val.{Fits}
-use Rattle.rules.specs.Forms.{Matchers, countᵐ}
+use Rattle.rules.specs.Forms.{countᵐ}
 use Rattle.words.specs.Words.{tag_at}
 use Rattle.matchers.specs.Places.{matcher_end, matchers_at}
 use Rattle.matchers.proofs.Matchers.{matcher_inside, matchers_none, matchers_more}

@@ -2,14 +2,14 @@
 use mathlib.Core.Path.{◌≡◌, refl, sym, ◌∙◌, ap}
 use mathlib.Core.Bool.{Bool, true, false, ◌&&◌}
 use mathlib.Core.List.{List}
-use Prim.Native.Nat.{ℕ, zero, suc, ◌+◌, ◌-◌, ◌*◌, ◌^◌, ◌<◌, ◌≤◌}
+use Prim.Native.Nat.{ℕ, suc, ◌+◌, ◌-◌, ◌*◌, ◌^◌, ◌<◌, ◌≤◌}
 use native.Mathlib.Omega.{arith}
 use borrow.Author.Rules.{rules}
 use lib.ListN.{length}
 use lib.IntN.{ℤ}
 use mir.Syntax.{w64}
 use mir.Val.{Fits}
-use Rattle.rules.specs.Forms.{Matchers, no_matchers, ◌▸ᵐ◌, countᵐ, Value, Values, empty, ◌▸◌, count}
+use Rattle.rules.specs.Forms.{Matchers, no_matchers, ◌▸ᵐ◌, countᵐ, Values, empty, ◌▸◌, count}
 use Rattle.rules.specs.Equality.{equal, equal_parts}
 use Rattle.matchers.specs.Places.{width_at, matchers_at}
 use Rattle.value_places.specs.Places.{value_at, elements, count_at, Target, Tag}
@@ -50,18 +50,18 @@ module _ (mt s : List ℤ) (i a b n m : ℕ) (g : Target s) (v : Tag s a) (w : T
   tuples_count f = sym (parts_count _ (elements (value_at s a)) (elements (value_at s b))
       (λ z. f (p ∙ sym (count_elements s a g v) ∙ z ∙ count_elements s b g w ∙ sym q)))
 
-  module _ (x y : ℕ) (d : x ≡ width_at mt i) (e : y ≡ n) where
-    pub tuples_width : (y ≡ x → ⊥) → false ≡ tuples_equal mt i s a b
+  module _ (x : ℕ) (d : x ≡ width_at mt i) where
+    pub tuples_width : (n ≡ x → ⊥) → false ≡ tuples_equal mt i s a b
     unfolding tuples_equal
     tuples_width f = sym (parts_width (matchers_at mt (width_at mt i) (i + 1)) (elements (value_at s a)) (elements (value_at s b))
-        (λ z. f (e ∙ p ∙ sym (count_elements s a g v) ∙ z ∙ count_matchers mt (width_at mt i) (i + 1) ∙ sym d)))
+        (λ z. f (p ∙ sym (count_elements s a g v) ∙ z ∙ count_matchers mt (width_at mt i) (i + 1) ∙ sym d)))
 
-    pub tuples_opens : (u : ℕ) (r : Level) → n ≡ m → y ≡ x → u ≡ 2 ^ n - 1 → r ≡ level_of 4 (i + 1) a u b u → Opens mt s a r (tuples_equal mt i s a b)
+    pub tuples_opens : (u : ℕ) (r : Level) → n ≡ m → n ≡ x → u ≡ 2 ^ n - 1 → r ≡ level_of 4 (i + 1) a u b u → Opens mt s a r (tuples_equal mt i s a b)
     unfolding tuples_equal parts_of level_of
     tuples_opens u r c z k j =
         let f : Marks s a u = marks_all_lem s a u n g v p k in
         let o : Marks s b u = marks_all_lem s b u n g w (c ∙ q) k in
-        let h : count (elements (value_at s a)) ≡ width_at mt i = count_elements s a g v ∙ sym p ∙ sym e ∙ z ∙ d in
+        let h : count (elements (value_at s a)) ≡ width_at mt i = count_elements s a g v ∙ sym p ∙ z ∙ d in
         level_opens mt s 4 (i + 1) a u b u (tuples_equal mt i s a b) r f o (λ _. refl) j
         (comes_4 (level_of 4 (i + 1) a u b u) mt s g o refl ∙ rw (left_all s a u n g v p k, left_all s b u n g w (c ∙ q) k, h))
 

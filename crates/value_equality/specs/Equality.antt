@@ -1,5 +1,5 @@
 -- Document 01, section 4, tag 3: equality of held values under a matcher, as the code goes about it.
-use Rattle.std.specs.Prelude.{ℕ, ◌+◌, Bool, true, false, cond, List, [], ◌∷◌, eqb, get_or, ℤ, pos}
+use Rattle.std.specs.Prelude.{ℕ, ◌+◌, Bool, cond, List, [], ◌∷◌, eqb, get_or, ℤ, pos}
 use Rattle.rules.specs.Numbers.{plus}
 use Rattle.rules.specs.Forms.{integer, Value, Values}
 use Rattle.rules.specs.Equality.{in_order, equal, equal_parts}

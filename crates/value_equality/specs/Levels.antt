@@ -1,5 +1,5 @@
 -- Document 01, section 4, tag 3: a level of a comparison, what it comes to, and the level once its question is answered.
-use Rattle.std.specs.Prelude.{ℕ, zero, suc, ◌+◌, ◌^◌, ◌<◌, ◌≤◌, ◌≡◌, Bool, true, false, cond, List, eqb, ℤ}
+use Rattle.std.specs.Prelude.{ℕ, ◌^◌, ◌<◌, ◌≡◌, Bool, true, false, cond, List, eqb, ℤ}
 use Rattle.std.specs.Int.Count.{count_trailing_zeros}
 use Rattle.rules.specs.Forms.{Values, count}
 use Rattle.rules.specs.Equality.{equal_parts}

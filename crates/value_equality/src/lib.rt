@@ -13,7 +13,6 @@ ghost use Rattle.value_equality.specs.Levels.{ended_of, outcome_of, level_of, on
 use matchers::{matcher_end, width_at};
 use tables::place::Places;
 use value_places::places::{count_at, element, number_at, whole};
-use words::casts::index;
 use words::marks::{full, lowest, rest, without};
 use words::{is_total, tag_at};
 
@@ -108,7 +107,7 @@ fn tuples(mt: &[i32], i: usize, s: &[i32], a: usize, b: usize) -> Level
     if n != m {
         return settled(a, b, false);
     }
-    if index(n) != w {
+    if n as usize != w {
         return settled(a, b, false);
     }
     let x = full(n);

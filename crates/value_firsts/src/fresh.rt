@@ -21,13 +21,11 @@ fn is_old_integer(mt: &[i32], i: usize, s: &[i32], places: &Places, at: usize, k
     ensures { result ≡ false → New mt.now i s.now at k k }
 {
     let e = element(s, places, at, k);
-    let mut j: u32 = 0;
-    while j < k {
+    for j in 0..k {
         let f = element(s, places, at, j);
         if same_integers(s, f, e) {
             return true;
         }
-        j += 1;
     }
     false
 }
@@ -55,12 +53,10 @@ pub fn fresh_places(mt: &[i32], i: usize, s: &[i32], places: &Places, at: usize)
     ensures { Fresh mt.now i s.now at result }
 {
     let n = count_at(s, at);
-    let mut k: u32 = 0;
     let mut out: u64 = 0;
-    while k < n {
+    for k in 0..n {
         let seen = is_old(mt, i, s, places, at, k);
         out = kept(out, k, seen);
-        k += 1;
     }
     out
 }

@@ -1,7 +1,7 @@
 -- The words of an accepted target are a target, and the first held value, all of the value at index 0, is the target. Assumes nothing.
 use mathlib.Core.Path.{◌≡◌, refl, sym, ◌∙◌, ap, subst}
-use mathlib.Core.List.{List, [], ◌∷◌, ◌++◌, append-nil}
-use Prim.Native.Nat.{ℕ, zero, suc, ◌+◌, ◌%◌, ◌<◌, ◌≤◌}
+use mathlib.Core.List.{List, ◌∷◌, ◌++◌, append-nil}
+use Prim.Native.Nat.{ℕ, ◌+◌, ◌%◌, ◌<◌, ◌≤◌}
 use native.Mathlib.Nat.{add-zero}
 use native.Mathlib.Omega.{arith}
 use lib.ListN.{length, get_or, drop, length-drop}
@@ -12,7 +12,7 @@ use Rattle.rules.specs.Reading.{ok, read_target}
 use Rattle.forms.specs.Written.{deepest, deepest_of, largest, Widths, length_words}
 use Rattle.forms.proofs.ReadTarget.{target_read}
 use Rattle.words.specs.Words.{tag_z, tag_at}
-use Rattle.value_places.specs.Places.{forest, head_of, value_at, count_by, count_at, Target, Tag}
+use Rattle.value_places.specs.Places.{forest, head_of, value_at, count_at, Target, Tag}
 use Rattle.value_places.specs.Held.{Held, held_at, whole_at}
 use Rattle.value_places.proofs.Forest.{widest, widest_of, widest_64, forest_flat, tail_flat, tail_deep, two_words}
 use Rattle.value_places.proofs.Held.{whole_held, whole_value_lem}

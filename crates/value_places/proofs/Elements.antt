@@ -1,20 +1,20 @@
 -- What stands at a tag by its two words, and where its elements stand. Assumes nothing.
 use mathlib.Core.Path.{◌≡◌, refl, sym, ◌∙◌, ap, ap₂}
 use mathlib.Core.List.{List, [], ◌∷◌, ◌++◌}
-use Prim.Native.Nat.{ℕ, zero, suc, ◌+◌, ◌-◌, ◌*◌, ◌/◌, ◌%◌, ◌<◌, ◌≤◌}
+use Prim.Native.Nat.{ℕ, zero, suc, ◌+◌, ◌-◌, ◌<◌, ◌≤◌}
 use native.Mathlib.Numerals.{add-one, add-two}
 use native.Mathlib.Omega.{arith}
 use lib.ListN.{length, get_or, drop, take}
 use lib.Seq.{drop-cons, slice, take-append_seam, take-nil}
 use native.Mathlib.Nat.{suc-add, zero-add}
 use lib.IntN.{ℤ, pos, negsuc}
-use Rattle.rules.specs.Forms.{Value, int, collection, tupled, Values, empty, ◌▸◌, count, words, words_all, size, size_all}
+use Rattle.rules.specs.Forms.{Value, int, collection, tupled, Values, empty, ◌▸◌, count, words, size, size_all}
 use Rattle.words.specs.Words.{tag_z, tag_at}
 use Rattle.words.proofs.Signed.{get_d_any}
 use Rattle.words.specs.Marked.{nth}
 use Rattle.value_places.specs.Places.{firsts, node, forest, head_of, value_at, elements, count_by, count_at, Target, Tag, Standing, hops, element_at}
 use Rattle.forms.specs.Written.{length_words}
-use Rattle.value_places.proofs.Forest.{Here, here, is_here, hop_none, hop_one, standing_less, standing_tag, standing_next}
+use Rattle.value_places.proofs.Forest.{here, is_here, hop_none, hop_one, standing_less, standing_tag, standing_next}
 
 count_firsts : (n : ℕ) (vs : Values) → count (firsts n vs) ≤ count vs
 unfolding firsts count

@@ -1,17 +1,17 @@
 -- What is held: by the tag, whole, and the next element that is left. Assumes nothing.
-use mathlib.Core.Path.{◌≡◌, refl, sym, ◌∙◌, ap}
+use mathlib.Core.Path.{◌≡◌, sym, ◌∙◌, ap}
 use mathlib.Core.List.{List}
-use Prim.Native.Nat.{ℕ, zero, suc, ◌+◌, ◌-◌, ◌*◌, ◌/◌, ◌%◌, ◌^◌, ◌<◌, ◌≤◌}
+use Prim.Native.Nat.{ℕ, zero, suc, ◌+◌, ◌^◌, ◌<◌, ◌≤◌}
 use native.Mathlib.Omega.{arith}
-use lib.ListN.{length, get_or}
+use lib.ListN.{get_or}
 use lib.IntN.{ℤ, pos}
 use lib.Count.{count_trailing_zeros}
 use lib.Pow.{pow_pos, pow_mono}
-use Rattle.rules.specs.Forms.{Value, int, collection, tupled, Values, empty, ◌▸◌, count}
+use Rattle.rules.specs.Forms.{Value, int, collection, empty, ◌▸◌, count}
 use Rattle.words.specs.Words.{tag_at}
 use Rattle.words.specs.Marks.{clear, digit}
-use Rattle.words.specs.Marked.{nth, marked, held}
-use Rattle.words.proofs.marks.Places.{by_digit_lem, low_digit, low_lt, clear_lt, clear_is, digit_below}
+use Rattle.words.specs.Marked.{nth, held}
+use Rattle.words.proofs.marks.Places.{low_digit, clear_lt, clear_is, digit_below}
 use Rattle.words.proofs.marks.Marked.{marked_low, marked_none, marked_all}
 use Rattle.value_places.specs.Places.{value_at, elements, count_by, count_at, marks_by, marks_at, Target, Tag, element_at}
 use Rattle.value_places.specs.Held.{Held, held_at, whole_at, left}

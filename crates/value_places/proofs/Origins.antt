@@ -1,20 +1,20 @@
 -- What is held, with its origin: without it the held value; the index and the marks that it is held by; and the next element. Assumes nothing.
 use mathlib.Core.Path.{◌≡◌, refl, sym, ◌∙◌, ap, ap₂}
 use mathlib.Core.List.{List}
-use Prim.Native.Nat.{ℕ, zero, suc, ◌+◌, ◌-◌, ◌*◌, ◌/◌, ◌%◌, ◌^◌, ◌<◌, ◌≤◌}
+use Prim.Native.Nat.{ℕ, zero, suc, ◌+◌, ◌-◌, ◌*◌, ◌/◌, ◌^◌, ◌<◌}
 use native.Mathlib.Nat.{pow-suc}
 use native.Mathlib.Omega.{arith}
 use lib.IntN.{ℤ}
 use Rattle.rules.specs.Forms.{Value, int, collection, tupled, Values, empty, ◌▸◌, count, size, size_all}
-use Rattle.rules.specs.Origins.{Origin, Valueᵒ, intᵒ, collectionᵒ, tupledᵒ, Valuesᵒ, emptyᵒ, ◌▸ᵒ◌, plain, plain_all, placed, placed_all, origin, marks, marks_all}
-use Rattle.forms.specs.Origins.{plain_placed, plain_placed_all}
+use Rattle.rules.specs.Origins.{Valueᵒ, intᵒ, collectionᵒ, tupledᵒ, Valuesᵒ, emptyᵒ, ◌▸ᵒ◌, plain, plain_all, placed, placed_all, origin, marks, marks_all}
+use Rattle.forms.specs.Origins.{plain_placed}
 use Rattle.words.specs.Words.{tag_at}
 use Rattle.words.specs.Marked.{nth, marked, held}
 use Rattle.words.proofs.marks.Places.{by_digit_lem, half_lt, full_odd, full_half}
 use Rattle.value_places.specs.Places.{firsts, value_at, elements, count_at, marks_at, Target, Tag, element_at}
 use Rattle.value_places.specs.Held.{Held, held_at, whole_at}
-use Rattle.value_places.specs.Origins.{nthᵒ, keepᵒ, markedᵒ, heldᵒ, origin_at, elementsᵒ}
-use Rattle.value_places.proofs.Elements.{tag_of, tag_is, collection_at, tuple_at_lem, int_at, by_tag, count_elements, element_value, element_place}
+use Rattle.value_places.specs.Origins.{nthᵒ, markedᵒ, heldᵒ, origin_at, elementsᵒ}
+use Rattle.value_places.proofs.Elements.{collection_at, tuple_at_lem, int_at, by_tag, count_elements, element_value, element_place}
 use Rattle.value_places.proofs.Held.{held_some, marks_all_lem}
 
 -- ---- Without the origin.

@@ -1,6 +1,6 @@
 -- A held value with its origin: the value whose tag stands at an index, of which the elements marked are left.
 use Rattle.std.specs.Prelude.{ℕ, zero, suc, ◌+◌, ◌/◌, ◌%◌, List, ℤ, pos}
-use Rattle.rules.specs.Origins.{Origin, Valueᵒ, intᵒ, collectionᵒ, tupledᵒ, Valuesᵒ, emptyᵒ, ◌▸ᵒ◌, placed, placed_all}
+use Rattle.rules.specs.Origins.{Valueᵒ, intᵒ, collectionᵒ, tupledᵒ, Valuesᵒ, emptyᵒ, ◌▸ᵒ◌, placed, placed_all}
 use Rattle.value_places.specs.Places.{value_at, elements}
 
 -- Element k. (Past the end there is none.)

@@ -7,7 +7,6 @@ ghost use Rattle.value_places.specs.Tables.{EndsFrom, Filled, Placed};
 ghost use Rattle.value_places.specs.Held.{whole_at};
 
 use tables::place::{Places, base_at, end_at, place_at, put_base, put_end, put_place};
-use words::casts::index;
 use words::marks::full;
 
 // A word that is not negative, as a number.
@@ -91,7 +90,7 @@ pub fn places_of(s: &[i32], places: &mut Places)
             put_base(places, at, used);
             let e = fill(s, places, at + 2, n, used);
             put_end(places, at, e);
-            used += index(n);
+            used += n as usize;
         }
     }
 }
@@ -105,5 +104,5 @@ pub fn element(s: &[i32], places: &Places, at: usize, k: u32) -> usize
     ensures { result ≡ element_at s.now at k }
 {
     let b = base_at(places, at);
-    place_at(places, b + index(k))
+    place_at(places, b + k as usize)
 }

@@ -1,19 +1,23 @@
 -- Words written into a room: what is written, and that no other word is touched. Assumes nothing.
 use mathlib.Core.Path.{◌≡◌, refl, sym, ◌∙◌, ap}
 use mathlib.Core.List.{List, [], ◌∷◌, ◌++◌}
-use Prim.Native.Nat.{ℕ, zero, suc, ◌+◌, ◌-◌, ◌*◌, ◌^◌, ◌<◌, ◌≤◌}
+use Prim.Native.Nat.{ℕ, suc, ◌+◌, ◌-◌, ◌^◌, ◌<◌, ◌≤◌}
 use native.Mathlib.Numerals.{add-one}
 use native.Mathlib.Nat.{add-suc, add-zero, suc-add}
 use native.Mathlib.Omega.{arith}
 use borrow.Author.Rules.{rules, sfits_of}
-use lib.ListN.{length, get_or, drop, take, set, length-set}
-use lib.Seq.{sets, slice-cons, slice_empty, sets-eq, length-sets}
+use lib.ListN.{length, drop, take, set, length-set}
+use lib.Seq.{sets, sets-eq, length-sets}
 use lib.Count.{ones, ones-le}
 use lib.IntN.{ℤ, pos}
-use lib.Signed.{mag}
+use borrow.Rule.Slice.PartMut.{put_mid}
 use mir.Syntax.{w32}
-use mir.Val.{SFits, to_z, of_z, hbits}
+use mir.Val.{SFits, to_z, of_z}
 use mir.Facts.{to_z-of_z}
+use Rattle.std.proofs.Common.{append_assoc}
+use Rattle.std.proofs.lemmas.List.Edits.{paste_all}
+use Rattle.std.proofs.lemmas.Slice.{put_mid-paste}
+use Rattle.std.proofs.lemmas.List.{drop-take}
 use Rattle.value_places.specs.Held.{put, part}
 
 pub length_put : (l : List ℤ) (i : ℕ) (ws : List ℤ) → length (put l i ws) ≡ length l
@@ -38,18 +42,6 @@ put_append a b l i = sets_append a b l i
 
 -- ---- Words copied one by one.
 
-module _ (s room x : List ℤ) (i to o : ℕ) where
-  pub copy_turn : x ≡ put room o (part i to s) → i < to → to ≤ length s → mag (get_or s i (pos 0)) < 2 ^ hbits w32
-      → x ≡ put (set room o (to_z w32 (of_z w32 (get_or s i (pos 0))))) (o + 1) (part (i + 1) to s)
-  unfolding put part
-  copy_turn e h l f = e ∙ rw (slice-cons i to s (pos 0) h l, add-one o, add-one i, to_z-of_z (sfits_of f))
-
-  pub copy_out : x ≡ put room o (part i to s) → i ≤ to → to ≤ i → room ≡ x
-  unfolding put part
-  copy_out e h l = let z : i ≡ to = omega arith in sym (e ∙ rw (z, slice_empty to s))
-
-pub ruleset copy_rules = (copy_turn, copy_out, rules)
-
 -- ---- Two words.
 
 pub two_out : (room : List ℤ) (from : ℕ) (a b : ℤ) → SFits w32 a → SFits w32 b
@@ -59,8 +51,6 @@ two_out room from a b f g = rw (to_z-of_z f, to_z-of_z g, add-one from)
 
 pub two_in : (room : List ℤ) (from : ℕ) (x : ℤ) → from + 2 ≤ length room → from + 1 < length (set room from x)
 two_in room from x h = rw (length-set room from x) (omega arith)
-
-pub ruleset two_rules = (two_out, two_in, rules)
 
 -- ---- A count as a word.
 
@@ -72,3 +62,14 @@ module _ (n m : ℕ) (e : n ≡ ones m) (f : m < 2 ^ 64) where
   count_is = to_z-of_z count_fits_lem ∙ ap pos e
 
 pub ruleset word_rules = (count_fits_lem, count_is, rules)
+
+-- What a write to a part of the room leaves.
+pub part_put : (at k : ℕ) (room part ws : List ℤ) → part ≡ ws → k ≡ length ws → at + length ws ≤ length room → put_mid at k room part ≡ put room at ws
+unfolding put
+part_put at k room part ws e f h =
+    put_mid-paste at k room part ws (length ws) e (sym f) refl ∙ paste_all room at ws (length ws) refl
+    ∙ sym (append_assoc (take at room) ws (drop (at + length ws) room)) ∙ sym (sets-eq ws room at h)
+
+pub part_is : (from to : ℕ) (s : List ℤ) → from ≤ to → take (to - from) (drop from s) ≡ part from to s
+unfolding part
+part_is from to s h = let e : from + (to - from) ≡ to = omega arith in sym (drop-take from (to - from) s) ∙ ap (λ (n : ℕ). drop from (take n s)) e

@@ -3,25 +3,24 @@ use mathlib.Core.Path.{◌≡◌, refl, sym, ◌∙◌, ap, ap₂}
 use mathlib.Core.Bool.{Bool, true, false}
 use mathlib.Core.List.{List, [], ◌∷◌, ◌++◌, map}
 use Prim.Native.Nat.{ℕ, zero, suc, ◌+◌, ◌-◌, ◌*◌, ◌/◌, ◌%◌, ◌^◌, ◌<◌, ◌≤◌}
-use native.Mathlib.Decide.{dec_lt}
 use native.Mathlib.Nat.{suc-mul, mul-le-mul, le_refl, le-suc}
 use native.Mathlib.Numerals.{add-one}
 use native.Mathlib.Omega.{arith}
 use borrow.Author.Rules.{rules}
-use lib.ListN.{length, get_or, take, drop, set, length-append, length-take, length-set}
-use lib.Seq.{drop-cons, get_or-take, take-suc-set, get_or-set_same, get_or-set_other, length-slice}
+use lib.ListN.{length, get_or, take, drop, length-append, length-take}
+use lib.Seq.{drop-cons, get_or-take}
 use lib.IntN.{ℤ, pos}
 use lib.Count.{ones, count_trailing_zeros}
 use mir.Syntax.{w64}
 use mir.Val.{Fits}
-use Rattle.rules.specs.Forms.{Value, int, collection, Values, empty, ◌▸◌, words, words_all, size, size_all}
+use Rattle.rules.specs.Forms.{Values, empty, ◌▸◌, words, words_all, size, size_all}
 use Rattle.rules.specs.Rows.{Form, as_words, as_origins, bits, told, row}
 use Rattle.words.specs.Words.{tag_at}
 use Rattle.words.specs.Marks.{clear}
 use Rattle.words.specs.Marked.{marked}
 use Rattle.words.proofs.marks.Places.{by_digit_lem}
 use Rattle.words.proofs.marks.Marked.{count_marked}
-use Rattle.value_places.specs.Places.{value_at, elements, count_at, Target, Tag, element_at}
+use Rattle.value_places.specs.Places.{value_at, elements, Target, Tag, element_at}
 use Rattle.tables.specs.Place.{sections_of}
 use Rattle.value_places.specs.Tables.{Placed}
 use Rattle.value_places.specs.Held.{Held, held_at, left, size_left, words_left, put, part}
@@ -93,13 +92,11 @@ module _ (s : List ℤ) (t : List ℕ) (at z : ℕ) (g : Target s) (q : Placed s
     unfolding part
     copied room room' e = e ∙ ap (put room from) (rw whole_end (slice_words s at g w))
 
-pub ruleset whole_rules = (find_half, whole_le, whole_size, rules)
-
 -- An integer: two words.
 module _ (s : List ℤ) (at from tag : ℕ) (g : Target s) (w : Tag s at) (d : tag ≡ tag_at s at) (z : tag ≡ 0) where
-  pub integer_end : from + 2 ≡ from + size (value_at s at)
+  pub integer_end : (r : ℕ) → r ≡ from + 2 → r ≡ from + size (value_at s at)
   unfolding size
-  integer_end = rw (int_at s at g w (sym d ∙ z))
+  integer_end r e = rw (e, int_at s at g w (sym d ∙ z))
 
   pub integer_words : (room room' : List ℤ) (x : ℤ) → x ≡ get_or s (at + 1) (pos 0) → room' ≡ put room from (pos 0 ∷ x ∷ []) → room' ≡ put room from (words (value_at s at))
   unfolding words
@@ -190,19 +187,19 @@ module _ (s : List ℤ) (at m from tag : ℕ) (g : Target s) (w : Held s at m) (
     unfolding size size_left
     size_left_lem = rw (held_collection s at m g w.tag (sym d ∙ z))
 
-    pub put_collection : (room room' room'' : List ℤ) (n : ℤ) → n ≡ pos (ones m) → room' ≡ put room from (pos 1 ∷ n ∷ [])
-        → room'' ≡ put room' (from + 2) (words_left s at m) → room'' ≡ put room from (words (held_at s at m))
+    pub put_collection : (room room' room'' : List ℤ) (n : ℤ) (o : ℕ) → n ≡ pos (ones m) → o ≡ from + 2 → room' ≡ put room from (pos 1 ∷ n ∷ [])
+        → room'' ≡ put room' o (words_left s at m) → room'' ≡ put room from (words (held_at s at m))
     unfolding words words_left left
-    put_collection room room' room'' n q r i =
-        i ∙ rw (r, q, held_collection s at m g w.tag (sym d ∙ z), count_marked (elements (value_at s at)) m (held_some s at m g w))
+    put_collection room room' room'' n o q p r i =
+        i ∙ rw (p, r, q, held_collection s at m g w.tag (sym d ∙ z), count_marked (elements (value_at s at)) m (held_some s at m g w))
         (sym (put_append (pos 1 ∷ pos (ones m) ∷ []) (words_left s at m) room from))
 
-    pub put_collection_end : (r : ℕ) → r ≡ from + 2 + size_left s at m → r ≡ from + size (held_at s at m)
-    put_collection_end r i = omega (arith, i, size_left_lem)
+    pub put_collection_end : (r o : ℕ) → o ≡ from + 2 → r ≡ o + size_left s at m → r ≡ from + size (held_at s at m)
+    put_collection_end r o p i = omega (arith, i, size_left_lem)
 
-    pub put_collection_room : (room room' ws : List ℤ) → room' ≡ put room from ws → from + size (held_at s at m) ≤ length room
-        → from + 2 + size_left s at m ≤ length room'
-    put_collection_room room room' ws i b = omega (arith, size_left_lem, ap length i ∙ length_put room from ws)
+    pub put_collection_room : (room room' ws : List ℤ) (o : ℕ) → o ≡ from + 2 → room' ≡ put room from ws → from + size (held_at s at m) ≤ length room
+        → o + size_left s at m ≤ length room'
+    put_collection_room room room' ws o p i b = omega (arith, size_left_lem, ap length i ∙ length_put room from ws)
 
 pub put_two_room : (s : List ℤ) (at m from l : ℕ) → from + size (held_at s at m) ≤ l → from + 2 ≤ l
 put_two_room s at m from l b = omega (arith, two_words (held_at s at m))
@@ -365,9 +362,6 @@ targets_fit s n g h =
     let k : length s + 1 ≤ 1025 = omega (arith, g.short) in
     let l : n * (length s + 1) ≤ 16 * 1025 = mul-le-mul h k in
     record { fits = omega arith }
-
-pub target_fits : (s : List ℤ) → Target s → Fits w64 (length s + 1)
-target_fits s g = record { fits = omega (arith, g.short) }
 
 module _ (o : Bool) (s : List ℤ) (b : List Binding) (n : ℕ) where
   pub size_origins : (r : ℕ) → Target s → Bound s b n → o ≡ true → 3 * n ≡ length (row (form_by o) (bound s b n))

@@ -32,6 +32,7 @@ pub struct Binding {
 pub type Bindings = [Binding; VARIABLES];
 
 // How many words the value at an index has.
+#[tactic(auto, unfolding(value_places::specs::Places::value_at, value_places::specs::Places::forest))]
 fn size_at(s: &[i32], places: &Places, at: usize) -> usize
     requires fact_1 { Target s.now }
     requires fact_2 { Placed s.now places.now }
@@ -68,6 +69,18 @@ fn size_of(s: &[i32], places: &Places, at: usize, m: u64) -> usize
     n
 }
 
+// Words, written into the room from an index on; the index behind them.
+#[tactic(auto, unfolding(value_places::specs::Held::put))]
+pub fn put_words(room: &mut [i32], from: usize, words: &[i32]) -> usize
+    requires { from + length words.now ≤ length room.old }
+    ensures behind { result ≡ from + length words.now }
+    ensures written { room.new ≡ put room.old from words.now }
+{
+    let end = from + words.len();
+    room[from..end].copy_from_slice(words);
+    end
+}
+
 // The words from an index up to another, once more at an index of the room.
 pub fn copy(s: &[i32], from: usize, to: usize, room: &mut [i32], at: usize) -> usize
     requires fact_1 { from ≤ to }
@@ -75,23 +88,7 @@ pub fn copy(s: &[i32], from: usize, to: usize, room: &mut [i32], at: usize) -> u
     requires fact_3 { at + (to - from) ≤ length room.old }
     ensures { (result ≡ at + (to - from)) × (room.new ≡ put room.old at (part from to s.now)) }
 {
-    let mut i = from;
-    let mut o = at;
-    while i < to {
-        room[o] = s[i];
-        o += 1;
-        i += 1;
-    }
-    o
-}
-
-// Two words, written into the room.
-fn put_two(room: &mut [i32], from: usize, a: i32, b: i32)
-    requires { from + 2 ≤ length room.old }
-    ensures { room.new ≡ put room.old from (a ∷ b ∷ []) }
-{
-    room[from] = a;
-    room[from + 1] = b;
+    put_words(room, at, &s[from..to])
 }
 
 // The words of a whole value, an integer's at once.
@@ -105,8 +102,7 @@ fn put_whole(s: &[i32], places: &Places, at: usize, room: &mut [i32], from: usiz
     let tag = number_at(s, at);
     if tag == 0 {
         let x = s[at + 1];
-        put_two(room, from, 0, x);
-        return from + 2;
+        return put_words(room, from, &[0, x]);
     }
     let end = end_at(places, at);
     copy(s, at, end, room, from)
@@ -158,8 +154,8 @@ pub fn put_value(
         return put_whole(s, places, at, room, from);
     }
     let n = count_word(m);
-    put_two(room, from, 1, n);
-    put_left(s, places, at, m, room, from + 2)
+    let elements = put_words(room, from, &[1, n]);
+    put_left(s, places, at, m, room, elements)
 }
 
 // What a row tells of a held value, written into the room from an index on: its words, or its origin.
@@ -185,6 +181,7 @@ pub fn put_entry(
 }
 
 // How many words the row has in form 1, of which n variables are bound.
+#[tactic(auto, unfolding(rules::specs::Rows::row, rules::specs::Rows::told, crate::specs::Row::bound, crate::specs::Row::origin_of))]
 fn words_size(s: &[i32], places: &Places, b: Bindings, n: usize) -> usize
     requires fact_1 { Target s.now }
     requires fact_2 { Placed s.now places.now }
@@ -192,18 +189,15 @@ fn words_size(s: &[i32], places: &Places, b: Bindings, n: usize) -> usize
     ensures { result ≡ length (row as_words (bound s.now b n)) }
 {
     let mut size: usize = 0;
-    let mut v: usize = 0;
-    while v < n {
+    for v in 0..n {
         let x = b[v];
-        let at = x.at;
-        let m = x.marks;
-        size += size_of(s, places, at, m);
-        v += 1;
+        size += size_of(s, places, x.at, x.marks);
     }
     size
 }
 
 // How many words the row has of which n variables are bound; in form 2 three for each.
+#[tactic(auto, unfolding(rules::specs::Rows::row, rules::specs::Rows::told, crate::specs::Row::form_by, crate::specs::Row::bound, crate::specs::Row::origin_of))]
 pub fn row_size(origins: bool, s: &[i32], places: &Places, b: Bindings, n: usize) -> usize
     requires fact_1 { Target s.now }
     requires fact_2 { Placed s.now places.now }

@@ -3,20 +3,22 @@ ghost use Rattle.std.specs.Prelude.{◌≡◌, ◌∷◌, [], ◌+◌, ◌/◌, 
 ghost use Rattle.rules.specs.Rows.{bits};
 ghost use Rattle.value_places.specs.Held.{put};
 
-use words::of_bits;
+use crate::put_words;
 
 // The low half of marks as a word.
+#[tactic(auto, unfolding(rules::specs::Rows::bits))]
 fn low_word(m: u64) -> i32
     ensures { result ≡ bits (m % 2 ^ 32) }
 {
-    of_bits((m % 4294967296) as u32)
+    ((m % 4294967296) as u32).cast_signed()
 }
 
 // The high half.
+#[tactic(auto, unfolding(rules::specs::Rows::bits))]
 fn high_word(m: u64) -> i32
     ensures { result ≡ bits (m / 2 ^ 32) }
 {
-    of_bits((m / 4294967296) as u32)
+    ((m / 4294967296) as u32).cast_signed()
 }
 
 // An index as a word.
@@ -27,17 +29,8 @@ fn index_word(at: usize) -> i32
     at as i32
 }
 
-// Three words, written into the room.
-fn put_three(room: &mut [i32], from: usize, a: i32, b: i32, c: i32)
-    requires { from + 3 ≤ length room.old }
-    ensures { room.new ≡ put room.old from (a ∷ b ∷ c ∷ []) }
-{
-    room[from] = a;
-    room[from + 1] = b;
-    room[from + 2] = c;
-}
-
 // The origin of the value that is held at an index by marks, written into the room from an index on.
+#[tactic(auto, unfolding(rules::specs::Rows::bits, value_places::specs::Held::put))]
 pub fn put_origin(at: usize, m: u64, room: &mut [i32], from: usize) -> usize
     requires fact_1 { at < 1024 }
     requires fact_2 { from + 3 ≤ length room.old }
@@ -46,6 +39,5 @@ pub fn put_origin(at: usize, m: u64, room: &mut [i32], from: usize) -> usize
     let index = index_word(at);
     let low = low_word(m);
     let high = high_word(m);
-    put_three(room, from, index, low, high);
-    from + 3
+    put_words(room, from, &[index, low, high])
 }

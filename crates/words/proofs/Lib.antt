@@ -1,5 +1,4 @@
 -- What the proofs of several functions use, here and above.
 pub mod Same
 pub mod Signed
-pub mod Signs
 pub mod Sums

@@ -1,7 +1,7 @@
--- The sum of tag 3 through 64 bits: what each cast and sum asks, and that the test is that of the sum in the signed range. Assumes nothing.
-use mathlib.Core.Path.{◌≡◌, refl, sym, ◌∙◌, ap}
+-- The sum of tag 3 through 64 bits: the test is that of the sum in the signed range. Assumes nothing.
+use mathlib.Core.Path.{◌≡◌, refl, ◌∙◌}
 use mathlib.Core.Bool.{Bool, true, false, cond}
-use Prim.Native.Nat.{ℕ, suc, ◌+◌, ◌-◌, ◌^◌, ◌<◌, ◌≤◌}
+use Prim.Native.Nat.{ℕ, suc, ◌+◌, ◌-◌, ◌^◌, ◌<◌}
 use native.Mathlib.Omega.{arith}
 use borrow.Author.Rules.{rules}
 use borrow.Author.Tests.{ltb-false, ne_eqb}
@@ -15,14 +15,8 @@ use Rattle.rules.specs.Numbers.{same, in_range, plus, plus_inside, plus_outside}
 use Rattle.words.specs.Words.{same_to}
 use Rattle.words.proofs.Same.{same_64}
 
-pub sfits_64 : {z : ℤ} → SFits w32 z → SFits w64 z
+sfits_64 : {z : ℤ} → SFits w32 z → SFits w64 z
 sfits_64 f = sfits_widen tt f
-
-pub wide_cast : (z : ℤ) → SFits w32 z → SFits w64 (to_z w32 (of_z w32 z))
-wide_cast z f = rw (to_z-of_z f) (sfits_64 f)
-
-pub wide_is : (z : ℤ) → SFits w32 z → to_z w64 (of_z w64 (to_z w32 (of_z w32 z))) ≡ z
-wide_is z f = rw (to_z-of_z f) (to_z-of_z (sfits_64 f))
 
 mag_sub : (a b k : ℕ) → a < k → b < k → mag (sub_ℕ a b) < k
 mag_sub a b k h l = go (ltb a b) refl
@@ -31,23 +25,11 @@ mag_sub a b k h l = go (ltb a b) refl
     go true e = omega arith
     go false e = omega arith
 
-pub mag_add : (a b : ℤ) (k : ℕ) → mag a < k → mag b < k → mag (a +ℤ b) < k + k
+mag_add : (a b : ℤ) (k : ℕ) → mag a < k → mag b < k → mag (a +ℤ b) < k + k
 mag_add (pos a) (pos b) k h l = omega arith
 mag_add (pos a) (negsuc b) k h l = let r = mag_sub a (suc b) (suc k) (omega arith) (omega arith) in omega arith
 mag_add (negsuc a) (pos b) k h l = let r = mag_sub b (suc a) (suc k) (omega arith) (omega arith) in omega arith
 mag_add (negsuc a) (negsuc b) k h l = omega arith
-
-module _ (a b : ℤ) (f : SFits w64 a) (g : SFits w64 b) (h : mag a < 2 ^ 40) (l : mag b < 2 ^ 40) where
-  added_sfits : SFits w64 (a +ℤ b)
-  added_sfits = let r = mag_add a b (2 ^ 40) h l in record { sfits = omega arith }
-
-  pub added_fits : SFits w64 (to_z w64 (of_z w64 a) +ℤ to_z w64 (of_z w64 b))
-  added_fits = rw (to_z-of_z f, to_z-of_z g) added_sfits
-
-  pub added_is : to_z w64 (of_z w64 (to_z w64 (of_z w64 a) +ℤ to_z w64 (of_z w64 b))) ≡ a +ℤ b
-  added_is = rw (to_z-of_z f, to_z-of_z g) (to_z-of_z added_sfits)
-
-pub ruleset cast_rules = (wide_cast, wide_is, added_fits, added_is, rules)
 
 -- ---- The test of the code.
 
@@ -67,10 +49,7 @@ by_range x c z h = go (in_range (x +ℤ c)) refl
     go true e = rw (plus_inside x c e)
     go false e = rw (plus_outside x c e) (outside (x +ℤ c) z e h)
 
--- ---- The laws as the code asks them: the machine reads each number back from its bits.
-
-pub ask_1 : (x r : ℤ) → SFits w32 x → r ≡ to_z w32 (of_z w32 x) → mag (to_z w64 (of_z w64 r)) < 1099511627776
-ask_1 x r f p = let a = f.sfits in rw (p, to_z-of_z f, to_z-of_z (sfits_64 f)) (omega arith)
+-- ---- The law as the code asks it: the machine reads each number back from its bits.
 
 module _ (x c z r₁ r₂ r₃ : ℤ) (f : SFits w32 x) (g : SFits w32 c) (h : SFits w32 z) (p : r₁ ≡ to_z w32 (of_z w32 x)) (q : r₂ ≡ to_z w32 (of_z w32 c))
     (u : r₃ ≡ to_z w32 (of_z w32 z)) where
@@ -86,4 +65,4 @@ module _ (x c z r₁ r₂ r₃ : ℤ) (f : SFits w32 x) (g : SFits w32 c) (h : S
       let n = h.sfits in
       rw (i, one, two, u, to_z-of_z h) (same_64 (x +ℤ c) z (omega arith) (omega arith) ∙ by_range x c z n)
 
-pub ruleset total_rules = (ask_1, ret_total, rules)
+pub ruleset total_rules = (ret_total, rules)

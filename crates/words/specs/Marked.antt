@@ -1,5 +1,5 @@
 -- What marks hold of a value: an integer and a tuple whole, of a collection the elements marked, in target order.
-use Rattle.std.specs.Prelude.{ℕ, zero, suc, ◌/◌, ◌%◌, ℤ, pos}
+use Rattle.std.specs.Prelude.{ℕ, zero, suc, ◌/◌, ◌%◌, pos}
 use Rattle.rules.specs.Forms.{Value, int, collection, tupled, Values, empty, ◌▸◌}
 
 -- Element k. (Past the end there is none.)

@@ -18,6 +18,7 @@ pub fn count(m: u64) -> u32
 }
 
 // A mark at one place.
+#[tactic(auto, using(crate::proofs::marks::Asked::own_rules))]
 pub fn one(k: u32) -> u64
     requires { k < 64 }
     ensures { result ≡ 2 ^ k }
@@ -26,18 +27,16 @@ pub fn one(k: u32) -> u64
 }
 
 // The marks of a whole collection of n elements.
+#[tactic(auto, using(crate::proofs::marks::Asked::own_rules))]
 pub fn full(n: u32) -> u64
     requires { n ≤ 64 }
     ensures { result ≡ 2 ^ n - 1 }
 {
-    if n < 64 {
-        (1u64 << n) - 1
-    } else {
-        18446744073709551615
-    }
+    if n < 64 { (1u64 << n) - 1 } else { u64::MAX }
 }
 
 // The marks without place k, marked or not.
+#[tactic(auto, using(crate::proofs::marks::Asked::own_rules))]
 pub fn without(m: u64, k: u32) -> u64
     requires { k < 64 }
     ensures { result ≡ clear k m }
@@ -46,6 +45,7 @@ pub fn without(m: u64, k: u32) -> u64
 }
 
 // The marks without the lowest.
+#[tactic(auto, using(crate::proofs::marks::Asked::own_rules))]
 pub fn rest(m: u64) -> u64
     requires { 0 < m }
     ensures { result ≡ clear (count_trailing_zeros 64 m) m }
@@ -60,15 +60,18 @@ pub struct Parts {
     pub back: u64,
 }
 
-// The next longer front.
-pub fn longer(p: Parts) -> Parts
-    requires { (0 < p.back) × (p.front + p.back < 2 ^ 64) }
-    ensures { Longer p.front p.back result.front result.back }
-{
-    let b = p.back;
-    let r = rest(b);
-    Parts {
-        front: p.front + (b - r),
-        back: r,
+impl Parts {
+    // The next longer front.
+    #[tactic(auto, using(crate::proofs::marks::Asked::longer_rules))]
+    pub fn longer(self) -> Parts
+        requires { (0 < self.back) × (self.front + self.back < 2 ^ 64) }
+        ensures { Longer self.front self.back result.front result.back }
+    {
+        let b = self.back;
+        let r = rest(b);
+        Parts {
+            front: self.front + (b - r),
+            back: r,
+        }
     }
 }

@@ -1,4 +1,4 @@
-// The tags of a matcher.
+// The tags of a matcher, as document 01 has them in the words that the host lends: the definitions of the readers are over numbers, and other numbers are read too.
 pub const SOMETHING: u32 = 0;
 
 pub const INTEGER: u32 = 1;

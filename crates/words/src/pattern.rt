@@ -1,4 +1,4 @@
-// The tags of a pattern.
+// The tags of a pattern, numbers of document 01 as those of a matcher are.
 pub const WILDCARD: u32 = 0;
 
 pub const VARIABLE: u32 = 1;

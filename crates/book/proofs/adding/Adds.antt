@@ -2,18 +2,17 @@
 use Prim.Native.Nat.{ℕ, zero, suc, ◌+◌, ◌-◌, ◌*◌, ◌/◌, ◌≤◌, ◌<◌, max}
 use native.Mathlib.Omega.{arith}
 use mathlib.Core.Path.{◌≡◌, refl, sym, ap, ap₂, ◌∙◌, subst}
-use mathlib.Core.Bool.{Bool, true, false, not}
+use mathlib.Core.Bool.{true, not}
 use mathlib.Core.Option.{Option, none, some}
-use mathlib.Core.List.{List, [], ◌∷◌, ◌++◌}
-use lib.ListN.{length, get_or, set, replicate, length-append, length-replicate}
+use mathlib.Core.List.{List, ◌++◌}
+use lib.ListN.{length, replicate, length-append, length-replicate}
 use lib.Seq.{sets}
 use lib.Dec.{eqb, leb}
-use borrow.Author.Rules.{rules}
 use borrow.Author.Tests.{leb-true}
-use Rattle.book_rules.specs.Sums.{word, and_also}
+use Rattle.book_rules.specs.Sums.{word}
 use Rattle.book_rules.specs.Blocks.{Block, split, Entry, counts, laid, written, unless, or_else, known, taken}
 use Rattle.book_rules.specs.Books.{Book, Told, in_use, fault, unless_refused, changed, dialect_for, proper, is_some, slot, add_fault, add_at, add_in, add}
-use Rattle.book_rules.specs.Bytes.{words_from, block_at, blocks_from, book_of, bytes_of, holding}
+use Rattle.book_rules.specs.Bytes.{words_from, block_at, blocks_from, book_of, bytes_of}
 use Rattle.book_rules.proofs.Kept.{Slot, lowest, grown, slot_is}
 use Rattle.book_rules.specs.Noticed.{Sized, good_number}
 use Rattle.book_rules.proofs.Round.{Dialect, first, second, dialect_is, length_split, length_sealed}
@@ -21,13 +20,12 @@ use Rattle.book_rules.specs.Views.{Bytes, length_bytes, length_blocks, block_siz
 use Rattle.book_rules.proofs.Walks.{First, or_second, last_test, and_also_fst, and_also_snd}
 use Rattle.book_rules.proofs.Walks as walks
 use Rattle.book.specs.Testing.{found, Answered}
-use Rattle.book.specs.Changes.{Refusal, ChangeTold, written_at, added_at, own_refusal}
-use Rattle.book.specs.declared.testing.Found.{Found}
-use Rattle.book.specs.declared.testing.Found.TheVariants.{At, Nothing}
-use Rattle.book.specs.declared.withdrawal.Changed.{Changed}
+use Rattle.book.specs.Changes.{ChangeTold, written_at, added_at, own_refusal}
+use Rattle.std.specs.Prelude.{Some, None}
+use Rattle.std.specs.Prelude as code
 use Rattle.book.proofs.Views.{good_fits, good_in_use, lent_is}
 use Rattle.book.proofs.Blocks as blocks
-use Rattle.book.proofs.withdrawal.Changes.{refused_told, turned_away_lem, nowhere, left_alone, one_block}
+use Rattle.book.proofs.withdrawal.Changes.{turned_away_lem, nowhere, left_alone, one_block}
 
 -- ---- A block that was written has 256 words of 16 bits: they are seen in the bytes.
 
@@ -78,14 +76,14 @@ module _ (s : List ℕ) (bytes : Bytes s) (used : ℕ) (e : Entry) (a j : ℕ) (
   fault_by : add_fault e b ≡ or_else a (or_else (own_refusal e (in_use b)) (unless (is_some (slot b)) 17))
   fault_by = fault_is e b ∙ ap (λ (n : ℕ). or_else n (or_else (own_refusal e (in_use b)) (unless (is_some (slot b)) 17))) (sym w.answer_is)
 
-  away : (n : ℕ) (r : Changed) → add_fault e b ≡ n → (n ≡ 0 → ⊥) → Refusal n used r → ChangeTold (add e b) (added_at e b) r s s
+  away : (n : ℕ) → add_fault e b ≡ n → (n ≡ 0 → ⊥) → ChangeTold (add e b) (added_at e b) n 0 used s s
   unfolding add added_at
-  away n r p h q = left_alone s bytes used n (add e b) (added_at e b) r
+  away n p h = left_alone s bytes used n (add e b) (added_at e b)
       (ap (λ (m : ℕ). unless_refused m b (add_in e b (slot b))) p ∙ turned_away_lem n b (add_in e b (slot b)) h)
-      (ap (λ (m : ℕ). written_at m (slot b)) p ∙ nowhere n (slot b) h) q
+      (ap (λ (m : ℕ). written_at m (slot b)) p ∙ nowhere n (slot b) h)
 
-  pub add_refused : (r : Changed) → (a ≡ 0 → ⊥) → Refusal a used r → ChangeTold (add e b) (added_at e b) r s s
-  add_refused r n q = away a r (fault_by ∙ or_first a (or_else (own_refusal e (in_use b)) (unless (is_some (slot b)) 17)) n) n q
+  pub add_refused : (a ≡ 0 → ⊥) → ChangeTold (add e b) (added_at e b) a 0 used s s
+  add_refused n = away a (fault_by ∙ or_first a (or_else (own_refusal e (in_use b)) (unless (is_some (slot b)) 17)) n) n
 
   module _ (z : a ≡ 0) (o : ℕ) (eo : o ≡ own_refusal e (blocks_from s 0 used)) where
     good : fault b ≡ 0
@@ -98,16 +96,16 @@ module _ (s : List ℕ) (bytes : Bytes s) (used : ℕ) (e : Entry) (a j : ℕ) (
     unfolding or_else
     fault_own = fault_by ∙ ap₂ (λ (n m : ℕ). or_else n (or_else m (unless (is_some (slot b)) 17))) z (ap (own_refusal e) (good_in_use s used room) ∙ sym eo)
 
-    pub add_own : (r : Changed) → (o ≡ 0 → ⊥) → Refusal o used r → ChangeTold (add e b) (added_at e b) r s s
-    add_own r n q = away o r (fault_own ∙ or_first o (unless (is_some (slot b)) 17) n) n q
+    pub add_own : (o ≡ 0 → ⊥) → ChangeTold (add e b) (added_at e b) o 0 used s s
+    add_own n = away o (fault_own ∙ or_first o (unless (is_some (slot b)) 17) n) n
 
-    module _ (zo : o ≡ 0) (f : Found) (ef : f ≡ found (slot b)) where
+    module _ (zo : o ≡ 0) (f : code.Option ℕ) (ef : f ≡ found (slot b)) where
       fault_slot : add_fault e b ≡ unless (is_some (slot b)) 17
       unfolding or_else
       fault_slot = fault_own ∙ ap (λ (n : ℕ). or_else n (unless (is_some (slot b)) 17)) zo
 
-      pub add_full : (r : Changed) → f ≡ Nothing → Refusal 17 used r → ChangeTold (add e b) (added_at e b) r s s
-      add_full r h q = away 17 r (fault_slot ∙ ap (λ (p : Option ℕ). unless (is_some p) 17) (blocks.found_none (slot b) f ef h) ∙ none_free) (λ c. clash c) q
+      pub add_full : f ≡ None → ChangeTold (add e b) (added_at e b) 17 0 used s s
+      add_full h = away 17 (fault_slot ∙ ap (λ (p : Option ℕ). unless (is_some p) 17) (blocks.found_none (slot b) f ef h) ∙ none_free) (λ c. clash c)
         where
           none_free : unless (is_some none) 17 ≡ 17
           none_free = unfold unless is_some in refl
@@ -115,7 +113,7 @@ module _ (s : List ℕ) (bytes : Bytes s) (used : ℕ) (e : Entry) (a j : ℕ) (
           clash : ◌≡◌ {A = ℕ} 17 0 → ⊥
           clash c = omega arith
 
-      module _ (k : ℕ) (h : f ≡ At k) where
+      module _ (k : ℕ) (h : f ≡ Some k) where
         at : slot b ≡ some k
         at = blocks.found_some (slot b) f k ef h
 
@@ -186,18 +184,16 @@ module _ (s : List ℕ) (bytes : Bytes s) (used : ℕ) (e : Entry) (a j : ℕ) (
         at_is = ap₂ written_at ok at
 
         pub add_written : (u : ℕ) (after : List ℕ) → Bytes after → u ≡ max used (k + 1) → after ≡ sets s (512 * k) (bytes_of (written k e))
-            → ChangeTold (add e b) (added_at e b) (record { answer = 0; block = k; used = u }) s after
-        add_written u after bytes' eu ea = subst (λ (t : Told). ChangeTold t (added_at e b) (record { answer = 0; block = k; used = u }) s after) (sym add_is) told
+            → ChangeTold (add e b) (added_at e b) 0 k u s after
+        add_written u after bytes' eu ea = subst (λ (t : Told). ChangeTold t (added_at e b) 0 k u s after) (sym add_is) told
           where
             next : k + 1 ≡ suc k
             next = omega arith
 
-            told : ChangeTold (changed (add_at e b k)) (added_at e b) (record { answer = 0; block = k; used = u }) s after
+            told : ChangeTold (changed (add_at e b k)) (added_at e b) 0 k u s after
             told = unfold changed add_at book_of in record {
               answer_is = refl;
               block_is = sym at_is;
               used_is = eu ∙ ap (max used) next;
               bytes_are = ea ∙ one_block s bytes used k (written k e) add_fits (sized_by s after k (written k e) (length_written k e add_short) add_fits ea bytes');
             }
-
-pub ruleset add_rules = (add_refused, add_own, add_full, add_fits, add_small, add_short, add_dialect, add_written, rules)

@@ -1,24 +1,24 @@
 -- The refusals of an add, and the block that a new rule takes, as the code asks for it. Assumes nothing.
-use Prim.Native.Nat.{ℕ, zero, suc, ◌+◌, ◌-◌, ◌*◌, ◌/◌, ◌≤◌, ◌<◌}
+use Prim.Native.Nat.{ℕ, ◌+◌, ◌*◌, ◌/◌, ◌≤◌, ◌<◌}
 use native.Mathlib.Omega.{arith}
 use mathlib.Core.Path.{◌≡◌, refl, sym, ap, ap₂, ◌∙◌}
 use mathlib.Core.Bool.{Bool, true, false, not}
 use mathlib.Core.Option.{Option, none, some}
-use mathlib.Core.List.{List, [], ◌∷◌}
+use mathlib.Core.List.{List}
 use lib.ListN.{length}
 use lib.Dec.{eqb, leb, ltb}
 use lib.IntN.{ℤ}
 use borrow.Author.Rules.{rules}
 use borrow.Author.Tests.{eq-eqb, ne_eqb, lt-ltb, le-ltb, le-leb, lt-leb}
 use Rattle.book_rules.specs.Sums.{and_also}
-use Rattle.book_rules.specs.Blocks.{Block, Entry, counts, unless, or_else, known, is_rule, taken, badge_of}
+use Rattle.book_rules.specs.Blocks.{Block, Entry, counts, unless, or_else, known, is_rule, taken}
 use Rattle.book_rules.specs.Books.{Book, in_use, place, withdrawn, dialect_for, proper, growth, slot_or, slot}
 use Rattle.book_rules.specs.Bytes.{blocks_from, book_of}
 use Rattle.book_blocks.specs.Heads.{entry}
 use Rattle.book.specs.Testing.{bears, found}
 use Rattle.book.specs.Changes.{own_refusal}
-use Rattle.book.specs.declared.testing.Found.{Found}
-use Rattle.book.specs.declared.testing.Found.TheVariants.{At, Nothing}
+use Rattle.std.specs.Prelude.{Some, None}
+use Rattle.std.specs.Prelude as code
 use Rattle.book.proofs.Views.{lent_is, good_in_use}
 use Rattle.book.proofs.Blocks as blocks
 
@@ -114,7 +114,7 @@ pub ruleset own_rules = (own_version, own_form, own_live, own_long, own_none, ru
 
 -- ---- The block that a new rule takes.
 
-module _ (s : List ℕ) (used : ℕ) (fits : 512 * used ≤ length s) (f : Found) (e : f ≡ found (place (bears 0) (blocks_from s 0 used))) where
+module _ (s : List ℕ) (used : ℕ) (fits : 512 * used ≤ length s) (f : code.Option ℕ) (e : f ≡ found (place (bears 0) (blocks_from s 0 used))) where
   abbrev b : Book
   b = book_of s used
 
@@ -122,11 +122,11 @@ module _ (s : List ℕ) (used : ℕ) (fits : 512 * used ≤ length s) (f : Found
   unfolding place withdrawn bears
   free = ap (place withdrawn) (good_in_use s used fits)
 
-  pub slot_free : (k : ℕ) → f ≡ At k → At k ≡ found (slot b)
+  pub slot_free : (k : ℕ) → f ≡ Some k → Some k ≡ found (slot b)
   unfolding slot slot_or found
   slot_free k q = sym (ap (λ (o : Option ℕ). found (slot_or o (growth b))) (free ∙ blocks.found_some (place (bears 0) (blocks_from s 0 used)) f k e q))
 
-  module _ (q : f ≡ Nothing) where
+  module _ (q : f ≡ None) where
     next_is : slot b ≡ growth b
     unfolding slot slot_or
     next_is = ap (λ (o : Option ℕ). slot_or o (growth b)) (free ∙ blocks.found_none (place (bears 0) (blocks_from s 0 used)) f e q)
@@ -138,16 +138,16 @@ module _ (s : List ℕ) (used : ℕ) (fits : 512 * used ≤ length s) (f : Found
     unfolding growth grow book_of
     growth_is = ap (λ (n : ℕ). grow (and_also (ltb used n) (ltb used 65536))) (lent_is s used)
 
-    pub slot_full : length s / 512 ≤ used → Nothing ≡ found (slot b)
+    pub slot_full : length s / 512 ≤ used → None ≡ found (slot b)
     unfolding found grow and_also
     slot_full h = sym (ap found (next_is ∙ growth_is ∙ ap (λ (t : Bool). grow (and_also t (ltb used 65536))) (le-ltb used (length s / 512) h)))
 
     module _ (l : used < length s / 512) where
-      pub slot_beyond : 65536 ≤ used → Nothing ≡ found (slot b)
+      pub slot_beyond : 65536 ≤ used → None ≡ found (slot b)
       unfolding found grow and_also
       slot_beyond h = sym (ap found (next_is ∙ growth_is ∙ ap₂ (λ (t u : Bool). grow (and_also t u)) (lt-ltb used (length s / 512) l) (le-ltb used 65536 h)))
 
-      pub slot_next : used < 65536 → At used ≡ found (slot b)
+      pub slot_next : used < 65536 → Some used ≡ found (slot b)
       unfolding found grow and_also
       slot_next h = sym (ap found (next_is ∙ growth_is ∙ ap₂ (λ (t u : Bool). grow (and_also t u)) (lt-ltb used (length s / 512) l) (lt-ltb used 65536 h)))
 

@@ -1,13 +1,12 @@
 -- The first block that bears a badge number, and whether a badge is live. Assumes nothing.
-use Prim.Native.Nat.{ℕ, zero, suc, ◌+◌, ◌-◌, ◌*◌, ◌≤◌, ◌<◌}
+use Prim.Native.Nat.{ℕ, zero, suc, ◌+◌}
 use native.Mathlib.Omega.{arith}
 use mathlib.Core.Path.{◌≡◌, refl, sym, ap, ap₂, ◌∙◌}
-use mathlib.Core.Bool.{Bool, true, false, not}
+use mathlib.Core.Bool.{Bool, true, false, not, cond}
 use mathlib.Core.Option.{Option, none, some}
 use mathlib.Core.List.{List, [], ◌∷◌, ◌++◌}
 use lib.Dec.{eqb}
-use borrow.Author.Rules.{rules}
-use borrow.Author.Tests.{eq-eqb, ne_eqb}
+use borrow.Author.Tests.{ne_eqb}
 use Rattle.book_rules.specs.Sums.{and_also}
 use Rattle.book_rules.specs.Blocks.{Block, badge_of, holds, taken}
 use Rattle.book_rules.specs.Books.{place}
@@ -15,17 +14,16 @@ use Rattle.book_rules.specs.Bytes.{block_at, blocks_from}
 use Rattle.book_rules.proofs.Round.{none_taken}
 use Rattle.book_rules.proofs.Walks.{taken_place, untaken_place}
 use Rattle.book.specs.Testing.{bears, found, before}
-use Rattle.book.specs.declared.testing.Found.{Found}
-use Rattle.book.specs.declared.testing.Found.TheVariants.{At, Nothing}
+use Rattle.std.specs.Prelude.{Some, None}
+use Rattle.std.specs.Prelude as code
+use Rattle.std.specs.List.{find, range_with_len}
+use Rattle.std.specs.Option.{is_some, option_map}
 
 -- ---- Block after block.
 
-pub ahead : ℕ → Option ℕ → Option ℕ
+ahead : ℕ → Option ℕ → Option ℕ
 ahead k none = none
 ahead k (some i) = some (k + i)
-
-abbrev pub from : List ℕ → ℕ → ℕ → ℕ → Option ℕ
-from s x n k = ahead k (place (bears x) (blocks_from s k (n - k)))
 
 next : Bool → Option ℕ → Option ℕ
 next t o = elim t [ true ↦ some 0 | false ↦ elim o [ none ↦ none | some i ↦ some (suc i) ] ]
@@ -34,43 +32,38 @@ place_step : (s : List ℕ) (x k m : ℕ) → place (bears x) (blocks_from s k (
 unfolding place blocks_from bears next
 place_step s x k m = refl
 
-from_step : (s : List ℕ) (x n k : ℕ) → k < n → from s x n k ≡ ahead k (next (eqb (badge_of (block_at s k)) x) (place (bears x) (blocks_from s (k + 1) (n - (k + 1)))))
-from_step s x n k h =
-    let a : n - k ≡ suc (n - (k + 1)) = omega arith in
-    let b : suc k ≡ k + 1 = omega arith in
-    ap (λ (m : ℕ). ahead k (place (bears x) (blocks_from s k m))) a ∙ ap (ahead k) (place_step s x k (n - (k + 1)))
-    ∙ ap (λ (j : ℕ). ahead k (next (eqb (badge_of (block_at s k)) x) (place (bears x) (blocks_from s j (n - (k + 1)))))) b
-
 further : (k : ℕ) (o : Option ℕ) → ahead k (next false o) ≡ ahead (k + 1) o
 unfolding ahead next
 further k none = refl
 further k (some i) = let e : k + suc i ≡ k + 1 + i = omega arith in ap some e
 
-module _ (s : List ℕ) (x n k b : ℕ) (whole : Option ℕ) (e : whole ≡ from s x n k) (h : k < n) (w : b ≡ badge_of (block_at s k)) where
-  pub find_here : b ≡ x → At k ≡ found whole
-  unfolding found ahead next
-  find_here q =
-      let z : k + 0 ≡ k = omega arith in
-      sym (ap found (e ∙ from_step s x n k h ∙ ap (λ (t : Bool). ahead k (next t (place (bears x) (blocks_from s (k + 1) (n - (k + 1)))))) (eq-eqb (badge_of (block_at s k)) x (sym w ∙ q))) ∙ ap At z)
+abbrev pub tested : List ℕ → ℕ → ℕ → Bool
+tested s x k = eqb (badge_of (block_at s k)) x
 
-  pub find_on : (b ≡ x → ⊥) → whole ≡ from s x n (k + 1)
-  find_on q =
-      e ∙ from_step s x n k h ∙ ap (λ (t : Bool). ahead k (next t (place (bears x) (blocks_from s (k + 1) (n - (k + 1)))))) (ne_eqb (badge_of (block_at s k)) x (λ r. q (w ∙ r)))
-      ∙ further k (place (bears x) (blocks_from s (k + 1) (n - (k + 1))))
+-- The blocks from the k-th on, each tested.
+found_from : (s : List ℕ) (x n k : ℕ) → find (tested s x) (range_with_len k n) ≡ found (ahead k (place (bears x) (blocks_from s k n)))
+unfolding found ahead next place blocks_from
+found_from s x zero k = refl
+found_from s x (suc n) k =
+    let e : suc k ≡ k + 1 = omega arith in
+    by (find (tested s x) (range_with_len (k + 1) n)) (found_from s x n (k + 1)) (tested s x k)
+    ∙ sym (ap (λ (o : Option ℕ). found (ahead k o)) (place_step s x k n ∙ ap (λ (j : ℕ). next (tested s x k) (place (bears x) (blocks_from s j n))) e))
+  where
+    by : (o : code.Option ℕ) → o ≡ found (ahead (k + 1) (place (bears x) (blocks_from s (k + 1) n))) → (t : Bool) → cond t (Some k) o ≡ found (ahead k (next t (place (bears x) (blocks_from s (k + 1) n))))
+    by o h true = let z : k ≡ k + 0 = omega arith in ap Some z
+    by o h false = h ∙ ap found (sym (further k (place (bears x) (blocks_from s (k + 1) n))))
 
-pub find_none : (s : List ℕ) (x n k : ℕ) (whole : Option ℕ) → whole ≡ from s x n k → n ≤ k → Nothing ≡ found whole
-unfolding found ahead place blocks_from
-find_none s x n k whole e h = let a : n - k ≡ 0 = omega arith in sym (ap found (e ∙ ap (λ (m : ℕ). ahead k (place (bears x) (blocks_from s k m))) a))
-
-ahead_none : (o : Option ℕ) → o ≡ ahead 0 o
+ahead_none : (o : Option ℕ) → ahead 0 o ≡ o
 unfolding ahead
 ahead_none none = refl
-ahead_none (some i) = let e : i ≡ 0 + i = omega arith in ap some e
+ahead_none (some i) = let e : 0 + i ≡ i = omega arith in ap some e
 
-pub find_begins : (s : List ℕ) (x n : ℕ) → place (bears x) (blocks_from s 0 n) ≡ from s x n 0
-find_begins s x n = let a : n ≡ n - 0 = omega arith in ap (λ (m : ℕ). place (bears x) (blocks_from s 0 m)) a ∙ ahead_none (place (bears x) (blocks_from s 0 (n - 0)))
+same : (o : code.Option ℕ) → option_map (λ x. x) o ≡ o
+same None = refl
+same (Some x) = refl
 
-pub ruleset find_rules = (find_here, find_on, find_none, find_begins, rules)
+pub find_is : (s : List ℕ) (x n : ℕ) (r : code.Option ℕ) → option_map (λ i. i) r ≡ find (tested s x) (range_with_len 0 n) → r ≡ found (place (bears x) (blocks_from s 0 n))
+find_is s x n r e = sym (same r) ∙ e ∙ found_from s x n 0 ∙ ap found (ahead_none (place (bears x) (blocks_from s 0 n)))
 
 -- ---- A live badge.
 
@@ -89,30 +82,14 @@ place_holds x n bs = place_same (holds x) (bears x) (holds_bears x n) bs
 pub taken_none : (x : ℕ) (bs : List Block) → x ≡ 0 → false ≡ taken x bs
 taken_none x bs z = sym (ap (λ (y : ℕ). taken y bs) z ∙ none_taken bs)
 
-pub taken_yes : (x i : ℕ) (bs : List Block) (f : Found) → (x ≡ 0 → ⊥) → f ≡ found (place (bears x) bs) → f ≡ At i → true ≡ taken x bs
-taken_yes x i bs f n e h = by (taken x bs) refl
+pub taken_is : (x : ℕ) (bs : List Block) (o : code.Option ℕ) → (x ≡ 0 → ⊥) → o ≡ found (place (bears x) bs) → is_some o ≡ taken x bs
+taken_is x bs o n e = ap is_some e ∙ by (taken x bs) refl
   where
-    by : (t : Bool) → taken x bs ≡ t → true ≡ taken x bs
-    by true p = sym p
-    by false p =
-        let q : place (bears x) bs ≡ none = sym (place_holds x n bs) ∙ untaken_place x bs p in
-        let r : found none ≡ Nothing = unfold found in refl in
-        let u : At i ≡ Nothing = sym h ∙ e ∙ ap found q ∙ r in
-        let z : ◌≡◌ {A = ℕ} 0 1 = cc in absurd (omega arith)
-
-pub taken_no : (x : ℕ) (bs : List Block) (f : Found) → (x ≡ 0 → ⊥) → f ≡ found (place (bears x) bs) → f ≡ Nothing → false ≡ taken x bs
-taken_no x bs f n e h = by (taken x bs) refl
-  where
-    by : (t : Bool) → taken x bs ≡ t → false ≡ taken x bs
-    by false p = sym p
+    by : (t : Bool) → taken x bs ≡ t → is_some (found (place (bears x) bs)) ≡ taken x bs
     by true p =
         let w = taken_place x bs p in
-        let q : place (bears x) bs ≡ some w.0 = sym (place_holds x n bs) ∙ w.1 in
-        let r : found (some w.0) ≡ At w.0 = unfold found in refl in
-        let u : Nothing ≡ At w.0 = sym h ∙ e ∙ ap found q ∙ r in
-        let z : ◌≡◌ {A = ℕ} 0 1 = cc in absurd (omega arith)
-
-pub ruleset taken_rules = (taken_none, taken_yes, taken_no, rules)
+        unfold found in ap (λ (o : Option ℕ). is_some (found o)) (sym (place_holds x n bs) ∙ w.1) ∙ sym p
+    by false p = unfold found in ap (λ (o : Option ℕ). is_some (found o)) (sym (place_holds x n bs) ∙ untaken_place x bs p) ∙ sym p
 
 -- ---- The blocks before another, from the other end.
 

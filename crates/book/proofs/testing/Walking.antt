@@ -1,16 +1,15 @@
 -- The test of a whole book, block by block. Assumes nothing.
-use Prim.Native.Nat.{ℕ, zero, suc, ◌+◌, ◌-◌, ◌*◌, ◌/◌, ◌≤◌, ◌<◌}
+use Prim.Native.Nat.{ℕ, zero, suc, ◌+◌, ◌-◌, ◌/◌, ◌≤◌, ◌<◌}
 use native.Mathlib.Omega.{arith}
 use mathlib.Core.Path.{◌≡◌, refl, sym, ap, ap₂, ◌∙◌}
 use mathlib.Core.Bool.{Bool, true, false, not}
-use mathlib.Core.List.{List, [], ◌∷◌}
+use mathlib.Core.List.{List, []}
 use lib.ListN.{length}
 use lib.Dec.{eqb, leb}
-use borrow.Author.Rules.{rules}
 use borrow.Author.Tests.{le-leb, lt-leb}
 use Rattle.book_rules.specs.Sums.{word, checked, and_also}
 use Rattle.book_rules.specs.Blocks.{Block, badge_of, unless, or_else, known, formed, taken, verdict}
-use Rattle.book_rules.specs.Books.{Book, in_use, walk, fault, passes, passed}
+use Rattle.book_rules.specs.Books.{in_use, walk, fault, passes, passed}
 use Rattle.book_rules.specs.Bytes.{block_at, blocks_from, book_of}
 use Rattle.book.specs.Testing.{before, Answered}
 use Rattle.book.proofs.Views.{in_use_is, lent_is}
@@ -70,8 +69,6 @@ module _ (s : List ℕ) (k a : ℕ) (e : a ≡ verdict k [] (block_at s k)) wher
     pub good_told : t ≡ false → 0 ≡ verdict k (before s k) (block_at s k)
     unfolding unless
     good_told q = sym (late_is ∙ ap (λ (u : Bool). unless (not u) 15) q)
-
-pub ruleset block_rules = (own_told, twice_told, good_told, rules)
 
 -- ---- Block by block.
 
@@ -176,12 +173,13 @@ module _ (s : List ℕ) (used n k : ℕ) (w : Walked s used n k) where
     unfolding passed blocks_from
     all_passed = let a : n - k ≡ 0 = omega arith in let p : k + 0 ≡ k = omega arith in sym (w.block ∙ ap (λ (m : ℕ). k + passed k (before s k) (blocks_from s k m)) a ∙ p)
 
-    pub walk_missing : (l : ℕ) → l ≡ length s / 512 → l < used → Answered (book_of s used) 13 k
+    pub walk_missing : (l : ℕ) → l ≡ length s / 512 → l < used → Answered (book_of s used) 13 n
     unfolding unless
-    walk_missing l e m = record { answer_is = sym (gone ∙ ap (λ (t : Bool). unless t 13) (lt-leb used (length s / 512) (omega arith))); block_is = all_passed }
+    walk_missing l e m = let i = w.inside in let u : n ≡ k = omega arith in record { answer_is = sym (gone ∙ ap (λ (t : Bool). unless t 13) (lt-leb used (length s / 512) (omega arith))); block_is = u ∙ all_passed }
 
-    pub walk_good : (l : ℕ) → l ≡ length s / 512 → used ≤ l → Answered (book_of s used) 0 k
+    pub walk_good : (l : ℕ) → l ≡ length s / 512 → used ≤ l → n ≡ used - (used - length s / 512) → Answered (book_of s used) 0 used
     unfolding unless
-    walk_good l e m = record { answer_is = sym (gone ∙ ap (λ (t : Bool). unless t 13) (le-leb used (length s / 512) (omega arith))); block_is = all_passed }
-
-pub ruleset walk_rules = (walk_begins, walk_ends, walk_turn, walk_missing, walk_good, rules)
+    walk_good l e m q =
+        let i = w.inside in
+        let u : used ≡ k = omega arith in
+        record { answer_is = sym (gone ∙ ap (λ (t : Bool). unless t 13) (le-leb used (length s / 512) (omega arith))); block_is = u ∙ all_passed }

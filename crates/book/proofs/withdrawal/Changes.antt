@@ -1,15 +1,14 @@
 -- A rule withdrawn, as the code asks for it. Assumes nothing.
-use Prim.Native.Nat.{ℕ, zero, suc, ◌+◌, ◌-◌, ◌*◌, ◌/◌, ◌≤◌, ◌<◌}
+use Prim.Native.Nat.{ℕ, zero, suc, ◌+◌, ◌*◌, ◌/◌, ◌≤◌, ◌<◌}
 use native.Mathlib.Omega.{arith}
 use mathlib.Core.Path.{◌≡◌, refl, sym, ap, ap₂, ◌∙◌, subst}
 use mathlib.Core.Bool.{Bool, true, false}
 use mathlib.Core.Option.{Option, none, some}
-use mathlib.Core.List.{List, [], ◌∷◌}
-use lib.ListN.{length, get_or, set}
+use mathlib.Core.List.{List}
+use lib.ListN.{length, set}
 use lib.Seq.{sets}
-use borrow.Author.Rules.{rules}
 use Rattle.book_rules.specs.Sums.{word}
-use Rattle.book_rules.specs.Blocks.{Block, Entry, emptied, unless, or_else, known, holds, taken, verdict}
+use Rattle.book_rules.specs.Blocks.{Block, emptied, unless, or_else, known, holds, taken}
 use Rattle.book_rules.specs.Books.{Book, Told, in_use, fault, unless_refused, changed, place, withdraw_at, withdraw_from, withdraw}
 use Rattle.book_rules.specs.Bytes.{block_at, blocks_from, book_of, bytes_of, holding}
 use Rattle.book_rules.proofs.Main.{bytes_stay}
@@ -18,10 +17,9 @@ use Rattle.book_rules.proofs.Sizes.{emptied_sized}
 use Rattle.book_rules.specs.Views.{Bytes, holds_one}
 use Rattle.book_rules.proofs.Walks.{taken_place, untaken_place, verdict_version}
 use Rattle.book.specs.Testing.{found, Answered}
-use Rattle.book.specs.Changes.{Refusal, ChangeTold, written_at, withdrawn_at}
-use Rattle.book.specs.declared.testing.Found.{Found}
-use Rattle.book.specs.declared.testing.Found.TheVariants.{At, Nothing}
-use Rattle.book.specs.declared.withdrawal.Changed.{Changed}
+use Rattle.book.specs.Changes.{ChangeTold, written_at, withdrawn_at}
+use Rattle.std.specs.Prelude.{Some, None}
+use Rattle.std.specs.Prelude as code
 use Rattle.book.proofs.Views.{good_fits, good_in_use}
 use Rattle.book.proofs.Blocks as blocks
 
@@ -40,16 +38,15 @@ unfolding written_at
 nowhere zero o h = absurd (h refl)
 nowhere (suc n) o h = refl
 
-pub left_alone : (s : List ℕ) → Bytes s → (used n : ℕ) (t : Told) (at : ℕ) (r : Changed) → t ≡ refused_told n (book_of s used) → at ≡ 0 → Refusal n used r → ChangeTold t at r s s
+pub left_alone : (s : List ℕ) → Bytes s → (used n : ℕ) (t : Told) (at : ℕ) → t ≡ refused_told n (book_of s used) → at ≡ 0 → ChangeTold t at n 0 used s s
 unfolding refused_told
-left_alone s bytes used n t at r e z q =
-    subst (λ (y : Changed). ChangeTold t at y s s) (sym q.is)
-    (subst (λ (u : Told). ChangeTold u at (record { answer = n; block = 0; used = used }) s s) (sym e) (record {
+left_alone s bytes used n t at e z =
+    subst (λ (u : Told). ChangeTold u at n 0 used s s) (sym e) (record {
       answer_is = refl;
       block_is = sym z;
       used_is = used_is;
       bytes_are = sym (bytes_stay s bytes used);
-    }))
+    })
   where
     used_is : used ≡ (book_of s used).used
     used_is = unfold book_of in refl
@@ -79,13 +76,13 @@ module _ (s : List ℕ) (bytes : Bytes s) (used x a j : ℕ) (w : Answered (book
   unfolding withdrawn_at refused_told
   at_none n h e = ap (λ (t : Told). written_at t.answer (place (holds x) (in_use b))) e ∙ nowhere n (place (holds x) (in_use b)) h
 
-  pub withdraw_refused : (r : Changed) → (a ≡ 0 → ⊥) → Refusal a used r → ChangeTold (withdraw x b) (withdrawn_at x b) r s s
-  withdraw_refused r n q =
+  pub withdraw_refused : (a ≡ 0 → ⊥) → ChangeTold (withdraw x b) (withdrawn_at x b) a 0 used s s
+  withdraw_refused n =
       let e : withdraw x b ≡ refused_told a b = withdraw_by ∙ ap (λ (m : ℕ). unless_refused m b (withdraw_from b (place (holds x) (in_use b)))) (first a (unless (taken x (in_use b)) 23) n)
       ∙ turned_away_lem a b (withdraw_from b (place (holds x) (in_use b))) n in
-      left_alone s bytes used a (withdraw x b) (withdrawn_at x b) r e (at_none a n e) q
+      left_alone s bytes used a (withdraw x b) (withdrawn_at x b) e (at_none a n e)
 
-  module _ (z : a ≡ 0) (f : Found) (e : f ≡ found (place (holds x) (blocks_from s 0 used))) where
+  module _ (z : a ≡ 0) (f : code.Option ℕ) (e : f ≡ found (place (holds x) (blocks_from s 0 used))) where
     good : fault b ≡ 0
     good = sym w.answer_is ∙ z
 
@@ -96,12 +93,12 @@ module _ (s : List ℕ) (bytes : Bytes s) (used x a j : ℕ) (w : Answered (book
     unfolding or_else
     withdraw_good = withdraw_by ∙ ap (λ (n : ℕ). unless_refused (or_else n (unless (taken x (in_use b)) 23)) b (withdraw_from b (place (holds x) (in_use b)))) z
 
-    pub withdraw_none : (r : Changed) → f ≡ Nothing → Refusal 23 used r → ChangeTold (withdraw x b) (withdrawn_at x b) r s s
-    withdraw_none r q h =
+    pub withdraw_none : f ≡ None → ChangeTold (withdraw x b) (withdrawn_at x b) 23 0 used s s
+    withdraw_none q =
         let o : place (holds x) (in_use b) ≡ none = ap (place (holds x)) in_use_lem ∙ blocks.found_none (place (holds x) (blocks_from s 0 used)) f e q in
         let t : withdraw x b ≡ refused_told 23 b = withdraw_good ∙ ap (λ (u : Bool). unless_refused (unless u 23) b (withdraw_from b (place (holds x) (in_use b)))) (untaken (taken x (in_use b)) refl o)
         ∙ not_live (withdraw_from b (place (holds x) (in_use b))) in
-        left_alone s bytes used 23 (withdraw x b) (withdrawn_at x b) r t (at_none 23 (λ c. clash c) t) h
+        left_alone s bytes used 23 (withdraw x b) (withdrawn_at x b) t (at_none 23 (λ c. clash c) t)
       where
         clash : ◌≡◌ {A = ℕ} 23 0 → ⊥
         clash c = omega arith
@@ -116,7 +113,7 @@ module _ (s : List ℕ) (bytes : Bytes s) (used x a j : ℕ) (w : Answered (book
             let c : some v.0 ≡ none = sym v.1 ∙ o in
             let y : ◌≡◌ {A = ℕ} 0 1 = cc in absurd (omega arith)
 
-    module _ (k : ℕ) (q : f ≡ At k) where
+    module _ (k : ℕ) (q : f ≡ Some k) where
       at : place (holds x) (blocks_from s 0 used) ≡ some k
       at = blocks.found_some (place (holds x) (blocks_from s 0 used)) f k e q
 
@@ -147,10 +144,10 @@ module _ (s : List ℕ) (bytes : Bytes s) (used x a j : ℕ) (w : Answered (book
       at_is = ap₂ (λ (t : Told) (o : Option ℕ). written_at t.answer o) withdraw_is here
 
       pub withdraw_found : (after : List ℕ) → after ≡ sets s (512 * k) (bytes_of (emptied k (word (block_at s k) 1)))
-          → ChangeTold (withdraw x b) (withdrawn_at x b) (record { answer = 0; block = k; used = used }) s after
-      withdraw_found after h = subst (λ (t : Told). ChangeTold t (withdrawn_at x b) (record { answer = 0; block = k; used = used }) s after) (sym withdraw_is) told
+          → ChangeTold (withdraw x b) (withdrawn_at x b) 0 k used s after
+      withdraw_found after h = subst (λ (t : Told). ChangeTold t (withdrawn_at x b) 0 k used s after) (sym withdraw_is) told
         where
-          told : ChangeTold (changed (withdraw_at b k)) (withdrawn_at x b) (record { answer = 0; block = k; used = used }) s after
+          told : ChangeTold (changed (withdraw_at b k)) (withdrawn_at x b) 0 k used s after
           told = unfold changed withdraw_at book_of in record {
             answer_is = refl;
             block_is = sym at_is;
@@ -158,5 +155,3 @@ module _ (s : List ℕ) (bytes : Bytes s) (used x a j : ℕ) (w : Answered (book
             bytes_are = h ∙ one_block s bytes used k (emptied k (word (block_at s k) 1)) withdraw_fits (emptied_sized k (word (block_at s k) 1) withdraw_small its_version)
                 ∙ ap (λ (c : Block). holding s (set (book_of s used).lent k (emptied k (word c 1)))) (sym (blocks.lent_at s used good k withdraw_fits));
           }
-
-pub ruleset withdraw_rules = (withdraw_refused, withdraw_none, withdraw_fits, withdraw_small, withdraw_found, rules)

@@ -3,87 +3,32 @@ use Prim.Native.Nat.{ℕ, zero, suc, ◌+◌, ◌-◌, ◌*◌, ◌/◌, ◌%◌
 use native.Mathlib.Omega.{arith}
 use mathlib.Core.Path.{◌≡◌, refl, sym, ap, ap₂, ◌∙◌}
 use mathlib.Core.Bool.{Bool, true, false, not}
-use mathlib.Core.List.{List, [], ◌∷◌, ◌++◌}
-use lib.ListN.{length, drop, take, replicate}
+use mathlib.Core.List.{List, []}
+use lib.ListN.{length, drop, take}
 use lib.Seq.{sets}
 use lib.Dec.{eqb, leb}
-use lib.IntN.{ℤ, pos}
+use lib.IntN.{ℤ}
 use borrow.Author.Rules.{rules}
 use borrow.Author.Tests.{eq-eqb, ne_eqb, le-leb, lt-leb}
 use Rattle.rules.specs.Dialects.{dialect_of}
 use Rattle.rules.specs.Services.{Judged, accepted, refused, Rule, rule_in}
-use Rattle.tests.specs.Judgements.{judgement}
-use Rattle.tests.specs.declared.Judgement.{Judgement}
-use Rattle.tests.specs.declared.Judgement.TheVariants.{Accepted, Refused}
+use Rattle.tests.specs.Judgements.{told, judgement}
+use Rattle.tests.specs.declared.Refusal.{Refusal}
+use Rattle.tests.proofs.Told.{was_accepted, was_refused}
+use Rattle.std.specs.Prelude.{Result, Ok, Err}
+use Rattle.std.specs.Result.{is_ok}
 use Rattle.book_rules.specs.Sums.{word, checked, and_also}
 use Rattle.words.specs.Dialects.{dialect_by}
 use Rattle.book_rules.specs.Blocks.{Block, joined, length_in, dialect_in, known, unless, or_else, zeros, is_accepted, is_rule, entry_of, live_formed, formed, badge_of, taken, verdict}
 use Rattle.book_rules.specs.Bytes.{word_at, words_from, block_at}
 use Rattle.book_blocks.proofs.Seen.{word_seen, zeros_seen, joined_seen, length_joined, first_part, second_part}
 
--- ---- Versions, and the matcher's length.
-
-pub known_one : (v : ℕ) → v ≡ 1 → true ≡ known v
-unfolding known
-known_one v e = rw e
-
-pub known_two : (v : ℕ) → (v ≡ 1 → ⊥) → eqb v 2 ≡ known v
-unfolding known
-known_two v n = rw (ne_eqb v 1 n, known)
-
-pub length_second : (v w r : ℕ) → v ≡ 2 → r ≡ w % 32768 → r ≡ length_in v w
-unfolding length_in
-length_second v w r e h = rw e h
-
-pub length_first : (v w r : ℕ) → (v ≡ 2 → ⊥) → r ≡ w → r ≡ length_in v w
-unfolding length_in
-length_first v w r n h = rw (ne_eqb v 2 n, length_in) h
-
--- ---- The dialect.
-
-pub dialect_one : (v w : ℕ) → (v ≡ 2 → ⊥) → 1 ≡ dialect_in v w
-unfolding dialect_in
-dialect_one v w n = rw (ne_eqb v 2 n, dialect_in)
-
-pub dialect_low : (v w : ℕ) → v ≡ 2 → w < 32768 → 1 ≡ dialect_in v w
-unfolding dialect_in
-dialect_low v w e h = rw e (let q : w / 32768 ≡ 0 = omega arith in rw q)
-
-pub dialect_high : (v w : ℕ) → v ≡ 2 → 32768 ≤ w → w < 65536 → 2 ≡ dialect_in v w
-unfolding dialect_in
-dialect_high v w e h k = rw e (let q : w / 32768 ≡ 1 = omega arith in rw q)
-
-pub ruleset dialect_rules = (dialect_one, dialect_low, dialect_high, rules)
-
 -- ---- Review's 1 to 4.
 
-pub rule_yes : (j : Judged Rule) (x : Judgement) → x ≡ judgement j → x ≡ Accepted → true ≡ is_accepted j
-unfolding judgement is_accepted
-rule_yes (accepted r) x q e = refl
-rule_yes (refused a i) x q e = let z : ◌≡◌ {A = ℕ} 0 1 = cc in absurd (omega arith)
-
-pub rule_no : (j : Judged Rule) (x : Judgement) (a i : ℕ) → x ≡ judgement j → x ≡ Refused a i → false ≡ is_accepted j
-unfolding judgement is_accepted
-rule_no (accepted r) x a i q e = let z : ◌≡◌ {A = ℕ} 0 1 = cc in absurd (omega arith)
-rule_no (refused b k) x a i q e = refl
-
-module _ (ms ps : List ℤ) (n : ℕ) (b r : Bool) where
-  pub rule_1 : n ≡ 1 → b ≡ false → r ≡ is_accepted (rule_in (dialect_by b) ms ps) → r ≡ is_rule n ms ps
-  unfolding is_rule dialect_of dialect_by
-  rule_1 h g e = e ∙ rw (h, g)
-
-  pub rule_2 : n ≡ 2 → b ≡ true → r ≡ is_accepted (rule_in (dialect_by b) ms ps) → r ≡ is_rule n ms ps
-  unfolding is_rule dialect_of dialect_by
-  rule_2 h g e = e ∙ rw (h, g)
-
-pub rule_none : (ms ps : List ℤ) (n : ℕ) → (n ≡ 1 → ⊥) → (n ≡ 2 → ⊥) → false ≡ is_rule n ms ps
-unfolding is_rule dialect_of
-rule_none ms ps zero f g = refl
-rule_none ms ps (suc zero) f g = absurd (f refl)
-rule_none ms ps (suc (suc zero)) f g = absurd (g refl)
-rule_none ms ps (suc (suc (suc n))) f g = refl
-
-pub ruleset picked_rules = (rule_1, rule_2, rule_none, rules)
+pub accepted_is : (j : Judged Rule) (x : Result (Unit {0}) Refusal) → told x ≡ judgement j → is_ok x ≡ is_accepted j
+unfolding is_accepted
+accepted_is j (Ok u) e = sym (ap is_accepted (was_accepted j (Ok u) e u refl).1)
+accepted_is j (Err f) e = sym (ap is_accepted (was_refused j (Err f) e f refl).0)
 
 pub rule_given : (d : ℕ) (s : List ℕ) (at m n : ℕ) (l t : List ℤ) (r : Bool) → m ≤ n → n ≤ length l → t ≡ sets l 0 (joined n (words_from s at (2 * n)))
     → r ≡ is_rule d (take m t) (take (n - m) (drop m t)) → r ≡ is_rule d (take m (joined n (words_from s at (2 * n)))) (drop m (joined n (words_from s at (2 * n))))

@@ -1,17 +1,16 @@
 -- The rule of a live block, as the code asks for it. Assumes nothing.
-use Prim.Native.Nat.{ℕ, zero, suc, ◌+◌, ◌-◌, ◌*◌, ◌/◌, ◌≤◌, ◌<◌}
+use Prim.Native.Nat.{ℕ, ◌+◌, ◌-◌, ◌*◌, ◌≤◌}
 use native.Mathlib.Omega.{arith}
 use mathlib.Core.Path.{◌≡◌, refl, sym, ap, ap₂, ◌∙◌}
-use mathlib.Core.Bool.{Bool, true, false}
-use mathlib.Core.List.{List, [], ◌∷◌, ◌++◌}
+use mathlib.Core.Bool.{true}
+use mathlib.Core.List.{List}
 use lib.ListN.{length, drop, take, length-drop, take-append-drop}
 use lib.Seq.{sets, length-take-le}
-use lib.Dec.{eqb, leb}
+use lib.Dec.{leb}
 use lib.IntN.{ℤ}
-use borrow.Author.Rules.{rules}
-use borrow.Author.Tests.{leb-true, ne_eqb}
-use Rattle.book_rules.specs.Sums.{word, and_also}
-use Rattle.book_rules.specs.Blocks.{Block, joined, length_in, dialect_in, zeros, is_rule, Entry, entry_of, live_formed}
+use borrow.Author.Tests.{leb-true}
+use Rattle.book_rules.specs.Sums.{word}
+use Rattle.book_rules.specs.Blocks.{Block, joined, length_in, dialect_in, entry_of, live_formed}
 use Rattle.book_rules.specs.Bytes.{word_at, words_from, block_at}
 use Rattle.book_rules.proofs.Walks.{and_also_fst, and_also_snd}
 use Rattle.book_blocks.specs.Heads.{ReadAs}

@@ -1,14 +1,13 @@
 -- Words written one after the other are the words together, and the check of what is written is the block's. Assumes nothing.
-use Prim.Native.Nat.{ℕ, zero, suc, ◌+◌, ◌-◌, ◌*◌, ◌/◌, ◌%◌, ◌≤◌, ◌<◌}
+use Prim.Native.Nat.{ℕ, zero, suc, ◌+◌, ◌-◌, ◌*◌, ◌/◌, ◌%◌, ◌≤◌}
 use native.Mathlib.Omega.{arith}
 use mathlib.Core.Path.{◌≡◌, refl, sym, ap, ap₂, ◌∙◌}
-use mathlib.Core.List.{List, [], ◌∷◌, ◌++◌, append_assoc}
-use lib.ListN.{length, get_or, set, replicate, length-append, length-replicate}
-use lib.Seq.{sets, length-sets}
+use mathlib.Core.List.{List, [], ◌∷◌, ◌++◌}
+use lib.ListN.{length, set, replicate, length-append, length-replicate}
+use lib.Seq.{sets}
 use lib.IntN.{ℤ}
-use borrow.Author.Rules.{rules}
 use Rattle.book_rules.specs.Sums.{word, placed, due}
-use Rattle.book_rules.specs.Blocks.{unsigned, split, Entry, counts, laid, sealed, written, emptied}
+use Rattle.book_rules.specs.Blocks.{unsigned, split, counts, laid, sealed, written, emptied}
 use Rattle.book_rules.specs.Bytes.{word_at, words_from, block_at, bytes_of}
 use Rattle.book_rules.proofs.Round.{length_split}
 use Rattle.book_rules.specs.Views.{length_bytes, within_sets, words_back}

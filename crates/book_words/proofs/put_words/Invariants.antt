@@ -1,6 +1,5 @@
-use Prim.Native.Nat.{◌+◌, ◌-◌, ◌*◌, ◌≤◌}
+use Prim.Native.Nat.{◌+◌, ◌*◌}
 use mathlib.Core.Path.{◌≡◌}
-use lib.ListN.{length}
 use lib.ListN.{drop}
 use lib.Seq.{sets}
 use Rattle.book_rules.specs.Blocks.{split}
@@ -8,7 +7,4 @@ use Rattle.book_rules.specs.Bytes.{bytes_of}
 use Rattle.book_words.proofs.put_words.Given as goal
 
 abbrev pub invariant-loop-i : goal.invariant-loop-i
-invariant-loop-i l = (sets l.initial.s l.at (bytes_of (split l.words)) ≡ sets l.s (l.at + 4 * l.i) (bytes_of (split (drop l.i l.words)))) × (l.i ≤ length l.words) × (length l.s ≡ length l.initial.s)
-
-abbrev pub decreases-loop-i : goal.decreases-loop-i
-decreases-loop-i l = length l.words - l.i
+invariant-loop-i l = sets l.initial.s l.at (bytes_of (split l.words)) ≡ sets l.s (l.at + 4 * l.i) (bytes_of (split (drop l.i l.words)))

@@ -1,31 +1,32 @@
 -- The calls on a book by what crate `book` gives. Assumes nothing.
 use Prim.Native.Nat.{ℕ, zero, suc, ◌≤◌, ◌<◌}
-use native.Mathlib.Omega.{arith}
 use mathlib.Core.Path.{◌≡◌, refl, sym, ap, ap₂, ◌∙◌}
-use mathlib.Core.Bool.{Bool, true, false, cond}
+use mathlib.Core.Bool.{Bool}
 use mathlib.Core.Option.{Option, none, some}
-use mathlib.Core.List.{List, [], ◌∷◌, ◌++◌}
-use lib.ListN.{length}
-use lib.Seq.{sets}
-use lib.Dec.{ltb}
+use mathlib.Core.List.{List, [], ◌∷◌}
+use lib.ListN.{length, get_or}
 use lib.IntN.{ℤ}
 use borrow.Author.Tests.{lt-ltb, le-ltb}
-use borrow.Author.Rules.{rules}
 use Rattle.book_rules.specs.Blocks.{Entry, badge_of, entry_of, unless, or_else, holds, taken}
 use Rattle.book_rules.specs.Books.{Book, Told, in_use, fault, passed, unless_refused, place, withdraw_from, withdraw, slot, add_fault, add_in, add, total, read}
 use Rattle.book_rules.specs.Books as paper
 use Rattle.book_rules.specs.Bytes.{block_at, holding, book_of}
-use Rattle.book_blocks.specs.Heads.{ReadAs}
 use Rattle.book.specs.Testing.{Answered}
-use Rattle.book.specs.Totals.{total_told}
+use Rattle.book.specs.Totals.{total_told, number_in}
 use Rattle.book.specs.Changes.{ChangeTold}
-use Rattle.book.specs.Lookup.{Read, nothing, rule, RuleTold, block_fault, badge_unless, rule_unless, BlockTold}
-use Rattle.book.specs.declared.withdrawal.Changed.{Changed}
-use Rattle.book.specs.declared.lookup.Rule.{Rule}
+use Rattle.book.specs.Lookup.{Read, nothing, rule, head_in, found_in, RuleTold, block_fault, badge_unless, rule_unless, badge_in, rule_in, shown_in, BlockTold}
+use Rattle.std.specs.Prelude.{Some, None, Result, Ok, Err}
+use Rattle.std.specs.Option.{is_some}
+use Rattle.std.specs.Result.{result_unwrap_or as unwrap_or}
+use mir.Val.{bool_byte}
+use Rattle.std.specs.Prelude as code
+use Rattle.book_blocks.specs.declared.fault.Fault.{Fault}
+use Rattle.book_blocks.specs.declared.reading.Head.{Head}
+use Rattle.book_blocks.specs.Faults.{answer_of}
 use Rattle.book.specs.declared.lookup.Shown.{Shown}
 use Rattle.host_numbers.specs.Numbers.{bytes_of, over}
-use Rattle.host.specs.Border.{Called, called}
-use Rattle.host.specs.Books.{BookCalled, book_called, book_numbers, changed, changing, told, telling, checked, check_called, rule_numbers, rule_words, shown, showing, read_called, block_called}
+use Rattle.host.specs.Border.{called}
+use Rattle.host.specs.Books.{book_called, book_numbers, changed, changing, told, telling, checked, check_called, rule_numbers, head_numbers, rule_words, shown, showing, read_called, block_called}
 
 -- ---- Add and withdraw tell no number.
 
@@ -58,15 +59,29 @@ module _ (t : Told) (s numbers : List ℕ) where
   unfolding changing
   change_short h = rw (lt-ltb (length numbers) 24 h)
 
-  pub change_told : t.number ≡ 0 → (at : ℕ) (r : Changed) (after out : List ℕ) (a u : ℕ) → 24 ≤ length numbers → ChangeTold t at r s after → a ≡ r.answer → u ≡ r.used
-      → out ≡ over (bytes_of (a ∷ 0 ∷ u ∷ [])) numbers → book_called r.answer after out ≡ changing t s numbers
+  pub change_told : t.number ≡ 0 → (at a k u r : ℕ) (after out ns : List ℕ) → 24 ≤ length numbers → ChangeTold t at a k u s after → r ≡ a → ns ≡ a ∷ 0 ∷ u ∷ []
+      → out ≡ over (bytes_of ns) numbers → book_called r after out ≡ changing t s numbers
   unfolding changing changed book_numbers
-  change_told z at r after out a u h w ea eu o =
+  change_told z at a k u r after out ns h w er en o =
       rw (le-ltb (length numbers) 24 h) (
-      ap₂ (λ (x : ℕ) (y : List ℕ). book_called x y out) w.answer_is w.bytes_are
-      ∙ ap (λ (y : List ℕ). book_called t.answer (holding s t.book.lent) y) (o
-      ∙ ap₂ (λ (x y : ℕ). over (bytes_of (x ∷ 0 ∷ y ∷ [])) numbers) (ea ∙ w.answer_is) (eu ∙ w.used_is)
+      ap₂ (λ (x : ℕ) (y : List ℕ). book_called x y out) (er ∙ w.answer_is) w.bytes_are
+      ∙ ap (λ (y : List ℕ). book_called t.answer (holding s t.book.lent) y) (o ∙ ap (λ (l : List ℕ). over (bytes_of l) numbers) en
+      ∙ ap₂ (λ (x y : ℕ). over (bytes_of (x ∷ 0 ∷ y ∷ [])) numbers) w.answer_is w.used_is
       ∙ ap (λ (x : ℕ). over (bytes_of (t.answer ∷ x ∷ t.book.used ∷ [])) numbers) (sym z)))
+
+-- ---- What is told where there is no refusal.
+
+pub number_is : (r : Result ℕ Fault) (n : ℕ) → n ≡ unwrap_or r 0 → n ≡ number_in r
+number_is (Ok m) n e = e
+number_is (Err f) n e = e
+
+pub head_is : (r : Result (code.Option Head) Fault) (o : code.Option Head) → o ≡ unwrap_or r None → o ≡ head_in r
+head_is (Ok h) o e = e
+head_is (Err f) o e = e
+
+pub found_is : (o : code.Option Head) (b : Bool) (n : ℕ) → b ≡ is_some o → n ≡ bool_byte b → n ≡ found_in o
+found_is None b n e f = f ∙ ap bool_byte e
+found_is (Some h) b n e f = f ∙ ap bool_byte e
 
 -- ---- Total and check.
 
@@ -78,32 +93,37 @@ module _ (s : List ℕ) (used : ℕ) (numbers : List ℕ) where
   unfolding telling
   total_short h = rw (lt-ltb (length numbers) 24 h)
 
-  pub total_told_lem : (x n a m u : ℕ) (out : List ℕ) → 24 ≤ length numbers → total_told x n b ≡ total b → a ≡ x → m ≡ n → u ≡ used
-      → out ≡ over (bytes_of (a ∷ m ∷ u ∷ [])) numbers → called x [] out ≡ telling (total b) numbers
+  pub total_told_lem : (x n r a m u : ℕ) (out : List ℕ) → 24 ≤ length numbers → total_told x n b ≡ total b → r ≡ x → a ≡ r → m ≡ n → u ≡ used
+      → out ≡ over (bytes_of (a ∷ m ∷ u ∷ [])) numbers → called r [] out ≡ telling (total b) numbers
   unfolding telling told book_numbers total_told book_of
-  total_told_lem x n a m u out h e ea em eu o =
+  total_told_lem x n r a m u out h e er ea em eu o =
       rw (le-ltb (length numbers) 24 h) (
-      ap (λ (y : List ℕ). called x [] y) (o ∙ ap₂ (λ (y z : ℕ). over (bytes_of (y ∷ z ∷ u ∷ [])) numbers) ea em ∙ ap (λ (y : ℕ). over (bytes_of (x ∷ n ∷ y ∷ [])) numbers) eu)
+      ap₂ (λ (y : ℕ) (z : List ℕ). called y [] z) er (o ∙ ap₂ (λ (y z : ℕ). over (bytes_of (y ∷ z ∷ u ∷ [])) numbers) (ea ∙ er) em ∙ ap (λ (y : ℕ). over (bytes_of (x ∷ n ∷ y ∷ [])) numbers) eu)
       ∙ ap (λ (t : Told). told t numbers) e)
 
   pub check_short : length numbers < 24 → called 24 [] numbers ≡ check_called b numbers
   unfolding check_called
   check_short h = rw (lt-ltb (length numbers) 24 h)
 
-  pub check_told : (x n a m u : ℕ) (out : List ℕ) → 24 ≤ length numbers → Answered b x n → a ≡ x → m ≡ n → u ≡ used
-      → out ≡ over (bytes_of (a ∷ m ∷ u ∷ [])) numbers → called x [] out ≡ check_called b numbers
+  pub check_told : (x n r a m u : ℕ) (out : List ℕ) → 24 ≤ length numbers → Answered b x n → r ≡ x → a ≡ r → m ≡ n → u ≡ used
+      → out ≡ over (bytes_of (a ∷ m ∷ u ∷ [])) numbers → called r [] out ≡ check_called b numbers
   unfolding check_called checked book_of
-  check_told x n a m u out h w ea em eu o =
+  check_told x n r a m u out h w er ea em eu o =
       rw (le-ltb (length numbers) 24 h) (
-      ap₂ (λ (y : ℕ) (z : List ℕ). called y [] z) w.answer_is
-      (o ∙ ap₂ (λ (y z : ℕ). over (bytes_of (y ∷ z ∷ u ∷ [])) numbers) (ea ∙ w.answer_is) (em ∙ w.block_is) ∙ ap (λ (y : ℕ). over (bytes_of (fault b ∷ passed 0 [] (in_use b) ∷ y ∷ [])) numbers) eu))
+      ap₂ (λ (y : ℕ) (z : List ℕ). called y [] z) (er ∙ w.answer_is)
+      (o ∙ ap₂ (λ (y z : ℕ). over (bytes_of (y ∷ z ∷ u ∷ [])) numbers) (ea ∙ er ∙ w.answer_is) (em ∙ w.block_is) ∙ ap (λ (y : ℕ). over (bytes_of (fault b ∷ passed 0 [] (in_use b) ∷ y ∷ [])) numbers) eu))
 
 -- ---- A rule that is read.
 
-rule_told : {found : Option Entry} {v d m p : ℕ} {words after : List ℤ} → Read found v d m p words after → (rule_numbers found ≡ v ∷ d ∷ m ∷ p ∷ []) × (rule_words found words ≡ after)
+rule_told : {found : Option Entry} {head : code.Option Head} {words after : List ℤ} → Read found head words after → (rule_numbers found ≡ head_numbers head) × (rule_words found words ≡ after)
 unfolding rule_numbers rule_words
 rule_told nothing = (refl, refl)
 rule_told (rule w) = (rw (w.version_is, w.dialect_is, w.matcher_is, w.pattern_is), sym w.words_are)
+
+-- The four numbers, one by one.
+pub four : (head : code.Option Head) (ns : List ℕ) → ns ≡ head_numbers head → get_or ns 0 0 ∷ get_or ns 1 0 ∷ get_or ns 2 0 ∷ get_or ns 3 0 ∷ [] ≡ head_numbers head
+four None ns e = rw e
+four (Some h) ns e = rw e
 
 module _ (x n : ℕ) (found : Option Entry) (words : List ℤ) (numbers : List ℕ) where
   pub show_short : length numbers < 48 → called 24 words numbers ≡ showing x n found words numbers
@@ -114,10 +134,10 @@ module _ (x n : ℕ) (found : Option Entry) (words : List ℤ) (numbers : List �
   unfolding showing
   show_narrow h k = rw (le-ltb (length numbers) 48 h, lt-ltb (length words) 124 k)
 
-  pub show_told : (v d m p : ℕ) (after : List ℤ) (out : List ℕ) → 48 ≤ length numbers → 124 ≤ length words → Read found v d m p words after
-      → out ≡ over (bytes_of (x ∷ n ∷ v ∷ d ∷ m ∷ p ∷ [])) numbers → called x after out ≡ showing x n found words numbers
+  pub show_told : (head : code.Option Head) (after : List ℤ) (out : List ℕ) → 48 ≤ length numbers → 124 ≤ length words → Read found head words after
+      → out ≡ over (bytes_of (x ∷ n ∷ head_numbers head)) numbers → called x after out ≡ showing x n found words numbers
   unfolding showing shown
-  show_told v d m p after out h k w o =
+  show_told head after out h k w o =
       let r = rule_told w in
       rw (le-ltb (length numbers) 48 h, le-ltb (length words) 124 k)
       (ap₂ (λ (y : List ℤ) (z : List ℕ). called x y z) (sym r.1) (o ∙ ap (λ (l : List ℕ). over (bytes_of (x ∷ n ∷ l)) numbers) (sym r.0)))
@@ -131,14 +151,14 @@ module _ (x : ℕ) (b : Book) (words : List ℤ) (numbers : List ℕ) where
   unfolding read_called
   read_narrow h k = show_narrow (read x b).answer (read x b).number (read x b).found words numbers h k
 
-  pub read_told : (r : Rule) (after : List ℤ) (out : List ℕ) (a f v d m p : ℕ) → 48 ≤ length numbers → 124 ≤ length words → RuleTold (read x b) r words after
-      → a ≡ r.answer → f ≡ r.found → v ≡ r.version → d ≡ r.dialect → m ≡ r.matcher → p ≡ r.pattern
-      → out ≡ over (bytes_of (a ∷ f ∷ v ∷ d ∷ m ∷ p ∷ [])) numbers → called r.answer after out ≡ read_called x b words numbers
+  pub read_told : (r : Result (code.Option Head) Fault) (after : List ℤ) (out : List ℕ) (g a f : ℕ) (ns : List ℕ) → 48 ≤ length numbers → 124 ≤ length words → RuleTold (read x b) r words after
+      → g ≡ answer_of r → a ≡ g → f ≡ found_in (head_in r) → ns ≡ head_numbers (head_in r)
+      → out ≡ over (bytes_of (a ∷ f ∷ ns)) numbers → called g after out ≡ read_called x b words numbers
   unfolding read_called
-  read_told r after out a f v d m p h k w ea ef ev ed em ep o =
-      ap (λ (y : ℕ). called y after out) w.answer_is
-      ∙ show_told (read x b).answer (read x b).number (read x b).found words numbers r.version r.dialect r.matcher r.pattern after out h k w.rule_is
-      (o ∙ rw (ea, ef, ev, ed, em, ep, w.answer_is, w.found_is))
+  read_told r after out g a f ns h k w eg ea ef en o =
+      ap (λ (y : ℕ). called y after out) (eg ∙ w.answer_is)
+      ∙ show_told (read x b).answer (read x b).number (read x b).found words numbers (head_in r) after out h k w.rule_is
+      (o ∙ ap (λ (l : List ℕ). over (bytes_of (a ∷ f ∷ l)) numbers) en ∙ ap₂ (λ (y z : ℕ). over (bytes_of (y ∷ z ∷ head_numbers (head_in r))) numbers) (ea ∙ eg ∙ w.answer_is) (ef ∙ w.found_is))
 
 module _ (s : List ℕ) (j : ℕ) (words : List ℤ) (numbers : List ℕ) where
   pub block_short : length numbers < 48 → called 24 words numbers ≡ block_called s j words numbers
@@ -149,12 +169,12 @@ module _ (s : List ℕ) (j : ℕ) (words : List ℤ) (numbers : List ℕ) where
   unfolding block_called
   block_narrow h k = show_narrow (block_fault s j) (badge_unless (block_fault s j) (badge_of (block_at s j))) (rule_unless (block_fault s j) (badge_of (block_at s j)) (entry_of (block_at s j))) words numbers h k
 
-  pub block_told : (r : Shown) (after : List ℤ) (out : List ℕ) (a f v d m p : ℕ) → 48 ≤ length numbers → 124 ≤ length words → BlockTold s j r words after
-      → a ≡ r.answer → f ≡ r.badge → v ≡ r.version → d ≡ r.dialect → m ≡ r.matcher → p ≡ r.pattern
-      → out ≡ over (bytes_of (a ∷ f ∷ v ∷ d ∷ m ∷ p ∷ [])) numbers → called r.answer after out ≡ block_called s j words numbers
+  pub block_told : (r : Result (code.Option Shown) Fault) (after : List ℤ) (out : List ℕ) (g a f : ℕ) (ns : List ℕ) → 48 ≤ length numbers → 124 ≤ length words → BlockTold s j r words after
+      → g ≡ answer_of r → a ≡ g → f ≡ badge_in (shown_in r) → ns ≡ head_numbers (rule_in (shown_in r))
+      → out ≡ over (bytes_of (a ∷ f ∷ ns)) numbers → called g after out ≡ block_called s j words numbers
   unfolding block_called
-  block_told r after out a f v d m p h k w ea ef ev ed em ep o =
-      ap (λ (y : ℕ). called y after out) w.answer_is
+  block_told r after out g a f ns h k w eg ea ef en o =
+      ap (λ (y : ℕ). called y after out) (eg ∙ w.answer_is)
       ∙ show_told (block_fault s j) (badge_unless (block_fault s j) (badge_of (block_at s j))) (rule_unless (block_fault s j) (badge_of (block_at s j)) (entry_of (block_at s j)))
-      words numbers r.version r.dialect r.matcher r.pattern after out h k w.rule_is
-      (o ∙ rw (ea, ef, ev, ed, em, ep, w.answer_is, w.badge_is))
+      words numbers (rule_in (shown_in r)) after out h k w.rule_is
+      (o ∙ ap (λ (l : List ℕ). over (bytes_of (a ∷ f ∷ l)) numbers) en ∙ ap₂ (λ (y z : ℕ). over (bytes_of (y ∷ z ∷ head_numbers (rule_in (shown_in r)))) numbers) (ea ∙ eg ∙ w.answer_is) (ef ∙ w.badge_is))

@@ -7,21 +7,6 @@ returns-then-numbers-lt-ADVANCE_BYTES c = search advance_rules
 pub advanced-out-requires : goal.advanced-out-requires
 advanced-out-requires c = search advance_rules
 
-pub wide-requires : goal.wide-requires
-wide-requires c = search advance_rules
-
-pub wide_index-requires : goal.wide_index-requires
-wide_index-requires c = search advance_rules
-
-pub wide_index-requires-2 : goal.wide_index-requires-2
-wide_index-requires-2 c = search advance_rules
-
-pub wide-requires-2 : goal.wide-requires-2
-wide-requires-2 c = search advance_rules
-
-pub put_six-requires : goal.put_six-requires
-put_six-requires c = search advance_rules
-
 pub shape_of-room : goal.shape_of-room
 shape_of-room c = search advance_rules
 

@@ -7,18 +7,6 @@ returns-then-numbers-lt-OPEN_BYTES c = search open_rules
 pub opened-start-requires : goal.opened-start-requires
 opened-start-requires c = search open_rules
 
-pub wide-requires : goal.wide-requires
-wide-requires c = search open_rules
-
-pub wide_index-requires : goal.wide_index-requires
-wide_index-requires c = search open_rules
-
-pub wide-requires-2 : goal.wide-requires-2
-wide-requires-2 c = search open_rules
-
-pub put_three-requires : goal.put_three-requires
-put_three-requires c = search open_rules
-
 pub shape_of-numbers : goal.shape_of-numbers
 shape_of-numbers c = search open_rules
 

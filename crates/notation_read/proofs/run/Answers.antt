@@ -1,68 +1,33 @@
-use Rattle.notation_read.proofs.Laws.{run_refused, run_next, run_kept, run_len, run_top, run_rules}
-use mathlib.Core.Path.{◌∙◌}
+use Rattle.std.proofs.Common.{◌-◌, ◌+◌, length, refl, arith, ap, ◌∙◌}
+use Rattle.notation_read.specs.Read.{stopped, ran_to}
+use Rattle.notation_read.proofs.Laws.{run_start, run_over, run_end, run_refused, run_next, run_len, run_top, run_kept}
 use Rattle.notation_read.proofs.run.Goals as goal
+use Rattle.notation_read.proofs.run.Goals.{else-loop-turn-test, then-loop-turn-test+then-t-eq-END}
 
-pub empty_stack-stack-requires : goal.empty_stack-stack-requires
-empty_stack-stack-requires c = search run_rules
+pub loop-turn-init : goal.loop-turn-init
+loop-turn-init c = record { run_so_far = run_start _ _ _ _ c.empty_stack-stack.ensures c.none-names.ensures; length_kept = refl; few_words = omega arith; few_wait = omega arith }
 
-pub loop-left-init : goal.loop-left-init
-loop-left-init c = (search run_rules, search run_rules, search run_rules, search run_rules)
+pub returns-then-s-ne0 : goal.returns-then-s-ne0
+returns-then-s-ne0 c =
+    run_refused _ _ _ _ _ _ _ _ c.loop-turn.invariant.run_so_far _ (length c.args.text.now - (c.loop-turn.turn + 1)) (omega arith) c.scan-t.ensures c.if-t-eq-END.false _ _ _ _ _ c.resolve-n.ensures c.add.ensures c.step-s.ensures c.if-s-ne0.true
 
-pub scan-t-requires : goal.scan-t-requires
-scan-t-requires c = search run_rules
-
-pub finish-requires : goal.finish-requires
-finish-requires c = search run_rules
-
-pub ran_to-requires : goal.ran_to-requires
-ran_to-requires c = search run_rules
-
-pub shape_of-words-then-t-eq-END : goal.shape_of-words-then-t-eq-END
-shape_of-words-then-t-eq-END c = search run_rules
-
-pub returns-then-t-eq-END : goal.returns-then-t-eq-END
-returns-then-t-eq-END c = search run_rules
-
-pub resolve-n-requires : goal.resolve-n-requires
-resolve-n-requires c = search run_rules
-
-pub add-count-requires : goal.add-count-requires
-add-count-requires c = search run_rules
-
-pub step-s-requires : goal.step-s-requires
-step-s-requires c = search run_rules
-
-pub ran_to-requires-then-s-gt0 : goal.ran_to-requires-then-s-gt0
-ran_to-requires-then-s-gt0 c = search run_rules
-
-pub shape_of-words-then-s-gt0 : goal.shape_of-words-then-s-gt0
-shape_of-words-then-s-gt0 c = run_kept _ _ _ _ _ _ _ _ c.step-s.ensures ∙ c.loop-left.invariant.1
-
-pub returns-then-s-gt0 : goal.returns-then-s-gt0
-returns-then-s-gt0 c = run_refused _ _ _ _ _ _ _ _ _ _ c.loop-left.invariant.0 _ c.scan-t.ensures c.loop-left-test.true _ _ _ _ c.if-t-eq-END.false c.resolve-n.ensures c.step-s.ensures _ c.if-s-gt0.true c.ran_to-then-s-gt0.ensures
-
-pub overflow_sub-left : goal.overflow_sub-left
-overflow_sub-left c = search run_rules
-
-pub loop-left-smaller : goal.loop-left-smaller
-loop-left-smaller c = search run_rules
-
-pub loop-left-preserved : goal.loop-left-preserved
-loop-left-preserved c = let t = c.loop-left-test.true in (
-  run_next _ _ _ _ _ _ _ _ _ _ c.loop-left.invariant.0 _ c.scan-t.ensures t _ _ _ _ c.if-t-eq-END.false c.resolve-n.ensures c.step-s.ensures _ _ _ c.if-s-gt0.false c.add-count.ensures,
-  run_kept _ _ _ _ _ _ _ _ c.step-s.ensures ∙ c.loop-left.invariant.1,
-  run_len _ _ _ _ _ _ _ _ _ c.step-s.ensures t c.loop-left.invariant.2,
-  run_top _ _ _ _ _ _ _ _ _ c.step-s.ensures t c.loop-left.invariant.3,
-)
-
-pub finish-requires-2 : goal.finish-requires-2
-finish-requires-2 c = search run_rules
-
-pub ran_to-requires-2 : goal.ran_to-requires-2
-ran_to-requires-2 c = search run_rules
-
-pub shape_of-words : goal.shape_of-words
-shape_of-words c = search run_rules
+pub loop-turn-preserved : goal.loop-turn-preserved
+loop-turn-preserved c =
+    let i = c.loop-turn.invariant in
+    let l = run_len _ _ _ _ _ _ _ _ c.step-s.ensures in
+    let t = run_top _ _ _ _ _ _ _ _ c.step-s.ensures in
+    record {
+      run_so_far = run_next _ _ _ _ _ _ _ _ i.run_so_far _ (length c.args.text.now - (c.loop-turn.turn + 1)) (omega arith) c.scan-t.ensures c.if-t-eq-END.false _ _ _ _ _ c.resolve-n.ensures c.add.ensures c.step-s.ensures c.if-s-ne0.false;
+      length_kept = run_kept _ _ _ _ _ _ _ _ c.step-s.ensures ∙ i.length_kept;
+      few_words = omega arith;
+      few_wait = omega arith;
+    }
 
 pub returns : goal.returns
-returns c = search run_rules
+returns c =
+    let i = c.loop-turn.invariant.run_so_far in
+    ap (λ r. stopped r c.loop-turn.words) (c.ran_to.ensures ∙ ap (λ k. ran_to c.loop-turn.s k (length c.args.text.now)) c.finish.ensures)
+    ∙ elim c.loop-turn-test.branch [
+      | else-loop-turn-test w ↦ run_over _ _ _ _ _ _ _ _ i (omega arith)
+      | then-loop-turn-test+then-t-eq-END w ↦ run_end _ _ _ _ _ _ _ _ i _ w.scan-t.ensures w.if-t-eq-END.true
+    ]

@@ -1,75 +1,50 @@
 -- `notation_write::write`, which calls itself, meets its contract. The depth falls at each call.
-use Prim.Native.Nat.{◌-◌}
-use Rattle.notation_write.proofs.Laws.{parts_none, parts_none_end, written_drawn, written_ends, write_rules}
-use Rattle.notation_write.proofs.+write.Goals as goal
+use Rattle.std.proofs.Common.{◌≡◌, suc, ◌-◌, ◌+◌, refl, ◌∙◌, arith}
+use Rattle.notation_print.specs.Pens.{sheet_of}
+use Rattle.notation_write.proofs.Laws.{parts_next, parts_next_end, parts_none, parts_none_end, written_nothing, written_nowhere, written_drawn, written_ends}
+use Rattle.notation_write.proofs.«+write».Goals as goal
 
-pub returns-then-depth-eq0 : goal.returns-then-depth-eq0
-returns-then-depth-eq0 t c = search write_rules
+pub returns-then-depth-eq0-clause-drawn : goal.returns-then-depth-eq0-clause-drawn
+returns-then-depth-eq0-clause-drawn t c = (refl, written_nothing c.args.ws.now c.args.depth c.args.at c.args.what c.if-depth-eq0.true (sheet_of c.args.pen.now))
 
-pub tag_at-requires : goal.tag_at-requires
-tag_at-requires t c = search write_rules
+pub returns-then-depth-eq0-clause-end : goal.returns-then-depth-eq0-clause-end
+returns-then-depth-eq0-clause-end t c = written_nowhere c.args.ws.now c.args.depth c.args.at c.args.what c.if-depth-eq0.true
 
-pub node_of-node-requires : goal.node_of-node-requires
-node_of-node-requires t c = search write_rules
+pub loop-preserved : goal.loop-preserved
+loop-preserved t c =
+    let l = c.loop in
+    let node = c.node_of-node.result.now in
+    let n = c.count-end.result in
+    let w = c.write-next.ensures in
+    let one : n - l.counter ≡ suc (n - (l.counter + 1)) = omega arith in
+    record {
+      same_page = w.drawn.0 ∙ c.put_token.ensures.0 ∙ l.invariant.same_page;
+      drawn = parts_next c.args.ws.now (c.args.depth - 1) node.others node.between (n - l.counter) l.next l.part l.between (n - (l.counter + 1)) c.write-next.result _ (sheet_of l.pen)
+          (sheet_of c.put_token.new.pen) (sheet_of c.write-next.new.pen) one l.invariant.drawn w.end c.put_token.ensures.1 w.drawn.1;
+      ends = parts_next_end c.args.ws.now (c.args.depth - 1) node.others node.between (n - l.counter) l.next l.part l.between (n - (l.counter + 1)) c.write-next.result _ one l.invariant.ends w.end;
+    }
 
-pub put_front-p-requires : goal.put_front-p-requires
-put_front-p-requires t c = search write_rules
+pub returns-clause-drawn : goal.returns-clause-drawn
+returns-clause-drawn t c =
+    let l = c.loop in
+    let node = c.node_of-node.result.now in
+    let n = c.count-end.result in
+    let none : n - l.counter ≡ 0 = omega arith in
+    let deep : c.args.depth ≡ suc (c.args.depth - 1) = omega (arith, c.if-depth-eq0.false) in
+    let parts = parts_none c.args.ws.now (c.args.depth - 1) node.others node.between (n - l.counter) l.next l.part l.between _ (sheet_of l.pen) none l.invariant.drawn in (
+      c.put_back.ensures.0 ∙ l.invariant.same_page ∙ c.put_front.ensures.0,
+      written_drawn c.args.ws.now c.args.depth (c.args.depth - 1) c.args.at c.args.what n c.head.result c.ahead-next.result c.tag_at.result node deep c.tag_at.ensures c.node_of-node.ensures
+          c.count-end.ensures c.head.ensures.value c.ahead-next.ensures (sheet_of c.args.pen.now) (sheet_of c.put_front.new.pen) (sheet_of l.pen) (sheet_of c.put_back.new.pen)
+          c.put_front.ensures.1 parts c.put_back.ensures.1,
+    )
 
-pub byte_of-count-requires : goal.byte_of-count-requires
-byte_of-count-requires t c = search write_rules
-
-pub count_of-left-requires : goal.count_of-left-requires
-count_of-left-requires t c = search write_rules
-
-pub byte_of-requires : goal.byte_of-requires
-byte_of-requires t c = search write_rules
-
-pub head_of-requires : goal.head_of-requires
-head_of-requires t c = search write_rules
-
-pub ahead-e-requires : goal.ahead-e-requires
-ahead-e-requires t c = search write_rules
-
-pub byte_of-part-requires : goal.byte_of-part-requires
-byte_of-part-requires t c = search write_rules
-
-pub loop-left-init : goal.loop-left-init
-loop-left-init t c = search write_rules
-
-pub put_token-q-requires : goal.put_token-q-requires
-put_token-q-requires t c = search write_rules
-
-pub overflow_sub-depth : goal.overflow_sub-depth
-overflow_sub-depth t c = search write_rules
-
-pub write-s-requires : goal.write-s-requires
-write-s-requires t c = search write_rules
-
-pub byte_of-part-requires-in-loop-left : goal.byte_of-part-requires-in-loop-left
-byte_of-part-requires-in-loop-left t c = search write_rules
-
-pub byte_of-between-requires : goal.byte_of-between-requires
-byte_of-between-requires t c = search write_rules
-
-pub overflow_sub-left : goal.overflow_sub-left
-overflow_sub-left t c = search write_rules
-
-pub loop-left-smaller : goal.loop-left-smaller
-loop-left-smaller t c = search write_rules
-
-pub loop-left-preserved : goal.loop-left-preserved
-loop-left-preserved t c = (search write_rules, search write_rules, search write_rules)
-
-pub put_back-r-requires : goal.put_back-r-requires
-put_back-r-requires t c = search write_rules
-
-pub shape_of-out : goal.shape_of-out
-shape_of-out t c = search write_rules
-
-pub returns : goal.returns
-returns t c = (
-  written_drawn _ _ _ _ _ _ c.if-depth-eq0.false c.tag_at.ensures c.node_of-node.ensures _ _ _ _ _ _ c.byte_of-count.ensures c.count_of-left.ensures c.byte_of.ensures c.head_of.ensures c.ahead-e.ensures c.byte_of-part.ensures _ _ _ _
-      c.put_front-p.ensures (parts_none _ _ _ _ _ _ _ _ _ _ c.loop-left-test.false c.loop-left.invariant.0) c.put_back-r.ensures,
-  written_ends _ _ _ _ _ _ c.if-depth-eq0.false c.tag_at.ensures c.node_of-node.ensures _ _ _ _ _ _ c.byte_of-count.ensures c.count_of-left.ensures c.byte_of.ensures c.head_of.ensures c.ahead-e.ensures c.byte_of-part.ensures _
-      (parts_none_end _ _ _ _ _ _ _ _ _ c.loop-left-test.false c.loop-left.invariant.1),
-)
+pub returns-clause-end : goal.returns-clause-end
+returns-clause-end t c =
+    let l = c.loop in
+    let node = c.node_of-node.result.now in
+    let n = c.count-end.result in
+    let none : n - l.counter ≡ 0 = omega arith in
+    let deep : c.args.depth ≡ suc (c.args.depth - 1) = omega (arith, c.if-depth-eq0.false) in
+    written_ends c.args.ws.now c.args.depth (c.args.depth - 1) c.args.at c.args.what n c.head.result c.ahead-next.result c.tag_at.result node deep c.tag_at.ensures c.node_of-node.ensures
+    c.count-end.ensures c.head.ensures.value c.ahead-next.ensures l.next
+    (parts_none_end c.args.ws.now (c.args.depth - 1) node.others node.between (n - l.counter) l.next l.part l.between _ none l.invariant.ends)

@@ -1,17 +1,16 @@
-use mathlib.Core.Path.{◌≡◌}
-use Prim.Native.Nat.{◌-◌}
-use lib.ListN.{length}
-use Rattle.notation_print.specs.Inks.{sheet}
-use Rattle.notation_write.specs.Written.{field, draws, parts, written}
-use Rattle.notation_write.proofs.+write.Given as goal
+use Rattle.std.proofs.Common.{◌≡◌, ◌-◌}
+use Rattle.notation_print.specs.Pens.{sheet_of, Stays}
+use Rattle.notation_write.specs.Written.{draws, parts, written}
+use Rattle.notation_write.proofs.«+write».Given as goal
 
 abbrev pub decreases-write : goal.decreases-write
 decreases-write l = l.depth
 
-abbrev pub invariant-loop-left : goal.invariant-loop-left
-invariant-loop-left l = (draws (sheet l.initial.out l.initial.p.at l.initial.p.last) (parts (written l.ws (l.depth - 1)) (field l.node 1099511627776) (field l.node 281474976710656) l.initial.left l.initial.e l.initial.part l.initial.between).inks ≡ draws (sheet l.out l.p.at l.p.last) (parts (written l.ws (l.depth - 1)) (field l.node 1099511627776) (field l.node 281474976710656) l.left l.e l.part l.between).inks)
-    × ((parts (written l.ws (l.depth - 1)) (field l.node 1099511627776) (field l.node 281474976710656) l.initial.left l.initial.e l.initial.part l.initial.between).end ≡ (parts (written l.ws (l.depth - 1)) (field l.node 1099511627776) (field l.node 281474976710656) l.left l.e l.part l.between).end)
-    × (length l.out ≡ length l.initial.out)
-
-abbrev pub decreases-loop-left : goal.decreases-loop-left
-decreases-loop-left l = l.left
+abbrev pub invariant-loop : goal.invariant-loop
+invariant-loop l = record {
+  same_page : Stays l.initial.pen l.pen;
+  drawn : draws (sheet_of l.pen) (parts (written l.ws (l.depth - 1)) l.node.others l.node.between (l.end - l.counter) l.next l.part l.between).inks
+      ≡ draws (sheet_of l.initial.pen) (parts (written l.ws (l.depth - 1)) l.node.others l.node.between l.end l.initial.next l.initial.part l.initial.between).inks;
+  ends : (parts (written l.ws (l.depth - 1)) l.node.others l.node.between (l.end - l.counter) l.next l.part l.between).end
+      ≡ (parts (written l.ws (l.depth - 1)) l.node.others l.node.between l.end l.initial.next l.initial.part l.initial.between).end;
+}

@@ -47,10 +47,6 @@ pc_short pc h = omega arith
 
 pub ruleset place_rules = (place_other, place_land, place_fits, place_short, pc_short, rules)
 
-pub lower_none : (o d : ℕ) (b : Bool) → b ≡ takes o → b ≡ true → d ≡ 0 → 0 ≡ lower o d
-unfolding lower
-lower_none o d b e h z = let t : takes o ≡ true = sym e ∙ h in rw (t, z)
-
 pub lower_one : (o d : ℕ) (b : Bool) → b ≡ takes o → b ≡ true → d - 1 ≡ lower o d
 unfolding lower
 lower_one o d b e h = let t : takes o ≡ true = sym e ∙ h in rw t
@@ -69,7 +65,7 @@ to_land o land x b e h = let t : takes o ≡ false = sym e ∙ h in rw t
 
 pub ruleset to_rules = (to_taken, to_land, rules)
 
-pub ruleset lower_rules = (lower_none, lower_one, lower_same, rules)
+pub ruleset lower_rules = (lower_one, lower_same, rules)
 
 pub lower_le : (o d : ℕ) → lower o d ≤ d
 unfolding lower

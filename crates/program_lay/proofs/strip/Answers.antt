@@ -4,12 +4,6 @@ use Rattle.program_lay.proofs.strip.Goals as goal
 pub returns-then-k-eq0 : goal.returns-then-k-eq0
 returns-then-k-eq0 c = search leaf_rules
 
-pub put-requires : goal.put-requires
-put-requires c = search leaf_rules
-
-pub overflow_add-result : goal.overflow_add-result
-overflow_add-result c = search leaf_rules
-
 pub returns-then-o-lt-CONSTANT : goal.returns-then-o-lt-CONSTANT
 returns-then-o-lt-CONSTANT c = search leaf_rules
 

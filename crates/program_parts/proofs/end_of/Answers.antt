@@ -1,9 +1,6 @@
 use Rattle.program_parts.proofs.Laws.{end_rules}
 use Rattle.program_parts.proofs.end_of.Goals as goal
 
-pub wide-requires : goal.wide-requires
-wide-requires c = search end_rules
-
 pub matcher_end-e-requires : goal.matcher_end-e-requires
 matcher_end-e-requires c = search end_rules
 

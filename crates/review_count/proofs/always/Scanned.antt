@@ -1,33 +1,15 @@
 -- The scan line by line, as the code asks for it. Assumes nothing.
-use Prim.Native.Nat.{ℕ, zero, suc, ◌+◌, ◌-◌, ◌≤◌, ◌<◌}
+use Prim.Native.Nat.{ℕ, suc, ◌+◌, ◌-◌, ◌≤◌, ◌<◌}
 use native.Mathlib.Omega.{arith}
-use mathlib.Core.Path.{◌≡◌, refl, sym, ap, ◌∙◌}
+use mathlib.Core.Path.{◌≡◌, sym, ◌∙◌}
 use mathlib.Core.Bool.{Bool, true, false, cond}
 use mathlib.Core.List.{List}
-use lib.Dec.{eqb, ltb}
+use lib.Dec.{eqb}
 use lib.ListN.{get_or}
-use borrow.Author.Tests.{lt-ltb, le-ltb, eq-eqb, ne_eqb}
+use borrow.Author.Tests.{eq-eqb, ne_eqb}
 use borrow.Author.Rules.{rules}
 use Rattle.words.specs.Words.{entries}
 use Rattle.review_count.specs.Scan.{line_fails, none_from}
-
--- ---- A line.
-
-pub fails_not : (o : ℕ) → o ≡ 16 → true ≡ line_fails o
-unfolding line_fails
-fails_not o e = rw e
-
-pub fails_inside : (o : ℕ) → 4 ≤ o → o < 10 → true ≡ line_fails o
-unfolding line_fails
-fails_inside o h k = rw (lt-ltb 3 o h, lt-ltb o 10 k)
-
-pub fails_below : (o : ℕ) → (o ≡ 16 → ⊥) → o < 4 → false ≡ line_fails o
-unfolding line_fails
-fails_below o n h = let a : o ≤ 3 = omega arith in rw (le-ltb 3 o a, ne_eqb o 16 n)
-
-pub fails_above : (o : ℕ) → (o ≡ 16 → ⊥) → 10 ≤ o → false ≡ line_fails o
-unfolding line_fails
-fails_above o n h = let a : 3 < o = omega arith in rw (lt-ltb 3 o a, le-ltb o 10 h, ne_eqb o 16 n)
 
 -- ---- The lines.
 
@@ -54,7 +36,5 @@ module _ (n : Bool) (pc : ℕ) (op : List ℕ) (i : n ≡ none_from op pc (entri
 
       pub turn : pc < entries → (o ≡ 0 → ⊥) → b ≡ false → n ≡ none_from op (pc + 1) (entries - (pc + 1))
       turn h q t = let f : line_fails o ≡ false = sym e ∙ t in here h ∙ rw (ne_eqb o 0 q, f)
-
-pub ruleset line_rules = (fails_not, fails_inside, fails_below, fails_above, rules)
 
 pub ruleset own_rules = (out, at_end, fails, turn, rules)

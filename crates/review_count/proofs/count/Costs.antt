@@ -11,15 +11,16 @@ use borrow.Author.Tests.{ne_eqb}
 use lib.Dec.{eqb}
 use lib.ListN.{get_or}
 use Rattle.rules.specs.Forms.{Matcher, Pattern, Matchers, no_matchers, ◌▸ᵐ◌, countᵐ, Patterns, no_patterns, ◌▸ᵖ◌, countᵖ}
-use Rattle.rules.specs.Forms.{list, multiset, tuple}
+use Rattle.rules.specs.Forms.{list, multiset}
 use Rattle.rules.specs.Fit.{element, members, is_something, is_integer}
 use Rattle.rules.specs.Review.{leaf_steps, cons_factor, factor, factor_all, summed, summed_all}
-use Rattle.program_rules.specs.Points.{list_cons, multiset_cons, joins, Test, as_constant, as_value, as_nil, tested, test_by, over, first_by, whole}
+use Rattle.program_rules.specs.Points.{list_cons, multiset_cons, joins, as_constant, as_value, as_nil, tested, test_by, over, first_by, whole}
 use Rattle.program_rules.specs.Points.{loose_wildcard, loose_variable, Instr, strip, keep, other, close, drop, bind, test, split, apart, choice, deny, cut_at, end}
 use Rattle.program_rules.specs.Points.{Item, item, or_else, end_or, stop, Point, point, else_place, end_place, cutting, finish, reserve, beyond, beside, reserved, first_of, others_of, items, parted}
 use Rattle.program_rules.specs.Points.{Follows, strips, drops, binds, tests, splits, aparts, keeps, chooses, denies, cuts, elses, closes, reserves, ends, after_end_lem}
 use Rattle.program_rules.specs.Program.{follow_of}
-use Rattle.review_count.specs.Tally.{step_of, factor_of, next_of, reserved_after, Laid, aside, top_product, top_taken, rest_of, turn_of, laid_of, taken_of, last_of, waiting_of}
+use Rattle.review_count.specs.Tally.{step_of, factor_of, next_of, reserved_after, aside, top_product, top_taken, rest_of, turn_of, laid_of, taken_of, last_of, waiting_of}
+use Rattle.review_count.specs.declared.count.Laid.{Laid}
 use Rattle.review_count.specs.Tally.{Along, along, onward, reserving, sum_from}
 
 -- The count of what is still to do after the product e, the end included; w is what waits, an entry for each item.

@@ -11,48 +11,37 @@ use borrow.Author.Tests.{ne_eqb}
 use lib.Dec.{eqb}
 use lib.ListN.{length, set}
 use lib.Seq.{get_or-set_same, get_or-set_other}
-use Rattle.review_count.specs.Tally.{step_of, factor_of, next_of, Laid, aside, top_product, top_taken, rest_of, turn_of, laid_of, taken_of, last_of, waiting_of}
+use Rattle.review_count.specs.Tally.{step_of, factor_of, next_of, aside, top_product, top_taken, rest_of, turn_of, laid_of, taken_of, last_of, waiting_of}
+use Rattle.review_count.specs.declared.count.Laid.{Laid}
 use Rattle.review_count.specs.Pile.{waiting_at, top_in, depth_by}
 use Rattle.review_count.specs.declared.count.Turn.{Turn}
 use Rattle.review_count.specs.declared.count.Turn.TheVariants.{Stay, Rest, Anew, Same, Take}
 
--- ---- The arrays.
+-- ---- The array.
 
-pub top_product_lem : (k t : List ℕ) (d : ℕ) → top_product (waiting_at k t d) ≡ top_in k d
-unfolding top_product waiting_at top_in
-top_product_lem k t zero = refl
-top_product_lem k t (suc d) = refl
-
-pub top_taken_lem : (k t : List ℕ) (d : ℕ) → top_taken (waiting_at k t d) ≡ top_in t d
-unfolding top_taken waiting_at top_in
-top_taken_lem k t zero = refl
-top_taken_lem k t (suc d) = refl
+pub top_is : (w : List Laid) (d : ℕ) → (top_product (waiting_at w d) ≡ (top_in w d).product) × (top_taken (waiting_at w d) ≡ (top_in w d).taken)
+unfolding top_product top_taken waiting_at top_in
+top_is w zero = (refl, refl)
+top_is w (suc d) = (refl, refl)
 
 -- A store at or above the top is not seen.
-pub top_above : (a : List ℕ) (d v : ℕ) → top_in (set a d v) d ≡ top_in a d
-unfolding top_in
-top_above a zero v = refl
-top_above a (suc d) v = get_or-set_other a (suc d) d v 0 (λ e. omega arith)
-
-above : (k t : List ℕ) (i v u d : ℕ) → d ≤ i → waiting_at (set k i v) (set t i u) d ≡ waiting_at k t d
+above : (w : List Laid) (i : ℕ) (v : Laid) (d : ℕ) → d ≤ i → waiting_at (set w i v) d ≡ waiting_at w d
 unfolding waiting_at
-above k t i v u zero h = refl
-above k t i v u (suc d) h =
-    rw (get_or-set_other k i d v 0 (λ e. omega arith), get_or-set_other t i d u 0 (λ e. omega arith), above k t i v u d (omega arith))
+above w i v zero h = refl
+above w i v (suc d) h = rw (get_or-set_other w i d v (aside 0 0) (λ e. omega arith), above w i v d (omega arith))
 
-pub push : (k t : List ℕ) (d v u : ℕ) → d < length k → d < length t → waiting_at (set k d v) (set t d u) (d + 1) ≡ aside v u ∷ waiting_at k t d
+pub push : (w : List Laid) (d : ℕ) (v : Laid) → d < length w → waiting_at (set w d v) (d + 1) ≡ v ∷ waiting_at w d
 unfolding waiting_at
-push k t d v u h i = rw (add-one d, get_or-set_same k d v 0 h, get_or-set_same t d u 0 i, above k t d v u d (omega arith))
+push w d v h = rw (add-one d, get_or-set_same w d v (aside 0 0) h, above w d v d (omega arith))
 
-pub waits_after_lem : (r : Turn) (k t : List ℕ) (d v u : ℕ) → d < length k → d < length t
-    → waiting_at (set k d v) (set t d u) (depth_by r d) ≡ waiting_of r (aside v u) (waiting_at k t d)
+pub waits_after_lem : (r : Turn) (w : List Laid) (d : ℕ) (v : Laid) → d < length w → waiting_at (set w d v) (depth_by r d) ≡ waiting_of r v (waiting_at w d)
 unfolding depth_by waiting_of rest_of waiting_at
-waits_after_lem Stay k t d v u h i = above k t d v u d (omega arith)
-waits_after_lem Rest k t d v u h i = push k t d v u h i
-waits_after_lem Anew k t d v u h i = push k t d v u h i
-waits_after_lem Same k t d v u h i = push k t d v u h i
-waits_after_lem Take k t zero v u h i = refl
-waits_after_lem Take k t (suc d) v u h i = let e : suc d - 1 ≡ d = omega arith in rw e (above k t (suc d) v u d (omega arith))
+waits_after_lem Stay w d v h = above w d v d (omega arith)
+waits_after_lem Rest w d v h = push w d v h
+waits_after_lem Anew w d v h = push w d v h
+waits_after_lem Same w d v h = push w d v h
+waits_after_lem Take w zero v h = refl
+waits_after_lem Take w (suc d) v h = let e : suc d - 1 ≡ d = omega arith in rw e (above w (suc d) v d (omega arith))
 
 pub depth_le : (r : Turn) (d : ℕ) → depth_by r d ≤ d + 1
 unfolding depth_by
@@ -104,11 +93,6 @@ waiting_le Take n e t w h u = up_more n (rest_of w) (up_rest n w u)
 unfoldable pub sum_of : List Laid → ℕ
 sum_of [] = 0
 sum_of (x ∷ w) = x.product + sum_of w
-
-pub top_le : (w : List Laid) → top_product w ≤ sum_of w
-unfolding top_product sum_of
-top_le [] = omega arith
-top_le (x ∷ w) = omega arith
 
 top_rest : (w : List Laid) → top_product w + sum_of (rest_of w) ≡ sum_of w
 unfolding top_product rest_of sum_of

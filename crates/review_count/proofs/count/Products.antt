@@ -5,21 +5,22 @@ use native.Mathlib.Nat.{mul-one, mul_assoc, mul-add}
 use native.Mathlib.Numerals.{add-one}
 use native.Mathlib.Decide.{ℕ_discrete}
 use mathlib.Core.Path.{◌≡◌, refl, sym, ap, ◌∙◌, subst}
-use mathlib.Core.Bool.{true, false, cond}
+use mathlib.Core.Bool.{false, cond}
 use mathlib.Core.List.{List, [], ◌∷◌, ◌++◌}
 use borrow.Author.Tests.{ne_eqb}
 use lib.Dec.{eqb}
 use lib.ListN.{get_or}
 use Rattle.rules.specs.Forms.{Matcher, Pattern, Matchers, no_matchers, ◌▸ᵐ◌, countᵐ, Patterns, no_patterns, ◌▸ᵖ◌, countᵖ}
-use Rattle.rules.specs.Forms.{list, multiset, tuple}
+use Rattle.rules.specs.Forms.{list, multiset}
 use Rattle.rules.specs.Fit.{element, members, is_something, is_integer}
 use Rattle.rules.specs.Review.{cons_factor, factor, factor_all}
 use Rattle.program_rules.specs.Points.{list_cons, multiset_cons, joins, as_constant, as_value, as_nil, tested, test_by, over, first_by, whole}
-use Rattle.program_rules.specs.Points.{loose_wildcard, loose_variable, Instr, strip, keep, other, close, drop, bind, test, split, apart, choice, deny, cut_at, end}
+use Rattle.program_rules.specs.Points.{loose_wildcard, loose_variable, Instr}
 use Rattle.program_rules.specs.Points.{Item, item, or_else, end_or, stop, Point, point, else_place, end_place, cutting, finish, reserve, beyond, beside, reserved, first_of, others_of, items, parted}
 use Rattle.program_rules.specs.Points.{Follows, strips, drops, binds, tests, splits, aparts, keeps, chooses, denies, cuts, elses, closes, reserves, ends, after_end_lem}
 use Rattle.program_rules.specs.Program.{follow_of}
-use Rattle.review_count.specs.Tally.{factor_of, next_of, reserved_after, Laid, aside, top_product, top_taken, rest_of, turn_of, laid_of, taken_of, last_of, waiting_of}
+use Rattle.review_count.specs.Tally.{factor_of, next_of, reserved_after, aside, top_product, top_taken, rest_of, turn_of, laid_of, taken_of, last_of, waiting_of}
+use Rattle.review_count.specs.declared.count.Laid.{Laid}
 use Rattle.review_count.specs.Tally.{Along, along, onward, reserving, product_from}
 use Rattle.review_count.proofs.count.Costs.{number_by, Reserves, one_more, zeros, Anew, anew_none, anew_more, anew_zeros, value_plain, tuple_plain, reserves_after, passed, Ended, at_finish, at_beyond, ended}
 

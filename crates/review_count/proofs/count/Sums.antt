@@ -2,62 +2,40 @@
 use Prim.Native.Nat.{ℕ, zero, suc, ◌+◌, ◌-◌, ◌*◌, ◌^◌, ◌≤◌, ◌<◌}
 use native.Mathlib.Omega.{arith}
 use native.Mathlib.Nat.{mul-le-mul_left}
-use mathlib.Core.Path.{◌≡◌, refl, sym, ap, ◌∙◌}
+use mathlib.Core.Path.{◌≡◌, refl, ◌∙◌}
 use mathlib.Core.Bool.{cond}
-use mathlib.Core.List.{List, [], ◌∷◌}
+use mathlib.Core.List.{List, ◌∷◌}
 use lib.Dec.{eqb}
 use lib.ListN.{length, get_or, set, replicate, length-replicate, length-set}
 use borrow.Author.Tests.{lt-ltb, le-ltb, eq-eqb, ne_eqb}
 use borrow.Author.Rules.{rules}
-use mir.Syntax.{w16, w64}
+use mir.Syntax.{w64}
 use mir.Val.{Fits}
+use Rattle.std.specs.Prelude.{Some, None}
 use Rattle.words.specs.Words.{entries}
-use Rattle.review_count.specs.Tally.{step_of, factor_of, next_of, reserved_after, aside, turn_of, laid_of, taken_of, last_of, along, onward, reserving, sum_from, whole_sum, product_from, whole_product, within}
+use Rattle.review_count.specs.Tally.{step_of, next_of, reserved_after, aside, turn_of, laid_of, taken_of, last_of, along, onward, reserving, sum_from, whole_sum, product_from, whole_product, tally, within}
 use Rattle.review_count.specs.Pile.{waiting_at, top_in, depth_by}
 use Rattle.review_count.specs.declared.count.Turn.{Turn}
-use Rattle.review_count.specs.declared.count.Tally.TheVariants.{Count, TooBig}
-use Rattle.review_count.proofs.count.Pile.{top_product_lem, top_taken_lem, top_above, push, waits_after_lem, depth_le, UpTo, up_more, taken_le, waiting_le, sum_of, top_le, step_le, factor_le, grows}
+use Rattle.review_count.specs.declared.count.Laid.{Laid}
+use Rattle.review_count.proofs.count.Pile.{top_is, push, waits_after_lem, depth_le, UpTo, up_more, taken_le, waiting_le, sum_of, step_le, grows}
 
 -- ---- Factors and products.
-
-pub factor_cons : (most t o f : ℕ) → o ≡ 9 → f ≡ most - t → f ≡ factor_of most t o
-unfolding factor_of
-factor_cons most t o f e q = rw (e, q)
-
-pub factor_join : (most t o : ℕ) → o ≡ 10 → most + 1 ≡ factor_of most t o
-unfolding factor_of
-factor_join most t o e = rw e
-
-pub factor_other : (most t o : ℕ) → (o ≡ 9 → ⊥) → (o ≡ 10 → ⊥) → 1 ≡ factor_of most t o
-unfolding factor_of
-factor_other most t o a b = rw (ne_eqb o 9 a, ne_eqb o 10 b)
-
-pub factor_fits : (most t o f e l : ℕ) → f ≡ factor_of most t o → most ≤ 64 → e + l ≤ 281474976710656 → Fits w64 (e * f)
-factor_fits most t o f e l q h k =
-    let i : f ≤ 65 = rw q (factor_le most t o h) in
-    let j : e * f ≤ e * 65 = mul-le-mul_left e i in
-    record { fits = omega arith }
-
-pub next_factor : (most o e t l f : ℕ) → (o ≡ 17 → ⊥) → (o ≡ 18 → ⊥) → (o ≡ 19 → ⊥) → f ≡ factor_of most t o → e * f ≡ next_of most o e t l
-unfolding next_of
-next_factor most o e t l f a b c q = rw (ne_eqb o 17 a, ne_eqb o 18 b, ne_eqb o 19 c, q)
 
 -- ---- The sum.
 
 -- The sum so far and the sum of the lines left make the whole, and f is the product of all factors; the products and the numbers taken have room.
-pub record Here (n f most : ℕ) (op kept takens : List ℕ) (depth total earlier last taken skip pc : ℕ) : Type 0 where
-  pub sum : n ≡ total + sum_from most op (along earlier taken last (waiting_at kept takens depth)) skip pc (entries - pc)
-  pub product : f ≡ product_from most op (along earlier taken last (waiting_at kept takens depth)) skip pc (entries - pc)
+pub record Here (n f most : ℕ) (op : List ℕ) (waits : List Laid) (depth total earlier last taken skip pc : ℕ) : Type 0 where
+  pub sum : n ≡ total + sum_from most op (along earlier taken last (waiting_at waits depth)) skip pc (entries - pc)
+  pub product : f ≡ product_from most op (along earlier taken last (waiting_at waits depth)) skip pc (entries - pc)
   pub small : total ≤ 4294967295
-  pub room : earlier + (last + sum_of (waiting_at kept takens depth)) ≤ 279172874240 * (pc + 1)
+  pub room : earlier + (last + sum_of (waiting_at waits depth)) ≤ 279172874240 * (pc + 1)
   pub number : taken ≤ pc
-  pub numbers : UpTo pc (waiting_at kept takens depth)
+  pub numbers : UpTo pc (waiting_at waits depth)
   pub shallow : depth ≤ pc
   pub inside : pc ≤ entries
-  pub long : length kept ≡ entries
-  pub wide : length takens ≡ entries
+  pub long : length waits ≡ entries
 
-pub here_start : (most : ℕ) (op : List ℕ) → Here (whole_sum most op) (whole_product most op) most op (replicate entries 0) (replicate entries 0) 0 0 1 0 0 0 0
+pub here_start : (most : ℕ) (op : List ℕ) → Here (whole_sum most op) (whole_product most op) most op (replicate entries (aside 0 0)) 0 0 1 0 0 0 0
 unfolding whole_sum whole_product waiting_at sum_of UpTo
 here_start most op = record {
   sum = omega arith;
@@ -68,8 +46,7 @@ here_start most op = record {
   numbers = tt;
   shallow = omega arith;
   inside = omega arith;
-  long = length-replicate {A = ℕ} entries 0;
-  wide = length-replicate {A = ℕ} entries 0;
+  long = length-replicate {A = Laid} entries (aside 0 0);
 }
 
 module _ (most pc : ℕ) (op : List ℕ) (h : pc < entries) where
@@ -98,7 +75,7 @@ module _ (most pc : ℕ) (op : List ℕ) (h : pc < entries) where
   unfolding product_from reserving
   product_passing e t l k w = rw one_less
 
-module _ {n f most d t e l g k pc : ℕ} {op kept takens : List ℕ} (i : Here n f most op kept takens d t e l g k pc) where
+module _ {n f most d t e l g k pc : ℕ} {op : List ℕ} {waits : List Laid} (i : Here n f most op waits d t e l g k pc) where
   pub deep_enough : pc < entries → d < entries
   deep_enough h = omega (arith, i.shallow)
 
@@ -118,42 +95,41 @@ module _ {n f most d t e l g k pc : ℕ} {op kept takens : List ℕ} (i : Here n
   product_fits h = omega (arith, i.room)
 
   -- A place that is reserved.
-  pub skipped : pc < entries → 0 < k → Here n f most op (set kept d 0) (set takens d 0) (d + 1) t e l g (k - 1) (pc + 1)
+  pub skipped : pc < entries → 0 < k → Here n f most op (set waits d (aside 0 0)) (d + 1) t e l g (k - 1) (pc + 1)
   unfolding sum_of UpTo
   skipped h z =
-      let p = push kept takens d 0 0 (omega (arith, i.shallow, i.long)) (omega (arith, i.shallow, i.wide)) in
+      let p = push waits d (aside 0 0) (omega (arith, i.shallow, i.long)) in
       record {
         sum = rw p (go k i.sum z);
         product = rw p (pass k i.product z);
         small = i.small;
         room = rw p (omega (arith, i.room));
         number = omega (arith, i.number);
-        numbers = rw p (omega arith, up_more pc (waiting_at kept takens d) i.numbers);
+        numbers = rw p (omega arith, up_more pc (waiting_at waits d) i.numbers);
         shallow = omega (arith, i.shallow);
         inside = omega arith;
-        long = length-set kept d 0 ∙ i.long;
-        wide = length-set takens d 0 ∙ i.wide;
+        long = length-set waits d (aside 0 0) ∙ i.long;
       }
     where
-      go : (k : ℕ) → n ≡ t + sum_from most op (along e g l (waiting_at kept takens d)) k pc (entries - pc) → 0 < k
-          → n ≡ t + sum_from most op (along e g l (aside 0 0 ∷ waiting_at kept takens d)) (k - 1) (pc + 1) (entries - (pc + 1))
+      go : (k : ℕ) → n ≡ t + sum_from most op (along e g l (waiting_at waits d)) k pc (entries - pc) → 0 < k
+          → n ≡ t + sum_from most op (along e g l (aside 0 0 ∷ waiting_at waits d)) (k - 1) (pc + 1) (entries - (pc + 1))
       go zero j z = absurd (omega arith)
       go (suc k) j z =
           let s : suc k - 1 ≡ k = omega arith in
-          rw s (rw (passing most pc op h e g l k (waiting_at kept takens d)) at j)
+          rw s (rw (passing most pc op h e g l k (waiting_at waits d)) at j)
 
-      pass : (k : ℕ) → f ≡ product_from most op (along e g l (waiting_at kept takens d)) k pc (entries - pc) → 0 < k
-          → f ≡ product_from most op (along e g l (aside 0 0 ∷ waiting_at kept takens d)) (k - 1) (pc + 1) (entries - (pc + 1))
+      pass : (k : ℕ) → f ≡ product_from most op (along e g l (waiting_at waits d)) k pc (entries - pc) → 0 < k
+          → f ≡ product_from most op (along e g l (aside 0 0 ∷ waiting_at waits d)) (k - 1) (pc + 1) (entries - (pc + 1))
       pass zero j z = absurd (omega arith)
       pass (suc k) j z =
           let s : suc k - 1 ≡ k = omega arith in
-          rw s (j ∙ product_passing most pc op h e g l k (waiting_at kept takens d))
+          rw s (j ∙ product_passing most pc op h e g l k (waiting_at waits d))
 
-  pub out : entries ≤ pc → Count t e ≡ within n f
+  pub out : entries ≤ pc → Some (tally t e) ≡ within n f
   unfolding within sum_from product_from
   out h =
       let z : entries - pc ≡ 0 = omega arith in
-      let l : sum_from most op (along e g l (waiting_at kept takens d)) k pc (entries - pc) ≡ 0 = rw z in
+      let l : sum_from most op (along e g l (waiting_at waits d)) k pc (entries - pc) ≡ 0 = rw z in
       let q : f ≡ e = rw z at i.product in
       let g : n ≡ t = omega (arith, i.sum) in
       let m : n < 2 ^ 32 = omega (arith, i.small) in
@@ -161,26 +137,26 @@ module _ {n f most d t e l g k pc : ℕ} {op kept takens : List ℕ} (i : Here n
 
   module _ (z : k ≤ 0) (h : pc < entries) (o : ℕ) (y : o ≡ get_or op pc 0) (s : ℕ) (x : s ≡ step_of o e) where
     whole : n
-        ≡ t + (s + cond (eqb o 0) 0 (sum_from most op (onward most o (along e g l (waiting_at kept takens d))) (reserved_after o) (pc + 1) (entries - (pc + 1))))
+        ≡ t + (s + cond (eqb o 0) 0 (sum_from most op (onward most o (along e g l (waiting_at waits d))) (reserved_after o) (pc + 1) (entries - (pc + 1))))
     whole =
         let none : k ≡ 0 = omega arith in
-        let j : n ≡ t + sum_from most op (along e g l (waiting_at kept takens d)) 0 pc (entries - pc) = rw none at i.sum in
-        let a = rw (← y) at (line most pc op h e g l (waiting_at kept takens d)) in
+        let j : n ≡ t + sum_from most op (along e g l (waiting_at waits d)) 0 pc (entries - pc) = rw none at i.sum in
+        let a = rw (← y) at (line most pc op h e g l (waiting_at waits d)) in
         omega arith
 
-    factors : f ≡ cond (eqb o 0) e (product_from most op (onward most o (along e g l (waiting_at kept takens d))) (reserved_after o) (pc + 1) (entries - (pc + 1)))
+    factors : f ≡ cond (eqb o 0) e (product_from most op (onward most o (along e g l (waiting_at waits d))) (reserved_after o) (pc + 1) (entries - (pc + 1)))
     factors =
         let none : k ≡ 0 = omega arith in
-        let j : f ≡ product_from most op (along e g l (waiting_at kept takens d)) 0 pc (entries - pc) = rw none at i.product in
-        j ∙ rw (← y) at (product_line most pc op h e g l (waiting_at kept takens d))
+        let j : f ≡ product_from most op (along e g l (waiting_at waits d)) 0 pc (entries - pc) = rw none at i.product in
+        j ∙ rw (← y) at (product_line most pc op h e g l (waiting_at waits d))
 
-    pub too_big_lem : 4294967295 < t + s → TooBig ≡ within n f
+    pub too_big_lem : 4294967295 < t + s → None ≡ within n f
     unfolding within
     too_big_lem g =
         let m : 2 ^ 32 ≤ n = omega (arith, whole) in
         rw (le-ltb n (2 ^ 32) m)
 
-    pub at_end : o ≡ 0 → t + s ≤ 4294967295 → Count (t + s) e ≡ within n f
+    pub at_end : o ≡ 0 → t + s ≤ 4294967295 → Some (tally (t + s) e) ≡ within n f
     unfolding within
     at_end q b =
         let w : n ≡ t + (s + 0) = rw (eq-eqb o 0 q) at whole in
@@ -189,21 +165,21 @@ module _ {n f most d t e l g k pc : ℕ} {op kept takens : List ℕ} (i : Here n
         let m : n < 2 ^ 32 = omega arith in
         rw (lt-ltb n (2 ^ 32) m, g, v)
 
-    pub turn : most ≤ 64 → (o ≡ 0 → ⊥) → t + s ≤ 4294967295 → (r : Turn) (u e' l' g' d' k' : ℕ) → r ≡ turn_of o → u ≡ laid_of r g
-        → e' ≡ next_of most o e g l → l' ≡ last_of r (top_in (set kept d e) d) → g' ≡ taken_of r g (top_in (set takens d u) d) → d' ≡ depth_by r d
-        → k' ≡ reserved_after o → Here n f most op (set kept d e) (set takens d u) d' (t + s) e' l' g' k' (pc + 1)
+    pub turn : most ≤ 64 → (o ≡ 0 → ⊥) → t + s ≤ 4294967295 → (r : Turn) (u e' l' g' d' k' : ℕ) (v : Laid) → r ≡ turn_of o → u ≡ laid_of r g → v ≡ top_in waits d
+        → e' ≡ next_of most o e g l → l' ≡ last_of r v.product → g' ≡ taken_of r g v.taken → d' ≡ depth_by r d
+        → k' ≡ reserved_after o → Here n f most op (set waits d (aside e u)) d' (t + s) e' l' g' k' (pc + 1)
     unfolding onward
-    turn b q small r u e' l' g' d' k' er eu ee el eg ed ek =
-        let w = waiting_at kept takens d in
-        let st : waiting_at (set kept d e) (set takens d u) d' ≡ (onward most o (along e g l w)).waiting =
-        rw (ed, waits_after_lem r kept takens d e u (omega (arith, i.shallow, i.long)) (omega (arith, i.shallow, i.wide)), eu, er) in
-        let le : l' ≡ (onward most o (along e g l w)).last = rw (el, top_above kept d e, er, ← top_product_lem kept takens d) in
-        let ge : g' ≡ (onward most o (along e g l w)).taken = rw (eg, top_above takens d u, er, ← top_taken_lem kept takens d) in
-        let v : n ≡ t + (s + sum_from most op (onward most o (along e g l w)) (reserved_after o) (pc + 1) (entries - (pc + 1))) = rw (ne_eqb o 0 q) at whole in
+    turn b q small r u e' l' g' d' k' v er eu ev ee el eg ed ek =
+        let w = waiting_at waits d in
+        let st : waiting_at (set waits d (aside e u)) d' ≡ (onward most o (along e g l w)).waiting =
+        rw (ed, waits_after_lem r waits d (aside e u) (omega (arith, i.shallow, i.long)), eu, er) in
+        let le : l' ≡ (onward most o (along e g l w)).last = rw (el, ev, er, ← (top_is waits d).0) in
+        let ge : g' ≡ (onward most o (along e g l w)).taken = rw (eg, ev, er, ← (top_is waits d).1) in
+        let all : n ≡ t + (s + sum_from most op (onward most o (along e g l w)) (reserved_after o) (pc + 1) (entries - (pc + 1))) = rw (ne_eqb o 0 q) at whole in
         let later : f ≡ product_from most op (onward most o (along e g l w)) (reserved_after o) (pc + 1) (entries - (pc + 1)) = rw (ne_eqb o 0 q) at factors in
         let grown = grows most e g l (laid_of (turn_of o) g) w b o (omega arith) in
         record {
-          sum = rw (st, le, ge, ee, ek) (omega (arith, v));
+          sum = rw (st, le, ge, ee, ek) (omega (arith, all));
           product = rw (st, le, ge, ee, ek) later;
           small = small;
           room = rw (st, le, ee) (omega (arith, grown, i.room));
@@ -211,8 +187,7 @@ module _ {n f most d t e l g k pc : ℕ} {op kept takens : List ℕ} (i : Here n
           numbers = rw st (waiting_le (turn_of o) pc e g w i.number i.numbers);
           shallow = omega (arith, depth_le r d, i.shallow);
           inside = omega arith;
-          long = length-set kept d e ∙ i.long;
-          wide = length-set takens d u ∙ i.wide;
+          long = length-set waits d (aside e u) ∙ i.long;
         }
 
 pub ruleset own_rules = (here_start, deep_enough, deep_scaled, deep_more, few_taken, sum_fits, product_fits, skipped, too_big_lem, at_end, turn, out, rules)

@@ -1,6 +1,6 @@
 -- `search_leaf::take_all` meets its contract: at the loop's head the choices so far are taken up.
 use Prim.Native.Nat.{◌≤◌}
-use mathlib.Core.Path.{◌≡◌, sym, ◌∙◌}
+use mathlib.Core.Path.{◌≡◌, refl, sym, ◌∙◌}
 use native.Mathlib.Omega.{arith}
 use borrow.Author.Rules.{rules}
 use lib.ListN.{length}
@@ -18,7 +18,7 @@ use Rattle.search_leaf.proofs.take_all.Goals.{then-part-eq-BIND+else-tag-ne0, el
 
 -- Where the lowest choice stands.
 found_at : (c : goal.After-place_at-e) → c.place_at-e.result ≡ element_at c.args.s.now c.args.part.at c.lowest-k.result
-found_at c = let i = c.loop-next.invariant in find_is _ _ _ _ _ _ c.requires.fact_1 c.requires.fact_2 i.held.tag (next_in _ _ _ _ c.requires.fact_1 i.held c.lowest-k.ensures i.some) c.base_at-base.ensures c.index.ensures _ c.place_at-e.ensures
+found_at c = let i = c.loop-next.invariant in find_is _ _ _ _ _ _ c.requires.fact_1 c.requires.fact_2 i.held.tag (next_in _ _ _ _ c.requires.fact_1 i.held c.lowest-k.ensures i.some) c.base_at-base.ensures refl _ c.place_at-e.ensures
 
 -- src/lib.rt:149:9
 pub row_words-size-requires : goal.row_words-size-requires
@@ -62,11 +62,11 @@ returns-then-room-words c = going_out _ _ _ _ _ _ _ _ _ _ _ _ _ _ _ c.loop-next.
 
 -- src/lib.rt:166:38
 pub overflow_add-base : goal.overflow_add-base
-overflow_add-base c = let i = c.loop-next.invariant in find_fits _ _ _ _ _ _ c.requires.fact_1 c.requires.fact_2 i.held.tag (next_in _ _ _ _ c.requires.fact_1 i.held c.lowest-k.ensures i.some) c.base_at-base.ensures c.index.ensures
+overflow_add-base c = let i = c.loop-next.invariant in find_fits _ _ _ _ _ _ c.requires.fact_1 c.requires.fact_2 i.held.tag (next_in _ _ _ _ c.requires.fact_1 i.held c.lowest-k.ensures i.some) c.base_at-base.ensures refl
 
 -- src/lib.rt:166:17
 pub place_at-e-requires : goal.place_at-e-requires
-place_at-e-requires c = let i = c.loop-next.invariant in find_in _ _ _ _ _ _ c.requires.fact_1 c.requires.fact_2 i.held.tag (next_in _ _ _ _ c.requires.fact_1 i.held c.lowest-k.ensures i.some) c.base_at-base.ensures c.index.ensures
+place_at-e-requires c = let i = c.loop-next.invariant in find_in _ _ _ _ _ _ c.requires.fact_1 c.requires.fact_2 i.held.tag (next_in _ _ _ _ c.requires.fact_1 i.held c.lowest-k.ensures i.some) c.base_at-base.ensures refl
 
 -- src/lib.rt:167:17
 pub number_at-tag-requires : goal.number_at-tag-requires
@@ -128,7 +128,7 @@ loop-next-preserved c = let i = c.loop-next.invariant in
     let b = c.if-budget-steps-lt5.false in
     elim c.if-part-eq-BIND.branch [
       | then-part-eq-BIND+else-tag-ne0 w ↦
-          let e : w.place_at-e.result ≡ element_at c.args.s.now c.args.part.at w.lowest-k.result = find_is _ _ _ _ _ _ c.requires.fact_1 c.requires.fact_2 i.held.tag (next_in _ _ _ _ c.requires.fact_1 i.held w.lowest-k.ensures i.some) c.base_at-base.ensures w.index.ensures _ w.place_at-e.ensures in
+          let e : w.place_at-e.result ≡ element_at c.args.s.now c.args.part.at w.lowest-k.result = find_is _ _ _ _ _ _ c.requires.fact_1 c.requires.fact_2 i.held.tag (next_in _ _ _ _ c.requires.fact_1 i.held w.lowest-k.ensures i.some) c.base_at-base.ensures refl _ w.place_at-e.ensures in
           going_binds _ _ _ _ _ _ _ _ _ _ _ _ _ i h c.requires.fact_1 _ _ w.lowest-k.ensures e
           w.if-part-eq-BIND.true (sym w.number_at-tag.ensures ∙ w.if-tag-ne0.false) _ _ _ (to_z-of_z {w = w32} (search rules) ∙ w.word_of.ensures) w.told-is w.last-is b _ c.rest-next-in-loop-next.ensures _ c.row_words-size.ensures c.requires.fact_5.1 c.if-room-words.false
           _ _ c.put_row-words.ensures.0 c.put_row-words.ensures.1

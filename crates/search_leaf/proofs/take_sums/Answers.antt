@@ -14,7 +14,7 @@ use Rattle.search_leaf.proofs.take_sums.Goals.{then-found+else-room-words, else-
 
 -- Where the lowest choice stands, and that its number is there.
 found_at : (c : goal.After-place_at-e) → c.place_at-e.result ≡ element_at c.args.s.now c.args.part.at c.lowest-k.result
-found_at c = let i = c.loop-more.invariant in find_is _ _ _ _ _ _ c.requires.fact_1 c.requires.fact_2 i.held.tag (next_in _ _ _ _ c.requires.fact_1 i.held c.lowest-k.ensures i.some) c.base_at-base.ensures c.index.ensures _ c.place_at-e.ensures
+found_at c = let i = c.loop-more.invariant in find_is _ _ _ _ _ _ c.requires.fact_1 c.requires.fact_2 i.held.tag (next_in _ _ _ _ c.requires.fact_1 i.held c.lowest-k.ensures i.some) c.base_at-base.ensures refl _ c.place_at-e.ensures
 
 in_words : (c : goal.After-place_at-e) → c.place_at-e.result + 1 < length c.args.s.now
 in_words c = lowest_word _ _ _ _ _ _ _ _ _ _ _ _ _ c.loop-more.invariant c.loop-more-test.true c.requires.fact_1 _ _ c.lowest-k.ensures (found_at c)
@@ -53,11 +53,11 @@ returns-then-end-steps c = going_out _ _ _ _ _ _ _ _ _ _ _ _ _ _ _ c.loop-more.i
 
 -- src/lib.rt:102:34
 pub overflow_add-base : goal.overflow_add-base
-overflow_add-base c = let i = c.loop-more.invariant in find_fits _ _ _ _ _ _ c.requires.fact_1 c.requires.fact_2 i.held.tag (next_in _ _ _ _ c.requires.fact_1 i.held c.lowest-k.ensures i.some) c.base_at-base.ensures c.index.ensures
+overflow_add-base c = let i = c.loop-more.invariant in find_fits _ _ _ _ _ _ c.requires.fact_1 c.requires.fact_2 i.held.tag (next_in _ _ _ _ c.requires.fact_1 i.held c.lowest-k.ensures i.some) c.base_at-base.ensures refl
 
 -- src/lib.rt:102:13
 pub place_at-e-requires : goal.place_at-e-requires
-place_at-e-requires c = let i = c.loop-more.invariant in find_in _ _ _ _ _ _ c.requires.fact_1 c.requires.fact_2 i.held.tag (next_in _ _ _ _ c.requires.fact_1 i.held c.lowest-k.ensures i.some) c.base_at-base.ensures c.index.ensures
+place_at-e-requires c = let i = c.loop-more.invariant in find_in _ _ _ _ _ _ c.requires.fact_1 c.requires.fact_2 i.held.tag (next_in _ _ _ _ c.requires.fact_1 i.held c.lowest-k.ensures i.some) c.base_at-base.ensures refl
 
 -- src/lib.rt:103:51
 pub overflow_add-e : goal.overflow_add-e
@@ -117,7 +117,7 @@ loop-more-preserved c = let i = c.loop-more.invariant in
     let few = c.if-end-steps.false in
     let enough = c.if-budget-lt4.false in
     let b : 4 ≤ c.args.budget - c.loop-more.steps = omega (arith, few, enough) in
-    let e : c.place_at-e.result ≡ element_at c.args.s.now c.args.part.at c.lowest-k.result = find_is _ _ _ _ _ _ c.requires.fact_1 c.requires.fact_2 i.held.tag (next_in _ _ _ _ c.requires.fact_1 i.held c.lowest-k.ensures i.some) c.base_at-base.ensures c.index.ensures _ c.place_at-e.ensures in
+    let e : c.place_at-e.result ≡ element_at c.args.s.now c.args.part.at c.lowest-k.result = find_is _ _ _ _ _ _ c.requires.fact_1 c.requires.fact_2 i.held.tag (next_in _ _ _ _ c.requires.fact_1 i.held c.lowest-k.ensures i.some) c.base_at-base.ensures refl _ c.place_at-e.ensures in
     elim c.if-found.branch [
       | then-found+else-room-words w ↦ going_at _ _ _ _ _ _ _ _ _ _ _ _ _ _ _ _ _ _ _ _ w.steps-is w.rows-is w.words-is w.room-is
           (going_sums _ _ _ _ _ _ _ _ _ _ _ _ _ i h c.requires.fact_1 _ _ c.lowest-k.ensures e _ (search rules) _ (search rules) _ (search rules) _ c.is_total-found.ensures c.requires.fact_5.0 b _ c.rest-more-in-loop-more.ensures w.if-found.true

@@ -1,18 +1,12 @@
--- `service_room::sized` is safe and ends.
-use Rattle.service_room.proofs.Laws.{own_rules}
+-- `service_room::sized` meets its contract: review's rows, each with a value for each variable.
+use mir.Syntax.{w32}
+use mir.Facts.{to_z-of_z}
+use Rattle.service_room.proofs.Laws.{variables_of_lem, room_told_lem}
 use Rattle.service_room.proofs.sized.Goals as goal
 
-pub review-r-requires : goal.review-r-requires
-review-r-requires c = search own_rules
-
-pub variables_in-requires : goal.variables_in-requires
-variables_in-requires c = search own_rules
-
-pub wide-n-requires : goal.wide-n-requires
-wide-n-requires c = search own_rules
-
-pub words_for-requires : goal.words_for-requires
-words_for-requires c = search own_rules
+pub words_for-requires-clause-variables_few : goal.words_for-requires-clause-variables_few
+words_for-requires-clause-variables_few c = variables_of_lem _ _ _ c.variables_in.ensures c.from-n.ensures
 
 pub returns : goal.returns
-returns c = search own_rules
+returns c = room_told_lem _ _ _ _ _ c.review-r.result _ _ _ c.review-r.ensures.result_value (to_z-of_z {w = w32} c.ranges.cap) c.review-r.ensures.rows_value c.variables_in.ensures c.from-n.ensures
+    c.words_for.ensures

@@ -1,35 +1,21 @@
 -- `service_rounds::carry_out` meets its contract: the run by rounds of the compiled rule tells what match by rounds is.
 use borrow.Author.Rules.{rules}
 use Rattle.search.specs.Run.{matched}
-use Rattle.services.specs.Matches.{told}
+use Rattle.services.specs.Matches.{told, reported}
 use Rattle.services.proofs.Matches.{matcher_few, pattern_few}
-use Rattle.service_rounds.proofs.Matches.{ready_ruled, ready_rounds}
+use Rattle.service_rounds.proofs.Matches.{ready_ruled, picked_rounds}
 use Rattle.service_rounds.proofs.carry_out.Goals as goal
 
-pub no_lines-lines-requires : goal.no_lines-lines-requires
-unfolding told matched
-no_lines-lines-requires c = search rules
+pub compile-vars-requires : goal.compile-vars-requires
+compile-vars-requires c = record { fact_1 = matcher_few _ _ _ c.requires.ready; fact_2 = pattern_few _ _ _ c.requires.ready }
 
-pub compile-n-requires : goal.compile-n-requires
-unfolding told matched
-compile-n-requires c = search (matcher_few, pattern_few, rules)
-
-pub wide-requires : goal.wide-requires
-unfolding told matched
-wide-requires c = search rules
-
-pub search_rounds-r-requires : goal.search_rounds-r-requires
-unfolding told matched
-search_rounds-r-requires c = record { fact_1 = search (ready_ruled, rules); fact_2 = search rules }
-
-pub shape_of-table : goal.shape_of-table
-unfolding told matched
-shape_of-table c = search rules
-
-pub shape_of-room : goal.shape_of-room
-unfolding told matched
-shape_of-room c = search rules
+pub search_rounds-requires : goal.search_rounds-requires
+search_rounds-requires c = record {
+  fact_1 = ready_ruled _ _ _ _ _ _ _ _ c.requires.ready c.no_lines-lines.ensures c.compile-vars.ensures.fact_1 c.compile-vars.ensures.fact_2;
+  fact_2 = search rules;
+}
 
 pub returns : goal.returns
-unfolding told matched
-returns c = search (ready_rounds, rules)
+unfolding told reported matched
+returns c = picked_rounds _ _ _ _ _ _ _ _ c.requires.ready c.no_lines-lines.ensures c.compile-vars.ensures.fact_1 c.compile-vars.ensures.fact_2 _ _ c.takes_firsts.ensures c.tells_origins.ensures
+    c.requires.rule_is_in _ _ _ _ _ c.from.ensures c.search_rounds.ensures

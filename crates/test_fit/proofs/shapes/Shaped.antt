@@ -9,6 +9,7 @@ use borrow.Author.Tests.{eqb-true, eqb-false}
 use lib.Dec.{eqb}
 use lib.ListN.{length, length-append}
 use lib.IntN.{ℤ}
+use Rattle.std.proofs.Math.Bool.{and-false, and-true}
 use Rattle.rules.specs.Forms.{Matcher, something, integer, list, multiset, tuple_of, Matchers, no_matchers, ◌▸ᵐ◌, countᵐ}
 use Rattle.rules.specs.Fit.{without_something, all_without_something, same_shape, same_shapes, is_integer, of_collection, of_tuple}
 use Rattle.forms.specs.Written.{matcher_words, matcher_words_all, Widthsᵐ}
@@ -19,14 +20,6 @@ use Rattle.test_fit.specs.Shapes.{width_fits, tag_fits, word_fits, width_next, s
 use Rattle.test_fit.proofs.shapes.Standing.{At, AtAll, tag_of, at_tag, at_end, at_list, at_multiset, at_width, at_parts, at_first, at_others}
 
 -- ---- Tests.
-
-pub and_false : (a : Bool) → (a && false) ≡ false
-and_false true = refl
-and_false false = refl
-
-pub and_true : (a : Bool) → (a && true) ≡ a
-and_true true = refl
-and_true false = refl
 
 four : (a b c d e : Bool) → ((a && b) && ((c && d) && e)) ≡ (((a && c) && (b && d)) && e)
 four true true c d e = refl
@@ -48,7 +41,7 @@ unfolding countᵐ same_shapes
 unequal no_matchers no_matchers h = absurd (h refl)
 unequal no_matchers (l ▸ᵐ ls) h = refl
 unequal (k ▸ᵐ ks) no_matchers h = refl
-unequal (k ▸ᵐ ks) (l ▸ᵐ ls) h = rw (unequal ks ls (λ e. h (ap suc e))) (and_false (same_shape k l))
+unequal (k ▸ᵐ ks) (l ▸ᵐ ls) h = rw (unequal ks ls (λ e. h (ap suc e))) (and-false (same_shape k l))
 
 module _ (s : List ℤ) where
   -- The words of k and of l are compared, and then n more.
@@ -113,7 +106,7 @@ module _ (s : List ℤ) where
             let x : suc (a + 1) ≡ a + 2 = omega arith in
             let y : suc (b + 1) ≡ b + 2 = omega arith in
             rw (is_width (countᵐ ks) p.wide.0, x, y) (parts (eqb-true (countᵐ ks) (countᵐ ls) e))
-        go false e = rw (unequal ks ls (eqb-false (countᵐ ks) (countᵐ ls) e), and_false (all_without_something ks))
+        go false e = rw (unequal ks ls (eqb-false (countᵐ ks) (countᵐ ls) e), and-false (all_without_something ks))
 
   nothing : (a x : Bool) → false ≡ ((a && false) && x)
   nothing true x = refl
@@ -163,4 +156,4 @@ module _ (s : List ℤ) where
   pub shaped : (k l : Matcher) (i j : ℕ) → At s i k → At s j l → shapes s i j ≡ (without_something k && same_shape k l)
   unfolding shapes shapes_p Compares
   shaped k l i j p q =
-      rw (at_end s i k p) (compared k l i j 0 (i + length (matcher_words k) - i) (omega arith) p q ∙ and_true (without_something k && same_shape k l))
+      rw (at_end s i k p) (compared k l i j 0 (i + length (matcher_words k) - i) (omega arith) p q ∙ and-true (without_something k && same_shape k l))

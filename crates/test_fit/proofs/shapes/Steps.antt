@@ -2,13 +2,10 @@
 use mathlib.Core.Path.{◌≡◌, refl, sym, ◌∙◌}
 use mathlib.Core.Bool.{Bool, true, false, not, cond, ◌&&◌}
 use mathlib.Core.List.{List}
-use Prim.Native.Nat.{ℕ, suc, ◌+◌, ◌-◌, ◌^◌, ◌<◌, ◌≤◌}
-use native.Mathlib.Numerals.{add-one}
+use Prim.Native.Nat.{ℕ, suc, ◌+◌, ◌-◌, ◌<◌, ◌≤◌}
 use native.Mathlib.Omega.{arith}
 use borrow.Author.Rules.{rules}
-use borrow.Author.Tests.{eq-eqb, ne_eqb, eqb-true, leb-true, not-true, not-false}
-use mir.Syntax.{w64}
-use mir.Val.{Fits}
+use borrow.Author.Tests.{eqb-true, leb-true}
 use lib.Dec.{eqb, leb, ltb}
 use lib.ListN.{length}
 use lib.IntN.{ℤ}
@@ -18,71 +15,48 @@ use Rattle.test_forms.specs.Ends.{within}
 use Rattle.matchers.specs.Places.{matcher_end}
 use Rattle.test_fit.specs.Shapes.{width_fits, tag_fits, word_fits, width_next, shapes_p, shapes}
 
--- ---- Two words.
-
-module _ (k n : ℕ) where
-  pub ret_width : (b : Bool) → k ≡ n → b ≡ within 2 k 4 → b ≡ width_fits k n
-  unfolding width_fits
-  ret_width b h e = rw (eq-eqb k n h) e
-
-  pub ret_no_width : (k ≡ n → ⊥) → false ≡ width_fits k n
-  unfolding width_fits
-  ret_no_width h = rw (ne_eqb k n h)
-
-module _ (x y : ℕ) (b : Bool) (e : b ≡ within 2 x 3) where
-  pub ret_both : b ≡ true → (c : Bool) → c ≡ within 2 y 3 → c ≡ tag_fits x y
-  unfolding tag_fits
-  ret_both h c q = rw (← e, h) q
-
-  pub ret_same : b ≡ false → x ≡ y → (c : Bool) → c ≡ within 1 x 4 → c ≡ tag_fits x y
-  unfolding tag_fits
-  ret_same h p c q = rw (← e, h, eq-eqb x y p) q
-
-  pub ret_other : b ≡ false → (x ≡ y → ⊥) → false ≡ tag_fits x y
-  unfolding tag_fits
-  ret_other h p = rw (← e, h, ne_eqb x y p)
-
-module _ (f : Bool) (x y : ℕ) where
-  pub ret_widths : (b : Bool) → f ≡ true → b ≡ width_fits x y → b ≡ word_fits f x y
-  unfolding word_fits
-  ret_widths b h e = rw h e
-
-  pub ret_tags : (b : Bool) → f ≡ false → b ≡ tag_fits x y → b ≡ word_fits f x y
-  unfolding word_fits
-  ret_tags b h e = rw h e
-
-module _ (f : Bool) (x : ℕ) where
-  pub ret_tag : f ≡ true → false ≡ width_next f x
-  unfolding width_next
-  ret_tag h = rw h
-
-  pub ret_four : f ≡ false → eqb x 4 ≡ width_next f x
-  unfolding width_next
-  ret_four h = rw h
-
-pub ruleset word_rules = (ret_width, ret_no_width, ret_both, ret_same, ret_other, ret_widths, ret_tags, ret_tag, ret_four, rules)
-
 -- ---- The words of a matcher, one by one.
 
-pub enter : (m : List ℤ) (i j e : ℕ) → e ≡ matcher_end m i → shapes m i j ≡ shapes_p m (e - i) false i j
+places : (m : List ℤ) (n k i a j b : ℕ) → n ≡ k → i ≡ a → j ≡ b → shapes_p m n false i j ≡ shapes_p m k false a b
+places m n k i a j b p q r = rw (p, q, r)
+
+pub enter : (m : List ℤ) (i j e : ℕ) → e ≡ matcher_end m i → shapes m i j ≡ shapes_p m (e - i - 0) false (i + 0) (j + 0)
 unfolding shapes
-enter m i j e q = rw q
+enter m i j e q = places m (matcher_end m i - i) (e - i - 0) i (i + 0) j (j + 0) (omega arith) (omega arith) (omega arith)
 
-module _ (m : List ℤ) (e a b : ℕ) (f v : Bool) (inv : v ≡ shapes_p m (e - a) f a b) where
-  pub ret_true : e ≤ a → true ≡ v
+pub ends_after : (m : List ℤ) (i e : ℕ) → e ≡ matcher_end m i → i ≤ e
+unfolding matcher_end
+ends_after m i e q = omega arith
+
+-- After a tuple's tag comes its width.
+pub next_of_tag : (f : Bool) (x : ℕ) (w : Bool) → f ≡ false → w ≡ eqb x 4 → w ≡ width_next f x
+unfolding width_next
+next_of_tag f x w h e = rw h e
+
+pub next_of_width : (f : Bool) (x : ℕ) (w : Bool) → f ≡ true → w ≡ not f → w ≡ width_next f x
+unfolding width_next
+next_of_width f x w h e = rw h (e ∙ rw h)
+
+-- After k words of n.
+module _ (m : List ℤ) (i j n k : ℕ) (f v : Bool) (inv : v ≡ shapes_p m (n - k) f (i + k) (j + k)) where
+  pub ret_true : n ≤ k → true ≡ v
   unfolding shapes_p
-  ret_true h = let z : e - a ≡ 0 = omega arith in sym (inv ∙ rw z)
+  ret_true h = let z : n - k ≡ 0 = omega arith in sym (inv ∙ rw z)
 
-  module _ (h : a < e) (x y : ℕ) (p : x ≡ tag_at m a) (q : y ≡ tag_at m b) (g : Bool) (r : g ≡ word_fits f x y) where
-    by_word : v ≡ (g && shapes_p m (e - (a + 1)) (width_next f x) (a + 1) (b + 1))
+  module _ (h : k < n) (x y : ℕ) (p : x ≡ tag_at m (i + k)) (q : y ≡ tag_at m (j + k)) (g : Bool) (r : g ≡ word_fits f x y) where
+    by_word : v ≡ (g && shapes_p m (n - (k + 1)) (width_next f x) (i + (k + 1)) (j + (k + 1)))
     unfolding shapes_p
-    by_word = let z : e - a ≡ suc (e - (a + 1)) = omega arith in inv ∙ rw (r, p, q, z, add-one a, add-one b)
+    by_word =
+        let z : n - k ≡ suc (n - (k + 1)) = omega arith in
+        let s : suc (i + k) ≡ i + (k + 1) = omega arith in
+        let t : suc (j + k) ≡ j + (k + 1) = omega arith in
+        inv ∙ rw (r, p, q, z, s, t)
 
-    pub ret_false : not g ≡ true → false ≡ v
-    ret_false n = sym (by_word ∙ rw (not-true g n))
+    pub ret_false : g ≡ false → false ≡ v
+    ret_false n = sym (by_word ∙ rw n)
 
-    pub turn : not g ≡ false → (w : Bool) → w ≡ width_next f x → v ≡ shapes_p m (e - (a + 1)) w (a + 1) (b + 1)
-    turn n w s = by_word ∙ rw (not-false g n, s)
+    pub turn : g ≡ true → (w : Bool) → w ≡ width_next f x → v ≡ shapes_p m (n - (k + 1)) w (i + (k + 1)) (j + (k + 1))
+    turn n w s = by_word ∙ rw (n, s)
 
 -- A word that fits another is a tag or a width.
 pub most : (low n high : ℕ) → within low n high ≡ true → n ≤ high
@@ -109,10 +83,10 @@ fits_most false x y h = go (within 2 x 3) h
     go true k = let l = most 2 y 3 k in omega arith
     go false k = same_most x y 1 4 k
 
-pub next_b : (m : List ℤ) (b x y : ℕ) (f g : Bool) → y ≡ tag_at m b → g ≡ word_fits f x y → not g ≡ false → length m < 2 ^ 64 → Fits w64 (b + 1)
-next_b m b x y f g q r n l =
-    let k = fits_most f x y (sym r ∙ not-false g n) in
+pub next_b : (m : List ℤ) (b x y : ℕ) (f g : Bool) → y ≡ tag_at m b → g ≡ word_fits f x y → g ≡ true → b + 1 ≤ length m
+next_b m b x y f g q r n =
+    let k = fits_most f x y (sym r ∙ n) in
     let w = signed.within m b y q (omega arith) in
-    record { fits = omega arith }
+    omega arith
 
-pub ruleset own_rules = (enter, ret_true, ret_false, turn, next_b, rules)
+pub ruleset own_rules = (enter, ends_after, ret_true, ret_false, turn, next_b, rules)

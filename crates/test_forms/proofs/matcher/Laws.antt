@@ -8,8 +8,9 @@ use native.Mathlib.Numerals.{add-one, add-two}
 use native.Mathlib.Omega.{arith}
 use lib.IntN.{ℤ}
 use lib.ListN.{length, drop, get_elem?}
+use Rattle.std.specs.Prelude.{Result, Ok, Err}
 use Rattle.rules.specs.Forms.{Matcher, something, integer, list, multiset, tuple_of, Matchers, no_matchers, ◌▸ᵐ◌}
-use Rattle.rules.specs.Reading.{Reader, fault, MatcherTag, bare, of, of_all, ◌then◌, ◌>>=◌, give, known, width}
+use Rattle.rules.specs.Reading.{Reader, fault, MatcherTag, bare, of, of_all, ◌then◌, ◌>>=◌, give, width}
 use Rattle.rules.specs.Reading.{matcher, matcher_tags, matcher_parts}
 use Rattle.forms.specs.Written.{matcher_words, levels, Widthsᵐ}
 use Rattle.forms.specs.Readers.{Complete}
@@ -17,8 +18,6 @@ use Rattle.forms.specs.ReadMatcher.{matcher_sound, matcher_complete}
 use Rattle.words.specs.Words.{tag_at}
 use Rattle.test_forms.specs.Ends.{end_of, in_row, within}
 use Rattle.test_forms.specs.Matchers.{matcher_from}
-use Rattle.test_forms.specs.declared.Ended.{Ended}
-use Rattle.test_forms.specs.declared.Ended.TheVariants.{End, Bad}
 use Rattle.test_forms.proofs.Known.{past, meant, known_at}
 use Rattle.test_forms.proofs.Rows.{Along, along, width_takes, counted_bad, counted_row, made}
 
@@ -28,15 +27,15 @@ matcher_along s left = along s (matcher left) matcher_words (λ m. (levels m ≤
 
 -- What comes of a tag, by its meaning in the table.
 module _ (part : Reader Matcher) (s : List ℤ) (at : ℕ) where
-  unfoldable opened : Option MatcherTag → Ended
+  unfoldable opened : Option MatcherTag → Result ℕ ℕ
   unfolding meant ◌then◌ matcher_parts end_of
   opened o = end_of (meant at (drop (suc at) s) o then λ g. matcher_parts part g.it g.next g.rest)
 
-  opened_none : opened none ≡ Bad at
+  opened_none : opened none ≡ Err at
   unfolding opened meant ◌then◌ end_of
   opened_none = refl
 
-  opened_bare : (m : Matcher) → opened (some (bare m)) ≡ End (at + 1)
+  opened_bare : (m : Matcher) → opened (some (bare m)) ≡ Ok (at + 1)
   unfolding opened meant ◌then◌ matcher_parts give end_of
   opened_bare m = rw (add-one at)
 
@@ -45,7 +44,7 @@ module _ (part : Reader Matcher) (s : List ℤ) (at : ℕ) where
   opened_of f = made f (part (suc at) (drop (suc at) s))
 
   module _ (f : Matchers → Matcher) (n : ℕ) (e : n ≡ tag_at s (at + 1)) where
-    opened_wrong : within 2 n 4 ≡ false → opened (some (of_all f)) ≡ Bad (at + 1)
+    opened_wrong : within 2 n 4 ≡ false → opened (some (of_all f)) ≡ Err (at + 1)
     unfolding opened meant ◌then◌ matcher_parts
     opened_wrong h = rw (add-one at) (counted_bad width (λ k. within 2 k 4) width_takes no_matchers ◌▸ᵐ◌ part f s (suc at) n (rw (add-one at) at e) h)
 
@@ -81,18 +80,18 @@ module _ (s : List ℤ) (at t : ℕ) (e : t ≡ tag_at s at) where
   by_tag zero = rw (known_at (matcher_tags 0) (omega arith) s at t e)
   by_tag (suc k) = rw (known_at (matcher_tags (suc k)) (omega arith) s at t e)
 
-  pub leaf : (k : ℕ) → t < 2 → matcher_from s k at ≡ End (at + 1)
+  pub leaf : (k : ℕ) → t < 2 → matcher_from s k at ≡ Ok (at + 1)
   leaf k h = let m = leaf_tag k t h in by_tag k ∙ rw m.1 (opened_bare (part_at k) s at m.0)
 
-  absent : (k : ℕ) → length (matcher_tags k) ≤ t → matcher_from s k at ≡ Bad at
+  absent : (k : ℕ) → length (matcher_tags k) ≤ t → matcher_from s k at ≡ Err at
   absent k h = by_tag k ∙ rw (past (matcher_tags k) t h) (opened_none (part_at k) s at)
 
-  pub other : (k : ℕ) → 4 < t → matcher_from s k at ≡ Bad at
+  pub other : (k : ℕ) → 4 < t → matcher_from s k at ≡ Err at
   unfolding matcher_tags
   other zero h = absent zero (omega arith)
   other (suc k) h = absent (suc k) h
 
-  pub deep : (k : ℕ) → k ≡ 0 → 2 ≤ t → matcher_from s k at ≡ Bad at
+  pub deep : (k : ℕ) → k ≡ 0 → 2 ≤ t → matcher_from s k at ≡ Err at
   unfolding matcher_tags
   deep zero q h = absent zero h
   deep (suc k) q h = absurd (omega arith)
@@ -106,7 +105,7 @@ module _ (s : List ℤ) (at t : ℕ) (e : t ≡ tag_at s at) where
       by_tag (suc k) ∙ rw (f.1, p, add-one at) (opened_of (part_at (suc k)) s at f.0)
 
   module _ (n : ℕ) (q : n ≡ tag_at s (at + 1)) where
-    pub wrong : (k : ℕ) → (k ≡ 0 → ⊥) → t ≡ 4 → within 2 n 4 ≡ false → matcher_from s k at ≡ Bad (at + 1)
+    pub wrong : (k : ℕ) → (k ≡ 0 → ⊥) → t ≡ 4 → within 2 n 4 ≡ false → matcher_from s k at ≡ Err (at + 1)
     unfolding matcher_tags
     wrong zero z h w = absurd (z refl)
     wrong (suc k) z h w = by_tag (suc k) ∙ rw h (opened_wrong (part_at (suc k)) s at tuple_of n q w)

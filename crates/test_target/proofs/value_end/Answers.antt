@@ -1,17 +1,7 @@
-use Rattle.test_target.proofs.Steps.{end_rules}
+use Rattle.test_target.proofs.Looks.{place_alone, mapped}
 use Rattle.test_target.proofs.value_end.Goals as goal
+use mathlib.Core.Path.{◌∙◌}
+use borrow.Author.Rules.{rules}
 
-pub read_value-requires : goal.read_value-requires
-read_value-requires c = search end_rules
-
-pub enum_known-e : goal.enum_known-e
-enum_known-e c = search end_rules
-
-pub enum_known-i : goal.enum_known-i
-enum_known-i c = search end_rules
-
-pub returns-in-End : goal.returns-in-End
-returns-in-End c = search end_rules
-
-pub returns-in-Bad : goal.returns-in-Bad
-returns-in-Bad c = search end_rules
+pub returns : goal.returns
+returns c = mapped c.read_value.result c.map_err.result _ c.map_err.ensures.cases (λ f r p. search rules) ∙ place_alone c.args.ts.now c.args.depth c.args.at c.read_value.result c.read_value.ensures

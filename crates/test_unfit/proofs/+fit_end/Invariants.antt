@@ -6,8 +6,5 @@ use Rattle.test_unfit.proofs.+fit_end.Given as goal
 abbrev pub decreases-fit_end : goal.decreases-fit_end
 decreases-fit_end l = l.depth
 
-abbrev pub invariant-loop-left : goal.invariant-loop-left
-invariant-loop-left l = fit_from l.ts l.ms l.depth l.i l.at ≡ in_each (fit_from l.ts l.ms (l.depth - 1)) (next_member l.ms l.k) l.left l.j l.e
-
-abbrev pub decreases-loop-left : goal.decreases-loop-left
-decreases-loop-left l = l.left
+abbrev pub invariant-loop-member : goal.invariant-loop-member
+invariant-loop-member l = fit_from l.ts l.ms l.depth l.i l.at ≡ in_each (fit_from l.ts l.ms (l.depth - 1)) (next_member l.ms l.k) (l.n - l._member) l.j l.e

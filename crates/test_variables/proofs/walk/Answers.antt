@@ -1,97 +1,48 @@
 -- `test_variables::walk` meets its contract: the loop's invariant is that what is left to read gives the answer.
-use Prim.Native.Nat.{◌-◌}
-use Rattle.test_variables.proofs.Steps.{own_rules, turn_wide}
+use mathlib.Core.Path.{◌∙◌, ap}
+use Rattle.std.specs.Prelude.{Some}
+use Rattle.test_forms.proofs.pattern.Steps.{few_known, few_wide}
+use Rattle.test_variables.proofs.Steps.{ret_long, ret_end, ret_refused, ret_unknown, ret_width, turn_skip, turn_wide, turn_variable, turn_other, room_inside}
 use Rattle.test_variables.proofs.walk.Goals as goal
+use Rattle.test_variables.proofs.walk.Goals.{then-skip-gt0, else-skip-gt0+else-not-allowed+in-Some-Known+then-t-eq-VARIABLE, else-skip-gt0+else-not-allowed+in-Some-Known+else-t-eq-VARIABLE, else-skip-gt0+else-not-allowed+in-Some-Wide+else-not-between}
 
 pub returns-then-ps-gt-PATTERN_WORDS : goal.returns-then-ps-gt-PATTERN_WORDS
-returns-then-ps-gt-PATTERN_WORDS c = search own_rules
-
-pub loop-at-init : goal.loop-at-init
-loop-at-init c = search own_rules
-
-pub overflow_sub-skip : goal.overflow_sub-skip
-overflow_sub-skip c = search own_rules
-
-pub overflow_add-at : goal.overflow_add-at
-overflow_add-at c = search own_rules
-
-pub loop-at-smaller-then-skip-gt0 : goal.loop-at-smaller-then-skip-gt0
-loop-at-smaller-then-skip-gt0 c = search own_rules
-
-pub loop-at-preserved-then-skip-gt0 : goal.loop-at-preserved-then-skip-gt0
-loop-at-preserved-then-skip-gt0 c = search own_rules
-
-pub tag_at-t-requires : goal.tag_at-t-requires
-tag_at-t-requires c = search own_rules
-
-pub overflow_add-at-else-skip-gt0 : goal.overflow_add-at-else-skip-gt0
-overflow_add-at-else-skip-gt0 c = search own_rules
-
-pub tag_at-v-requires : goal.tag_at-v-requires
-tag_at-v-requires c = search own_rules
-
-pub allowed-requires : goal.allowed-requires
-allowed-requires c = search own_rules
+returns-then-ps-gt-PATTERN_WORDS c = ret_long _ c.if-ps-gt-PATTERN_WORDS.true
 
 pub returns-then-not-allowed : goal.returns-then-not-allowed
-returns-then-not-allowed c = search own_rules
+returns-then-not-allowed c = ret_refused _ _ _ _ _ c.loop-at.invariant c.loop-at-test.true _ _ c.tag_at-t.ensures c.tag_at-v.ensures c.if-skip-gt0.false
+    _ c.allowed.ensures c.if-ps-gt-PATTERN_WORDS.false c.if-not-allowed.true
 
-pub row_of-requires : goal.row_of-requires
-row_of-requires c = search own_rules
-
-pub enum_told-1 : goal.enum_told-1
-enum_told-1 c = search own_rules
-
-pub returns-in-Unknown : goal.returns-in-Unknown
-returns-in-Unknown c = search own_rules
-
-pub enum_known-operands : goal.enum_known-operands
-enum_known-operands c = search own_rules
+pub returns-in-None : goal.returns-in-None
+returns-in-None c = ret_unknown _ _ _ _ _ c.loop-at.invariant c.loop-at-test.true _ _ c.tag_at-t.ensures c.tag_at-v.ensures c.if-skip-gt0.false
+    _ c.allowed.ensures c.if-not-allowed.false _ c.row_of.ensures c.if-ps-gt-PATTERN_WORDS.false c.in-None.is
 
 pub inside_after-inside-requires : goal.inside_after-inside-requires
-inside_after-inside-requires c = search own_rules
-
-pub overflow_add-at-in-Known : goal.overflow_add-at-in-Known
-overflow_add-at-in-Known c = search own_rules
-
-pub overflow_add-next : goal.overflow_add-next
-overflow_add-next c = search own_rules
-
-pub loop-at-smaller-then-t-eq-VARIABLE : goal.loop-at-smaller-then-t-eq-VARIABLE
-loop-at-smaller-then-t-eq-VARIABLE c = search own_rules
-
-pub loop-at-preserved-then-t-eq-VARIABLE : goal.loop-at-preserved-then-t-eq-VARIABLE
-loop-at-preserved-then-t-eq-VARIABLE c = (search own_rules, search own_rules, search own_rules, search own_rules, search own_rules)
-
-pub loop-at-smaller-else-t-eq-VARIABLE : goal.loop-at-smaller-else-t-eq-VARIABLE
-loop-at-smaller-else-t-eq-VARIABLE c = search own_rules
-
-pub loop-at-preserved-else-t-eq-VARIABLE : goal.loop-at-preserved-else-t-eq-VARIABLE
-loop-at-preserved-else-t-eq-VARIABLE c = (search own_rules, search own_rules, search own_rules, search own_rules, search own_rules)
-
-pub enum_told-in-Wide : goal.enum_told-in-Wide
-enum_told-in-Wide c = search own_rules
-
-pub between-requires : goal.between-requires
-between-requires c = search own_rules
-
-pub overflow_add-result : goal.overflow_add-result
-overflow_add-result c = search own_rules
+inside_after-inside-requires c =
+    let k = few_known _ _ _ c.row_of.ensures _ _ _ (c.in-Some-Known.is ∙ ap Some c.in-Some-Known.field-0-is) in
+    room_inside _ _ _ _ k c.loop-at.invariant.inner c.loop-at-test.true c.if-ps-gt-PATTERN_WORDS.false
 
 pub returns-then-not-between : goal.returns-then-not-between
-returns-then-not-between c = search own_rules
+returns-then-not-between c = ret_width _ _ _ _ _ c.loop-at.invariant c.loop-at-test.true _ _ c.tag_at-t.ensures c.tag_at-v.ensures c.if-skip-gt0.false
+    _ c.allowed.ensures c.if-not-allowed.false _ c.row_of.ensures _ (c.in-Some-Wide.is ∙ ap Some c.in-Some-Wide.field-0-is) _ c.between.ensures c.if-ps-gt-PATTERN_WORDS.false c.if-not-between.true
 
-pub inside_after-inside-requires-in-Wide : goal.inside_after-inside-requires-in-Wide
-inside_after-inside-requires-in-Wide c = search own_rules
-
-pub overflow_add-at-in-Wide : goal.overflow_add-at-in-Wide
-overflow_add-at-in-Wide c = search own_rules
-
-pub loop-at-smaller : goal.loop-at-smaller
-loop-at-smaller c = search own_rules
+pub inside_after-inside-requires-in-Some-Wide : goal.inside_after-inside-requires-in-Some-Wide
+inside_after-inside-requires-in-Some-Wide c =
+    room_inside _ _ _ _ (few_wide _ _ c.between.ensures c.if-not-between.false) c.loop-at.invariant.inner c.loop-at-test.true c.if-ps-gt-PATTERN_WORDS.false
 
 pub loop-at-preserved : goal.loop-at-preserved
-loop-at-preserved c = (turn_wide _ _ _ _ _ _ c.loop-at.invariant.0 _ _ c.tag_at-t.ensures c.tag_at-v.ensures c.loop-at-test.true c.if-skip-gt0.false c.loop-at.invariant.2 _ c.allowed.ensures c.if-not-allowed.false-raw _ c.row_of.ensures _ c.in-Wide.is _ c.between.ensures c.if-not-between.false-raw _ c.inside_after-inside-in-Wide.ensures, search own_rules, search own_rules, search own_rules, search own_rules)
+loop-at-preserved c = elim c.if-skip-gt0.branch [
+  | then-skip-gt0 w ↦ turn_skip _ _ _ _ _ c.loop-at.invariant c.loop-at-test.true w.if-skip-gt0.true _ _ _ w.skip-is w.next-is w.inside-is
+  | else-skip-gt0+else-not-allowed+in-Some-Known+then-t-eq-VARIABLE w ↦ turn_variable _ _ _ _ _ c.loop-at.invariant c.loop-at-test.true _ _ w.tag_at-t.ensures
+      w.tag_at-v.ensures w.if-skip-gt0.false _ w.allowed.ensures w.if-not-allowed.false _ w.row_of.ensures _ _ _ (w.in-Some-Known.is ∙ ap Some w.in-Some-Known.field-0-is)
+      _ _ _ (w.inside-is ∙ w.inside_after-inside.ensures) w.skip-is w.if-t-eq-VARIABLE.true w.next-is
+  | else-skip-gt0+else-not-allowed+in-Some-Known+else-t-eq-VARIABLE w ↦ turn_other _ _ _ _ _ c.loop-at.invariant c.loop-at-test.true _ _ w.tag_at-t.ensures
+      w.tag_at-v.ensures w.if-skip-gt0.false _ w.allowed.ensures w.if-not-allowed.false _ w.row_of.ensures _ _ _ (w.in-Some-Known.is ∙ ap Some w.in-Some-Known.field-0-is)
+      _ _ _ (w.inside-is ∙ w.inside_after-inside.ensures) w.skip-is w.if-t-eq-VARIABLE.false w.next-is
+  | else-skip-gt0+else-not-allowed+in-Some-Wide+else-not-between w ↦ turn_wide _ _ _ _ _ c.loop-at.invariant c.loop-at-test.true _ _ w.tag_at-t.ensures
+      w.tag_at-v.ensures w.if-skip-gt0.false _ w.allowed.ensures w.if-not-allowed.false _ w.row_of.ensures _ (w.in-Some-Wide.is ∙ ap Some w.in-Some-Wide.field-0-is)
+      _ w.between.ensures w.if-not-between.false _ _ _ w.skip-is w.next-is (w.inside-is ∙ w.inside_after-inside-in-Some-Wide.ensures)
+]
 
 pub returns : goal.returns
-returns c = search own_rules
+returns c = ret_end _ _ _ _ _ c.loop-at.invariant c.if-ps-gt-PATTERN_WORDS.false c.loop-at-test.false

@@ -1,20 +1,10 @@
-use Rattle.tests.proofs.Laws.{all_rules}
+use Rattle.tests.proofs.Laws.{all_long, all_equal}
 use Rattle.tests.proofs.fits_all.Goals as goal
+use mathlib.Core.Path.{◌∙◌}
+use borrow.Author.Tests.{lt-leb}
 
-pub returns-then-ts-gt-TARGET_WORDS : goal.returns-then-ts-gt-TARGET_WORDS
-returns-then-ts-gt-TARGET_WORDS c = search all_rules
+pub returns-then-ts-le-TARGET_WORDS : goal.returns-then-ts-le-TARGET_WORDS
+returns-then-ts-le-TARGET_WORDS c = c.eq.ensures ∙ all_equal c.args.ms.now c.args.ts.now c.if-ts-le-TARGET_WORDS.true c.fit_end.result c.fit_end.ensures
 
-pub fit_end-requires : goal.fit_end-requires
-fit_end-requires c = search all_rules
-
-pub enum_known-e : goal.enum_known-e
-enum_known-e c = search all_rules
-
-pub enum_told-1 : goal.enum_told-1
-enum_told-1 c = search all_rules
-
-pub returns-in-End : goal.returns-in-End
-returns-in-End c = search all_rules
-
-pub returns-in-Bad : goal.returns-in-Bad
-returns-in-Bad c = search all_rules
+pub returns-else-ts-le-TARGET_WORDS : goal.returns-else-ts-le-TARGET_WORDS
+returns-else-ts-le-TARGET_WORDS c = lt-leb _ _ c.if-ts-le-TARGET_WORDS.false ∙ all_long c.args.ms.now c.args.ts.now c.if-ts-le-TARGET_WORDS.false

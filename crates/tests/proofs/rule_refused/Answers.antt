@@ -1,8 +1,6 @@
-use Rattle.tests.proofs.Laws.{every_rules}
+use mathlib.Core.Path.{refl}
+use Rattle.tests.proofs.Laws.{in_every}
 use Rattle.tests.proofs.rule_refused.Goals as goal
 
-pub rule_refused_in-requires : goal.rule_refused_in-requires
-rule_refused_in-requires c = search every_rules
-
 pub returns : goal.returns
-returns c = search every_rules
+returns c = in_every _ _ _ _ c.rule_refused_in.ensures refl

@@ -1,53 +1,38 @@
-use Rattle.tests.proofs.Laws.{rule_rules}
+use mathlib.Core.Path.{◌∙◌, ap}
+use borrow.Author.Rules.{rules}
+use Rattle.std.specs.Prelude.{Err}
+use Rattle.std.proofs.lemmas.Result.{err_from_is_err_and}
+use Rattle.tests.specs.declared.Refusal.TheVariants.{Matcher, Pattern, Variable, Misfit}
+use Rattle.tests.proofs.Laws.{is_mapped, went_on, refused_by, judged_by, ret_matcher, ret_pattern, ret_variable, ret_misfit, ret_rule}
 use Rattle.tests.proofs.rule_refused_in.Goals as goal
 
-pub test_matcher-a-requires : goal.test_matcher-a-requires
-test_matcher-a-requires c = search rule_rules
+pub returns-in_err-map_err : goal.returns-in_err-map_err
+returns-in_err-map_err c =
+    let p = err_from_is_err_and c.from_residual.result c.from_residual.ensures.1 in
+    refused_by Matcher c.test_matcher.result c.map_err.result (is_mapped Matcher c.test_matcher.result c.map_err.result _ c.map_err.ensures.cases (λ e r h. search rules)) _ (ret_matcher c.args.firsts c.args.ms.now c.args.ps.now _ c.test_matcher.ensures)
+    _ c.in_err-map_err.was _ (p.1 ∙ ap Err p.2)
 
-pub enum_known-a : goal.enum_known-a
-enum_known-a c = search rule_rules
+pub returns-in_err-map_err-2 : goal.returns-in_err-map_err-2
+returns-in_err-map_err-2 c =
+    let p = err_from_is_err_and c.from_residual-in_err-map_err-2.result c.from_residual-in_err-map_err-2.ensures.1 in
+    let m = went_on Matcher c.test_matcher.result c.map_err.result (is_mapped Matcher c.test_matcher.result c.map_err.result _ c.map_err.ensures.cases (λ e r h. search rules)) _ c.in_ok-map_err.was in
+    refused_by Pattern c.test_pattern.result c.map_err-2.result (is_mapped Pattern c.test_pattern.result c.map_err-2.result _ c.map_err-2.ensures.cases (λ e r h. search rules)) _
+    (ret_pattern c.args.firsts c.args.ms.now c.args.ps.now _ c.test_matcher.ensures _ m _ c.test_pattern.ensures) _ c.in_err-map_err-2.was _ (p.1 ∙ ap Err p.2)
 
-pub returns-in-Fault : goal.returns-in-Fault
-returns-in-Fault c = search rule_rules
-
-pub enum_told-1 : goal.enum_told-1
-enum_told-1 c = search rule_rules
-
-pub test_pattern-b-requires : goal.test_pattern-b-requires
-test_pattern-b-requires c = search rule_rules
-
-pub enum_known-b : goal.enum_known-b
-enum_known-b c = search rule_rules
-
-pub returns-in-Fault-b : goal.returns-in-Fault-b
-returns-in-Fault-b c = search rule_rules
-
-pub enum_told-in_default-b : goal.enum_told-in_default-b
-enum_told-in_default-b c = search rule_rules
-
-pub walk-c-requires : goal.walk-c-requires
-walk-c-requires c = search rule_rules
-
-pub enum_known-c : goal.enum_known-c
-enum_known-c c = search rule_rules
-
-pub returns-in-Fault-c : goal.returns-in-Fault-c
-returns-in-Fault-c c = search rule_rules
-
-pub enum_told-in_default-c : goal.enum_told-in_default-c
-enum_told-in_default-c c = search rule_rules
-
-pub walk-d-requires : goal.walk-d-requires
-walk-d-requires c = search rule_rules
-
-pub enum_known-d : goal.enum_known-d
-enum_known-d c = search rule_rules
-
-pub returns-in-Fault-d : goal.returns-in-Fault-d
-returns-in-Fault-d c = search rule_rules
-
-pub enum_told-in_default-d : goal.enum_told-in_default-d
-enum_told-in_default-d c = search rule_rules
+pub returns-in_err-_variables : goal.returns-in_err-_variables
+returns-in_err-_variables c =
+    let p = err_from_is_err_and c.from_residual-in_err-_variables.result c.from_residual-in_err-_variables.ensures.1 in
+    let m = went_on Matcher c.test_matcher.result c.map_err.result (is_mapped Matcher c.test_matcher.result c.map_err.result _ c.map_err.ensures.cases (λ e r h. search rules)) _ c.in_ok-map_err.was in
+    let k = went_on Pattern c.test_pattern.result c.map_err-2.result (is_mapped Pattern c.test_pattern.result c.map_err-2.result _ c.map_err-2.ensures.cases (λ e r h. search rules)) _ c.in_ok-map_err-2.was in
+    refused_by Variable c.walk.result c.map_err-3.result (is_mapped Variable c.walk.result c.map_err-3.result _ c.map_err-3.ensures.cases (λ e r h. search rules)) _
+    (ret_variable c.args.firsts c.args.ms.now c.args.ps.now _ c.test_matcher.ensures _ m _ c.test_pattern.ensures _ k _ c.walk.ensures)
+    _ c.in_err-_variables.was _ (p.1 ∙ ap Err p.2)
 
 pub returns : goal.returns
-returns c = search rule_rules
+returns c =
+    let m = went_on Matcher c.test_matcher.result c.map_err.result (is_mapped Matcher c.test_matcher.result c.map_err.result _ c.map_err.ensures.cases (λ e r h. search rules)) _ c.in_ok-map_err.was in
+    let k = went_on Pattern c.test_pattern.result c.map_err-2.result (is_mapped Pattern c.test_pattern.result c.map_err-2.result _ c.map_err-2.ensures.cases (λ e r h. search rules)) _ c.in_ok-map_err-2.was in
+    let v = went_on Variable c.walk.result c.map_err-3.result (is_mapped Variable c.walk.result c.map_err-3.result _ c.map_err-3.ensures.cases (λ e r h. search rules)) _ c.in_ok-_variables.was in
+    judged_by Misfit c.walk-2.result c.map_err-4.result (is_mapped Misfit c.walk-2.result c.map_err-4.result _ c.map_err-4.ensures.cases (λ e r h. search rules)) _
+    (ret_misfit c.args.firsts c.args.ms.now c.args.ps.now _ c.test_matcher.ensures _ m _ c.test_pattern.ensures _ k _ c.walk.ensures _ v _ c.walk-2.ensures)
+    (ret_rule c.args.firsts c.args.ms.now c.args.ps.now _ c.test_matcher.ensures _ m _ c.test_pattern.ensures _ k _ c.walk.ensures _ v _ c.walk-2.ensures)

@@ -1,11 +1,10 @@
-use mathlib.Core.Path.{◌≡◌}
-use Prim.Native.Nat.{◌-◌, ◌^◌, ◌≤◌, ◌<◌}
-use lib.ListN.{length, drop}
+-- What was read is a number, and the digits that are left go on from it.
+use Rattle.std.proofs.Common.{◌≡◌, ◌<◌, ◌^◌, drop}
 use Rattle.text_number.specs.Decimal.{digits}
 use Rattle.text_number.proofs.natural.Given as goal
 
-abbrev pub invariant-loop-i : goal.invariant-loop-i
-invariant-loop-i l = (digits 0 l.s ≡ digits l.n (drop l.i l.s)) × (l.i ≤ length l.s) × (l.n < 10 ^ l.i)
-
-abbrev pub decreases-loop-i : goal.decreases-loop-i
-decreases-loop-i l = length l.s - l.i
+abbrev pub invariant-loop-byte : goal.invariant-loop-byte
+invariant-loop-byte l = record {
+  read : digits 0 l.text ≡ digits l.number (drop l.byte-index l.text);
+  below : l.number < 10 ^ l.byte-index;
+}

@@ -1,47 +1,22 @@
-use Rattle.text_number.proofs.Laws.{number_rules}
+-- A minus and a number, or a number.
+use Rattle.std.proofs.Common.{arith, inl, inr, ◌∙◌}
+use borrow.Author.Tests.{ltb-true}
+use Rattle.text_number.proofs.Laws.{no_minus, minus_read, no_plus, plus_read}
 use Rattle.text_number.proofs.number.Goals as goal
+use Rattle.text_number.proofs.number.Goals.{in_default-via-then-text-lt1, in_default-via-else-text-lt1+in_default-1}
 
-pub returns-then-s-eq0 : goal.returns-then-s-eq0
-returns-then-s-eq0 c = search number_rules
+pub returns-in_err-natural-in-45 : goal.returns-in_err-natural-in-45
+returns-in_err-natural-in-45 c = c.from_residual.ensures ∙ no_minus _ (omega arith) (omega arith) (c.in_err-natural-in-45.ensures.value)
 
-pub bounds-s-0 : goal.bounds-s-0
-bounds-s-0 c = search number_rules
+pub returns-in_err-natural-in_default : goal.returns-in_err-natural-in_default
+returns-in_err-natural-in_default c =
+    c.from_residual-in_err-natural-in_default.ensures
+    ∙ no_plus _ (elim c.in_default.branch [ in_default-via-then-text-lt1 w ↦ inl (omega (arith, ltb-true)) | in_default-via-else-text-lt1+in_default-1 w ↦ inr (λ e. omega (arith, e)) ]) c.in_err-natural-in_default.ensures.value
 
-pub slice_bounds-natural-count : goal.slice_bounds-natural-count
-slice_bounds-natural-count c = search number_rules
+pub returns-in_ok-natural-in-45 : goal.returns-in_ok-natural-in-45
+returns-in_ok-natural-in-45 c = minus_read _ (omega arith) (omega arith) _ c.in_ok-natural-in-45.ensures.value c.in_ok-natural-in-45.ensures.below
 
-pub slice_bounds-natural-start : goal.slice_bounds-natural-start
-slice_bounds-natural-start c = search number_rules
-
-pub slice_bounds-natural-end : goal.slice_bounds-natural-end
-slice_bounds-natural-end c = search number_rules
-
-pub natural-requires : goal.natural-requires
-natural-requires c = search number_rules
-
-pub enum_known-n : goal.enum_known-n
-enum_known-n c = search number_rules
-
-pub enum_told-1 : goal.enum_told-1
-enum_told-1 c = search number_rules
-
-pub natural-requires-else-s-eq45 : goal.natural-requires-else-s-eq45
-natural-requires-else-s-eq45 c = search number_rules
-
-pub enum_known-n-in-Of-natural-2 : goal.enum_known-n-in-Of-natural-2
-enum_known-n-in-Of-natural-2 c = search number_rules
-
-pub enum_told-in-Other-natural : goal.enum_told-in-Other-natural
-enum_told-in-Other-natural c = search number_rules
-
-pub returns-in-Of : goal.returns-in-Of
-returns-in-Of c = search number_rules
-
-pub returns-in-Other : goal.returns-in-Other
-returns-in-Other c = search number_rules
-
-pub returns-in-Of-natural : goal.returns-in-Of-natural
-returns-in-Of-natural c = search number_rules
-
-pub returns-in-Other-natural : goal.returns-in-Other-natural
-returns-in-Other-natural c = search number_rules
+pub returns-in_ok-natural-in_default : goal.returns-in_ok-natural-in_default
+returns-in_ok-natural-in_default c =
+    plus_read _ (elim c.in_default.branch [ in_default-via-then-text-lt1 w ↦ inl (omega (arith, ltb-true)) | in_default-via-else-text-lt1+in_default-1 w ↦ inr (λ e. omega (arith, e)) ])
+    _ c.in_ok-natural-in_default.ensures.value c.in_ok-natural-in_default.ensures.below

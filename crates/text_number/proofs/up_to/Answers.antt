@@ -1,29 +1,32 @@
-use Rattle.text_number.proofs.Laws.{count_rules}
+-- The number that was read, where it is from 0 to the limit.
+use Rattle.std.proofs.Common.{rules, ◌∙◌, w64}
+use mir.Val.{SFits}
+use mir.Facts.{to_z-of_z}
+use Rattle.text_number.specs.Decimal.{◌then◌}
+use Rattle.text_number.proofs.Laws.{within_most, above_most, no_count}
 use Rattle.text_number.proofs.up_to.Goals as goal
 
-pub number-requires : goal.number-requires
-number-requires c = search count_rules
+pub returns-in_err-number : goal.returns-in_err-number
+unfolding ◌then◌
+returns-in_err-number c = c.from_residual.ensures ∙ rw (← c.in_err-number.ensures)
 
-pub enum_known-n : goal.enum_known-n
-enum_known-n c = search count_rules
+pub returns-in-Ok : goal.returns-in-Ok
+unfolding ◌then◌
+returns-in-Ok c =
+    let f : SFits w64 c.in_ok-number.field-0 = search rules in
+    let h = rw (to_z-of_z f) at c.in-Ok.ensures in
+    rw (← c.in_ok-number.ensures) (within_most _ _ _ h.0 h.1 c.if-n-most.true)
 
-pub enum_known-n-in-Minus-1 : goal.enum_known-n-in-Minus-1
-enum_known-n-in-Minus-1 c = search count_rules
+pub returns-in_default : goal.returns-in_default
+unfolding ◌then◌
+returns-in_default c =
+    let f : SFits w64 c.in_ok-number.field-0 = search rules in
+    let h = rw (to_z-of_z f) at c.in-Ok.ensures in
+    rw (← c.in_ok-number.ensures) (above_most _ _ _ h.1 c.if-n-most.false)
 
-pub enum_told-1 : goal.enum_told-1
-enum_told-1 c = search count_rules
-
-pub returns-then-n-most : goal.returns-then-n-most
-returns-then-n-most c = search count_rules
-
-pub returns-else-n-most : goal.returns-else-n-most
-returns-else-n-most c = search count_rules
-
-pub returns-then-n-eq0 : goal.returns-then-n-eq0
-returns-then-n-eq0 c = search count_rules
-
-pub returns-else-n-eq0 : goal.returns-else-n-eq0
-returns-else-n-eq0 c = search count_rules
-
-pub returns-in-Other : goal.returns-in-Other
-returns-in-Other c = search count_rules
+pub returns-in_default-2 : goal.returns-in_default-2
+unfolding ◌then◌
+returns-in_default-2 c =
+    let f : SFits w64 c.in_ok-number.field-0 = search rules in
+    let h = rw (to_z-of_z f) at c.in_default.ensures in
+    rw (← c.in_ok-number.ensures) (no_count _ _ f h)

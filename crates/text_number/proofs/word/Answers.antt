@@ -1,47 +1,18 @@
-use Rattle.text_number.proofs.Laws.{word_rules}
+-- The number that was read, where it is in the range.
+use Rattle.std.proofs.Common.{rules, ◌∙◌, w64}
+use mir.Val.{SFits}
+use mir.Facts.{to_z-of_z}
+use Rattle.text_number.specs.Decimal.{◌then◌}
+use Rattle.text_number.specs.Word.{word}
+use Rattle.text_number.proofs.Laws.{word_of}
 use Rattle.text_number.proofs.word.Goals as goal
 
-pub number-requires : goal.number-requires
-number-requires c = search word_rules
+pub returns-in_err-number : goal.returns-in_err-number
+unfolding ◌then◌ word
+returns-in_err-number c = c.from_residual.ensures ∙ rw (← c.in_err-number.ensures)
 
-pub enum_known-n : goal.enum_known-n
-enum_known-n c = search word_rules
-
-pub overflow_cast-n : goal.overflow_cast-n
-overflow_cast-n c = search word_rules
-
-pub of_bits-requires : goal.of_bits-requires
-of_bits-requires c = search word_rules
-
-pub enum_known-n-in-Minus-1 : goal.enum_known-n-in-Minus-1
-enum_known-n-in-Minus-1 c = search word_rules
-
-pub returns-then-n-eq0 : goal.returns-then-n-eq0
-returns-then-n-eq0 c = search word_rules
-
-pub overflow_sub-n : goal.overflow_sub-n
-overflow_sub-n c = search word_rules
-
-pub overflow_cast-n-then-n-le-BEYOND : goal.overflow_cast-n-then-n-le-BEYOND
-overflow_cast-n-then-n-le-BEYOND c = search word_rules
-
-pub of_bits-requires-then-n-le-BEYOND : goal.of_bits-requires-then-n-le-BEYOND
-of_bits-requires-then-n-le-BEYOND c = search word_rules
-
-pub enum_told-1 : goal.enum_told-1
-enum_told-1 c = search word_rules
-
-pub returns-then-n-lt-BEYOND : goal.returns-then-n-lt-BEYOND
-returns-then-n-lt-BEYOND c = search word_rules
-
-pub returns-else-n-lt-BEYOND : goal.returns-else-n-lt-BEYOND
-returns-else-n-lt-BEYOND c = search word_rules
-
-pub returns-then-n-le-BEYOND : goal.returns-then-n-le-BEYOND
-returns-then-n-le-BEYOND c = search word_rules
-
-pub returns-else-n-le-BEYOND : goal.returns-else-n-le-BEYOND
-returns-else-n-le-BEYOND c = search word_rules
-
-pub returns-in-Other : goal.returns-in-Other
-returns-in-Other c = search word_rules
+pub returns : goal.returns
+unfolding ◌then◌ word
+returns c =
+    let f : SFits w64 c.in_ok-number.field-0 = search rules in
+    rw (← c.in_ok-number.ensures, c.ok.ensures.value) (word_of _ _ (rw (to_z-of_z f) at c.try_from.ensures))

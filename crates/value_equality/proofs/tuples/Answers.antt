@@ -16,14 +16,11 @@ settled-requires c = search tuples_rules
 pub returns-then-n-m : goal.returns-then-n-m
 returns-then-n-m c = search tuples_rules
 
-pub index-requires : goal.index-requires
-index-requires c = search tuples_rules
+pub settled-requires-then-n-w : goal.settled-requires-then-n-w
+settled-requires-then-n-w c = search tuples_rules
 
-pub settled-requires-then-index-w : goal.settled-requires-then-index-w
-settled-requires-then-index-w c = search tuples_rules
-
-pub returns-then-index-w : goal.returns-then-index-w
-returns-then-index-w c = search tuples_rules
+pub returns-then-n-w : goal.returns-then-n-w
+returns-then-n-w c = search tuples_rules
 
 pub full-x-requires : goal.full-x-requires
 full-x-requires c = search tuples_rules

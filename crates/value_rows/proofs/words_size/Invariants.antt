@@ -1,4 +1,4 @@
-use Prim.Native.Nat.{◌≤◌, ◌+◌, ◌-◌, ◌*◌}
+use Prim.Native.Nat.{◌≤◌, ◌+◌, ◌*◌}
 use mathlib.Core.Path.{◌≡◌}
 use lib.ListN.{length}
 use Rattle.rules.specs.Rows.{as_words, row}
@@ -6,7 +6,4 @@ use Rattle.value_rows.specs.Row.{bound, bound_from, Bound}
 use Rattle.value_rows.proofs.words_size.Given as goal
 
 abbrev pub invariant-loop-v : goal.invariant-loop-v
-invariant-loop-v l = (l.v ≤ l.n) × Bound l.s l.b l.n × (length (row as_words (bound l.s l.b l.n)) ≡ l.size + length (row as_words (bound_from l.s l.b l.v l.n))) × (l.size ≤ l.v * 1024)
-
-abbrev pub decreases-loop-v : goal.decreases-loop-v
-decreases-loop-v l = l.n - l.v
+invariant-loop-v l = Bound l.s l.b l.n × (length (row as_words (bound l.s l.b l.n)) ≡ l.size + length (row as_words (bound_from l.s l.b l.v l.n))) × (l.size ≤ l.v * 1024)

@@ -1,15 +1,14 @@
 -- What marks hold of a collection: how many elements, and the first of them. Assumes nothing.
-use mathlib.Core.Path.{◌≡◌, refl, sym, ◌∙◌, ap, ap₂}
-use mathlib.Core.Bool.{true, false}
-use mathlib.Core.List.{List, [], ◌∷◌, map}
-use Prim.Native.Nat.{ℕ, zero, suc, ◌+◌, ◌-◌, ◌*◌, ◌/◌, ◌%◌, ◌^◌, ◌<◌, ◌≤◌}
+use mathlib.Core.Path.{◌≡◌, refl, ap}
+use mathlib.Core.Bool.{false}
+use Prim.Native.Nat.{ℕ, zero, suc, ◌-◌, ◌/◌, ◌%◌, ◌^◌, ◌<◌}
 use native.Mathlib.Omega.{arith}
 use lib.Dec.{eqb, eqb-suc-zero}
 use lib.Count.{ones, ones_step, count_trailing_zeros}
-use Rattle.rules.specs.Forms.{Matcher, list, multiset, Value, int, collection, Values, empty, ◌▸◌, count}
+use Rattle.rules.specs.Forms.{collection, Values, empty, ◌▸◌, count}
 use Rattle.rules.specs.Equality.{is_empty}
 use Rattle.words.specs.Marks.{clear}
-use Rattle.words.specs.Marked.{nth, keep, marked, held}
+use Rattle.words.specs.Marked.{nth, marked, held}
 use Rattle.words.proofs.marks.Places.{by_digit_lem, half_lt, half_pos, double_half, double_digit, digit_2, even_half, even_digit, low_even, low_odd, full_odd, full_half}
 
 pub marked_none : (vs : Values) → marked vs 0 ≡ empty

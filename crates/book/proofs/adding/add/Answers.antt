@@ -1,30 +1,43 @@
 -- `book::adding::add` meets its contract: refused as the book is, by itself, for want of a block, or the block written.
-use borrow.Author.Rules.{rules}
-use native.Mathlib.Omega.{arith}
+use Rattle.std.proofs.Common.{refl, arith}
+use Rattle.std.proofs.lemmas.Result.{err_from_is_err_and}
+use Rattle.book.proofs.Blocks.{refused, refusal_is}
 use Rattle.book.proofs.lookup.Rules.{read_room}
 use Rattle.book.proofs.adding.Adds.{add_refused, add_own, add_full, add_fits, add_small, add_short, add_dialect, add_written}
 use Rattle.book.proofs.adding.add.Goals as goal
 
-pub returns-then-t-ne-GOOD : goal.returns-then-t-ne-GOOD
-returns-then-t-ne-GOOD c = add_refused _ (λ i. (c.slice_known-1.given i).fits) _ _ _ _ c.test-t.ensures _ c.if-t-ne-GOOD.true c.refused.ensures
+pub returns-in_err-test : goal.returns-in_err-test
+returns-in_err-test c =
+    let p = err_from_is_err_and c.from_residual.result c.from_residual.ensures.1 in
+    rw (p.1, p.2) (add_refused _ (λ i. (c.slice_known-1.given i).fits) _ _ _ _ c.in_err-test.ensures (refused _))
 
-pub own_refusal-a-requires : goal.own_refusal-a-requires
-own_refusal-a-requires c = search (read_room, rules)
-
-pub returns-then-a-ne-GOOD : goal.returns-then-a-ne-GOOD
-returns-then-a-ne-GOOD c = add_own _ (λ i. (c.slice_known-1.given i).fits) _ _ _ _ c.test-t.ensures c.if-t-ne-GOOD.false _ c.own_refusal-a.ensures _ c.if-a-ne-GOOD.true c.refused-then-a-ne-GOOD.ensures
+pub own_refusal-requires : goal.own_refusal-requires
+own_refusal-requires c = read_room _ _ _ _ c.in_ok-test.ensures refl
 
 pub slot-requires : goal.slot-requires
-slot-requires c = search (read_room, rules)
+slot-requires c = read_room _ _ _ _ c.in_ok-test.ensures refl
+
+pub returns-in_err-own_refusal : goal.returns-in_err-own_refusal
+returns-in_err-own_refusal c =
+    let p = err_from_is_err_and c.from_residual-in_err-own_refusal.result c.from_residual-in_err-own_refusal.ensures.1 in
+    rw (p.1, p.2) (add_own _ (λ i. (c.slice_known-1.given i).fits) _ _ _ _ c.in_ok-test.ensures refl _ c.in_err-own_refusal.ensures (refused _))
+
+pub returns-in_err-block : goal.returns-in_err-block
+returns-in_err-block c =
+    let p = err_from_is_err_and c.from_residual-in_err-block.result c.from_residual-in_err-block.ensures.1 in
+    rw (p.1, p.2, refusal_is _ _ _ c.in_err-block.ensures.ok_part c.in_err-block.ensures.value)
+    (add_full _ (λ i. (c.slice_known-1.given i).fits) _ _ _ _ c.in_ok-test.ensures refl _ c.in_ok-own_refusal.ensures refl _ c.slot.ensures c.in_err-block.ensures.ok_part)
 
 pub write_block-requires : goal.write_block-requires
-write_block-requires c = record { fact_1 = add_fits _ (λ i. (c.slice_known-1.given i).fits) _ _ _ _ c.test-t.ensures c.if-t-ne-GOOD.false _ c.own_refusal-a.ensures c.if-a-ne-GOOD.false _ c.slot.ensures _ c.in-At.is; fact_2 = add_small _ (λ i. (c.slice_known-1.given i).fits) _ _ _ _ c.test-t.ensures c.if-t-ne-GOOD.false _ c.own_refusal-a.ensures c.if-a-ne-GOOD.false _ c.slot.ensures _ c.in-At.is; fact_3 = add_short _ (λ i. (c.slice_known-1.given i).fits) _ _ _ _ c.test-t.ensures c.if-t-ne-GOOD.false _ c.own_refusal-a.ensures c.if-a-ne-GOOD.false _ c.slot.ensures _ c.in-At.is; fact_4 = add_dialect _ (λ i. (c.slice_known-1.given i).fits) _ _ _ _ c.test-t.ensures c.if-t-ne-GOOD.false _ c.own_refusal-a.ensures c.if-a-ne-GOOD.false _ c.slot.ensures _ c.in-At.is }
+write_block-requires c = record {
+  block_in_bounds = add_fits _ (λ i. (c.slice_known-1.given i).fits) _ _ _ _ c.in_ok-test.ensures refl _ c.in_ok-own_refusal.ensures refl _ c.slot.ensures _ c.in_ok-block.ensures.ok_part;
+  numbered = add_small _ (λ i. (c.slice_known-1.given i).fits) _ _ _ _ c.in_ok-test.ensures refl _ c.in_ok-own_refusal.ensures refl _ c.slot.ensures _ c.in_ok-block.ensures.ok_part;
+  at_most_longest = add_short _ (λ i. (c.slice_known-1.given i).fits) _ _ _ _ c.in_ok-test.ensures refl _ c.in_ok-own_refusal.ensures refl _ c.slot.ensures _ c.in_ok-block.ensures.ok_part;
+  some_dialect = add_dialect _ (λ i. (c.slice_known-1.given i).fits) _ _ _ _ c.in_ok-test.ensures refl _ c.in_ok-own_refusal.ensures refl _ c.slot.ensures _ c.in_ok-block.ensures.ok_part;
+}
 
-pub overflow_add-k : goal.overflow_add-k
-overflow_add-k c = let l = add_fits _ (λ i. (c.slice_known-1.given i).fits) _ _ _ _ c.test-t.ensures c.if-t-ne-GOOD.false _ c.own_refusal-a.ensures c.if-a-ne-GOOD.false _ c.slot.ensures _ c.in-At.is in omega arith
+pub overflow_add-block : goal.overflow_add-block
+overflow_add-block c = let h = add_fits _ (λ i. (c.slice_known-1.given i).fits) _ _ _ _ c.in_ok-test.ensures refl _ c.in_ok-own_refusal.ensures refl _ c.slot.ensures _ c.in_ok-block.ensures.ok_part in omega arith
 
-pub returns-in-At : goal.returns-in-At
-returns-in-At c = add_written _ (λ i. (c.slice_known-1.given i).fits) _ _ _ _ c.test-t.ensures c.if-t-ne-GOOD.false _ c.own_refusal-a.ensures c.if-a-ne-GOOD.false _ c.slot.ensures _ c.in-At.is _ _ (λ i. (c.slice_known-in-At-1.given i).fits) c.most.ensures c.write_block.ensures
-
-pub returns-in-Nothing : goal.returns-in-Nothing
-returns-in-Nothing c = add_full _ (λ i. (c.slice_known-1.given i).fits) _ _ _ _ c.test-t.ensures c.if-t-ne-GOOD.false _ c.own_refusal-a.ensures c.if-a-ne-GOOD.false _ c.slot.ensures _ c.in-Nothing.is c.refused-in-Nothing.ensures
+pub returns : goal.returns
+returns c = add_written _ (λ i. (c.slice_known-1.given i).fits) _ _ _ _ c.in_ok-test.ensures refl _ c.in_ok-own_refusal.ensures refl _ c.slot.ensures _ c.in_ok-block.ensures.ok_part _ _ (λ i. (c.type_inv.book i).fits) c.max.ensures c.write_block.ensures

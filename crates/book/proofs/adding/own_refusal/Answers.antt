@@ -12,8 +12,8 @@ returns-then-not-is_proper c = search (own_form, rules)
 pub returns-then-is_taken : goal.returns-then-is_taken
 returns-then-is_taken c = search (own_live, rules)
 
-pub returns-then-matcher-pattern-gt-LONGEST : goal.returns-then-matcher-pattern-gt-LONGEST
-returns-then-matcher-pattern-gt-LONGEST c = search (own_long, rules)
+pub returns-then-e-gt-LONGEST : goal.returns-then-e-gt-LONGEST
+returns-then-e-gt-LONGEST c = search (own_long, rules)
 
 pub returns : goal.returns
 returns c = search (own_none, rules)

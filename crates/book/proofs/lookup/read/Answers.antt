@@ -1,19 +1,24 @@
 -- `book::lookup::read` meets its contract: refused as the book is, none, or the rule of the block found.
-use borrow.Author.Rules.{rules}
+use Rattle.std.proofs.Common.{refl}
+use Rattle.std.proofs.lemmas.Result.{err_from_is_err_and}
 use Rattle.book.proofs.lookup.Rules.{read_refused, read_none, read_fits, read_live, read_found, read_room}
 use Rattle.book.proofs.lookup.read.Goals as goal
 
-pub returns-then-t-ne-GOOD : goal.returns-then-t-ne-GOOD
-returns-then-t-ne-GOOD c = search (read_refused, rules)
+pub returns-in_err-test : goal.returns-in_err-test
+returns-in_err-test c = let p = err_from_is_err_and c.from_residual.result c.from_residual.ensures.1 in rw (p.1, p.2) (read_refused _ _ _ _ _ c.in_err-test.ensures _ _ refl)
 
 pub live_at-requires : goal.live_at-requires
-live_at-requires c = search (read_room, rules)
+live_at-requires c = read_room _ _ _ _ c.in_ok-test.ensures refl
 
-pub read_block-h-requires : goal.read_block-h-requires
-read_block-h-requires c = record { fact_1 = search (read_fits, rules); fact_2 = search rules; fact_3 = search (read_live, rules) }
+pub read_block-requires : goal.read_block-requires
+read_block-requires c = record {
+  block_in_bounds = read_fits _ _ _ _ _ c.in_ok-test.ensures refl _ c.live_at.ensures _ c.in-Some.is;
+  room = c.requires;
+  live = read_live _ _ _ _ _ c.in_ok-test.ensures refl _ c.live_at.ensures _ c.in-Some.is;
+}
 
-pub returns-in-At : goal.returns-in-At
-returns-in-At c = search (read_found, rules)
+pub returns-in-Some : goal.returns-in-Some
+returns-in-Some c = read_found _ _ _ _ _ c.in_ok-test.ensures refl _ c.live_at.ensures _ c.in-Some.is _ _ _ c.read_block.ensures
 
-pub returns-in-Nothing : goal.returns-in-Nothing
-returns-in-Nothing c = search (read_none, rules)
+pub returns-in-None : goal.returns-in-None
+returns-in-None c = read_none _ _ _ _ _ c.in_ok-test.ensures refl _ c.live_at.ensures _ c.in-None.is

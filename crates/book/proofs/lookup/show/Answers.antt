@@ -1,19 +1,20 @@
 -- `book::lookup::show` meets its contract: test after test, and then the rule.
-use borrow.Author.Rules.{rules}
+use Rattle.std.proofs.Common.{refl}
+use Rattle.std.proofs.lemmas.Result.{err_from_is_err_and}
 use Rattle.book.proofs.lookup.Rules.{show_missing, show_refused, show_withdrawn, show_live, show_found}
 use Rattle.book.proofs.lookup.show.Goals as goal
 
 pub returns-then-book-block : goal.returns-then-book-block
-returns-then-book-block c = search (show_missing, rules)
+returns-then-book-block c = show_missing _ _ _ _ c.if-book-block.true refl
 
-pub returns-then-a-ne-GOOD : goal.returns-then-a-ne-GOOD
-returns-then-a-ne-GOOD c = search (show_refused, rules)
+pub returns-in_err-own_fault : goal.returns-in_err-own_fault
+returns-in_err-own_fault c = let p = err_from_is_err_and c.from_residual.result c.from_residual.ensures.1 in rw (p.1, p.2) (show_refused _ _ c.if-book-block.false _ c.in_err-own_fault.ensures _ _ refl)
 
 pub returns-then-badge-eq-NO_BADGE : goal.returns-then-badge-eq-NO_BADGE
-returns-then-badge-eq-NO_BADGE c = search (show_withdrawn, rules)
+returns-then-badge-eq-NO_BADGE c = show_withdrawn _ _ c.if-book-block.false 0 c.in_ok-own_fault.ensures refl _ c.badge_of-badge.ensures _ c.if-badge-eq-NO_BADGE.true
 
-pub read_block-h-requires : goal.read_block-h-requires
-read_block-h-requires c = record { fact_1 = search rules; fact_2 = search rules; fact_3 = search (show_live, rules) }
+pub read_block-head-requires-clause-live : goal.read_block-head-requires-clause-live
+read_block-head-requires-clause-live c = show_live _ _ c.if-book-block.false 0 c.in_ok-own_fault.ensures refl _ c.badge_of-badge.ensures c.if-badge-eq-NO_BADGE.false
 
 pub returns : goal.returns
-returns c = search (show_found, rules)
+returns c = show_found _ _ c.if-book-block.false 0 c.in_ok-own_fault.ensures refl _ c.badge_of-badge.ensures c.if-badge-eq-NO_BADGE.false _ _ _ c.read_block-head.ensures

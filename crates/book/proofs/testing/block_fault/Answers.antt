@@ -1,21 +1,15 @@
 -- `book::testing::block_fault` meets its contract: its own faults, then a badge live twice.
-use Rattle.book.proofs.testing.Walking.{block_rules}
+use Rattle.std.proofs.Common.{refl}
+use Rattle.std.proofs.lemmas.Result.{err_from_is_err_and}
+use Rattle.book.proofs.Blocks.{refused}
+use Rattle.book.proofs.testing.Walking.{own_told, twice_told, good_told}
 use Rattle.book.proofs.testing.block_fault.Goals as goal
 
-pub own_fault-a-requires : goal.own_fault-a-requires
-own_fault-a-requires c = search block_rules
-
-pub returns-then-a-ne-GOOD : goal.returns-then-a-ne-GOOD
-returns-then-a-ne-GOOD c = search block_rules
-
-pub badge_of-requires : goal.badge_of-requires
-badge_of-requires c = search block_rules
-
-pub is_taken-requires : goal.is_taken-requires
-is_taken-requires c = search block_rules
+pub returns-in_err-own_fault : goal.returns-in_err-own_fault
+returns-in_err-own_fault c = let p = err_from_is_err_and c.from_residual.result c.from_residual.ensures.1 in rw (p.1, p.2) (own_told _ _ _ c.in_err-own_fault.ensures (refused _))
 
 pub returns-then-is_taken : goal.returns-then-is_taken
-returns-then-is_taken c = search block_rules
+returns-then-is_taken c = twice_told _ _ 0 c.in_ok-own_fault.ensures refl _ _ c.badge_of.ensures c.is_taken.ensures c.if-is_taken.true
 
 pub returns : goal.returns
-returns c = search block_rules
+returns c = good_told _ _ 0 c.in_ok-own_fault.ensures refl _ _ c.badge_of.ensures c.is_taken.ensures c.if-is_taken.false

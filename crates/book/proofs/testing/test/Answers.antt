@@ -1,31 +1,20 @@
 -- `book::testing::test` meets its contract: block by block.
-use Prim.Native.Nat.{◌-◌}
-use Rattle.book.proofs.testing.Walking.{walk_rules}
+use Rattle.std.proofs.Common.{refl, arith}
+use Rattle.book.proofs.Blocks.{refused}
+use Rattle.book.proofs.testing.Walking.{walk_begins, walk_ends, walk_turn, walk_missing, walk_good}
 use Rattle.book.proofs.testing.test.Goals as goal
 
-pub least-n-requires : goal.least-n-requires
-least-n-requires c = search walk_rules
+pub loop-block-init : goal.loop-block-init
+loop-block-init c = walk_begins _ _ _ (omega arith)
 
-pub loop-k-init : goal.loop-k-init
-loop-k-init c = search walk_rules
+pub returns-in-Err : goal.returns-in-Err
+returns-in-Err c = walk_ends _ _ _ _ c.loop-block.invariant _ c.loop-block-test.true c.in-Err.ensures (refused _)
 
-pub block_fault-a-requires : goal.block_fault-a-requires
-block_fault-a-requires c = search walk_rules
-
-pub returns-then-a-ne-GOOD : goal.returns-then-a-ne-GOOD
-returns-then-a-ne-GOOD c = search walk_rules
-
-pub overflow_add-k : goal.overflow_add-k
-overflow_add-k c = search walk_rules
-
-pub loop-k-smaller : goal.loop-k-smaller
-loop-k-smaller c = search walk_rules
-
-pub loop-k-preserved : goal.loop-k-preserved
-loop-k-preserved c = search walk_rules
+pub loop-block-preserved : goal.loop-block-preserved
+loop-block-preserved c = walk_turn _ _ _ _ c.loop-block.invariant 0 c.loop-block-test.true c.in_default.ensures refl
 
 pub returns-then-blocks-used : goal.returns-then-blocks-used
-returns-then-blocks-used c = search walk_rules
+returns-then-blocks-used c = walk_missing _ _ _ _ c.loop-block.invariant c.loop-block-test.false _ refl c.if-blocks-used.true
 
 pub returns : goal.returns
-returns c = search walk_rules
+returns c = walk_good _ _ _ _ c.loop-block.invariant c.loop-block-test.false _ refl c.if-blocks-used.false (omega arith)

@@ -1,26 +1,12 @@
--- `book::totals::live` meets its contract: the count and what is left give the whole.
-use Prim.Native.Nat.{◌-◌}
-use native.Mathlib.Omega.{arith}
-use Rattle.book.proofs.totals.Counting.{count_fits_lem, count_rules}
+-- `book::totals::live` meets its contract: each block is tested, and those that pass are counted.
+use Rattle.std.proofs.Common.{◌∙◌, rules, tests, arith}
+use Rattle.std.proofs.lemmas.Iterator.{YieldsList-from_range}
+use Rattle.std.proofs.lemmas.Iterator.Consumers.{YieldsList-from_filter, count_from_yields_List}
+use Rattle.book.proofs.totals.Counting.{counted, count_is}
 use Rattle.book.proofs.totals.live.Goals as goal
 
-pub loop-k-init : goal.loop-k-init
-loop-k-init c = search count_rules
-
-pub one-count-requires : goal.one-count-requires
-one-count-requires c = search count_rules
-
-pub overflow_add-count : goal.overflow_add-count
-overflow_add-count c = let h = count_fits_lem _ _ _ _ c.loop-k.invariant _ c.one-count.ensures in omega arith
-
-pub overflow_add-k : goal.overflow_add-k
-overflow_add-k c = search count_rules
-
-pub loop-k-smaller : goal.loop-k-smaller
-loop-k-smaller c = search count_rules
-
-pub loop-k-preserved : goal.loop-k-preserved
-loop-k-preserved c = search count_rules
-
 pub returns : goal.returns
-returns c = search count_rules
+returns c =
+    count_from_yields_List _ _ c.count.ensures.ran
+    (YieldsList-from_filter _ (counted c.args.book.now) (YieldsList-from_range 0 c.args.n c.args.n c.filter.ensures.source (omega arith)) c.filter.ensures.closure (λ x b q k. search (rules, tests)))
+    ∙ count_is c.args.book.now c.args.n 0

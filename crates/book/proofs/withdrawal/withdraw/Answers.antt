@@ -1,20 +1,30 @@
 -- `book::withdrawal::withdraw` meets its contract: refused as the book is, not live, or the block found written empty.
-use borrow.Author.Rules.{rules}
+use Rattle.std.proofs.Common.{refl}
+use Rattle.std.proofs.lemmas.Result.{err_from_is_err_and}
+use Rattle.book.proofs.Blocks.{refused, refusal_is}
 use Rattle.book.proofs.lookup.Rules.{read_room}
 use Rattle.book.proofs.withdrawal.Changes.{withdraw_refused, withdraw_none, withdraw_fits, withdraw_small, withdraw_found}
 use Rattle.book.proofs.withdrawal.withdraw.Goals as goal
 
-pub returns-then-t-ne-GOOD : goal.returns-then-t-ne-GOOD
-returns-then-t-ne-GOOD c = withdraw_refused _ (λ i. (c.slice_known-1.given i).fits) _ _ _ _ c.test-t.ensures _ c.if-t-ne-GOOD.true c.refused.ensures
+pub returns-in_err-test : goal.returns-in_err-test
+returns-in_err-test c =
+    let p = err_from_is_err_and c.from_residual.result c.from_residual.ensures.1 in
+    rw (p.1, p.2) (withdraw_refused _ (λ i. (c.slice_known-1.given i).fits) _ _ _ _ c.in_err-test.ensures (refused _))
 
 pub live_at-requires : goal.live_at-requires
-live_at-requires c = search (read_room, rules)
+live_at-requires c = read_room _ _ _ _ c.in_ok-test.ensures refl
+
+pub returns-in_err-block : goal.returns-in_err-block
+returns-in_err-block c =
+    let p = err_from_is_err_and c.from_residual-in_err-block.result c.from_residual-in_err-block.ensures.1 in
+    rw (p.1, p.2, refusal_is _ _ _ c.in_err-block.ensures.ok_part c.in_err-block.ensures.value)
+    (withdraw_none _ (λ i. (c.slice_known-1.given i).fits) _ _ _ _ c.in_ok-test.ensures refl _ c.live_at.ensures c.in_err-block.ensures.ok_part)
 
 pub empty_block-requires : goal.empty_block-requires
-empty_block-requires c = record { fact_1 = withdraw_fits _ (λ i. (c.slice_known-1.given i).fits) _ _ _ _ c.test-t.ensures c.if-t-ne-GOOD.false _ c.live_at.ensures _ c.in-At.is; fact_2 = withdraw_small _ (λ i. (c.slice_known-1.given i).fits) _ _ _ _ c.test-t.ensures c.if-t-ne-GOOD.false _ c.live_at.ensures _ c.in-At.is }
+empty_block-requires c = record {
+  block_in_bounds = withdraw_fits _ (λ i. (c.slice_known-1.given i).fits) _ _ _ _ c.in_ok-test.ensures refl _ c.live_at.ensures _ c.in_ok-block.ensures.ok_part;
+  numbered = withdraw_small _ (λ i. (c.slice_known-1.given i).fits) _ _ _ _ c.in_ok-test.ensures refl _ c.live_at.ensures _ c.in_ok-block.ensures.ok_part;
+}
 
-pub returns-in-At : goal.returns-in-At
-returns-in-At c = withdraw_found _ (λ i. (c.slice_known-1.given i).fits) _ _ _ _ c.test-t.ensures c.if-t-ne-GOOD.false _ c.live_at.ensures _ c.in-At.is _ c.empty_block.ensures
-
-pub returns-in-Nothing : goal.returns-in-Nothing
-returns-in-Nothing c = withdraw_none _ (λ i. (c.slice_known-1.given i).fits) _ _ _ _ c.test-t.ensures c.if-t-ne-GOOD.false _ c.live_at.ensures _ c.in-Nothing.is c.refused-in-Nothing.ensures
+pub returns : goal.returns
+returns c = withdraw_found _ (λ i. (c.slice_known-1.given i).fits) _ _ _ _ c.in_ok-test.ensures refl _ c.live_at.ensures _ c.in_ok-block.ensures.ok_part _ c.empty_block.ensures

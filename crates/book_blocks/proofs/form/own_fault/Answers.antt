@@ -5,8 +5,8 @@ use Rattle.book_blocks.proofs.form.own_fault.Goals as goal
 pub returns-then-not-is_checked : goal.returns-then-not-is_checked
 returns-then-not-is_checked c = search verdict_rules
 
-pub returns-then-half_index-k : goal.returns-then-half_index-k
-returns-then-half_index-k c = search verdict_rules
+pub returns-then-from-k : goal.returns-then-from-k
+returns-then-from-k c = search verdict_rules
 
 pub returns-then-not-is_known : goal.returns-then-not-is_known
 returns-then-not-is_known c = search verdict_rules

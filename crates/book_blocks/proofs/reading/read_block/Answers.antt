@@ -4,7 +4,7 @@ use Rattle.book_blocks.proofs.reading.Rules.{fits_in_lem, fits_out, short, rule_
 use Rattle.book_blocks.proofs.reading.read_block.Goals as goal
 
 pub read_words-requires : goal.read_words-requires
-read_words-requires c = record { fact_1 = search (fits_in_lem, rules); fact_2 = search (fits_out, rules) }
+read_words-requires c = record { words_in_bounds = search (fits_in_lem, rules); room = search (fits_out, rules) }
 
 pub overflow_sub-result : goal.overflow_sub-result
 overflow_sub-result c = search (short, rules)

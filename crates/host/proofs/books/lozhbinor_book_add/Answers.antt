@@ -7,4 +7,6 @@ pub returns-then-numbers-lt-BOOK_BYTES : goal.returns-then-numbers-lt-BOOK_BYTES
 returns-then-numbers-lt-BOOK_BYTES c = search (change_short, rules)
 
 pub returns : goal.returns
-returns c = search (add_number, change_told, rules)
+returns c =
+    change_told _ _ _ (add_number _ _) _ _ _ _ _ _ _ _
+    c.if-numbers-lt-BOOK_BYTES.false c.add-added.ensures c.answer-answer.ensures c.change_numbers.ensures c.put_numbers.ensures

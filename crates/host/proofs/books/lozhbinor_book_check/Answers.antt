@@ -7,4 +7,6 @@ pub returns-then-numbers-lt-BOOK_BYTES : goal.returns-then-numbers-lt-BOOK_BYTES
 returns-then-numbers-lt-BOOK_BYTES c = search (check_short, rules)
 
 pub returns : goal.returns
-returns c = check_told _ _ _ _ _ _ _ _ _ c.if-numbers-lt-BOOK_BYTES.false c.test-c.ensures c.wide.ensures c.wide_index.ensures c.wide-2.ensures c.put_three.ensures
+returns c =
+    check_told _ _ _ _ _ _ _ _ _ _ c.if-numbers-lt-BOOK_BYTES.false c.test.ensures c.check_numbers-answer.ensures.answer c.from.ensures
+    c.check_numbers-answer.ensures.passed c.from-2.ensures c.put_numbers.ensures

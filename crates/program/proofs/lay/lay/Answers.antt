@@ -1,17 +1,18 @@
-use Prim.Native.Nat.{◌-◌}
-use mathlib.Core.Path.{refl}
+use mathlib.Core.Path.{refl, sym, subst}
+use Rattle.tables.specs.Line.{columns_of}
 use Rattle.program_rules.specs.Lines.{get_d_same}
-use Rattle.program.proofs.Turns.{start, lines_low, goes_on_lem, end_low, end_returns}
+use Rattle.program_rules.specs.Stack.{Stack}
+use Rattle.program.specs.Pass.{cursor}
+use Rattle.program.proofs.Turns.{Passing, start, lines_low, end_low, end_returns}
 use Rattle.program.proofs.lay.lay.Goals as goal
 
 pub loop-c-init : goal.loop-c-init
-loop-c-init c = start _ _ _ _ _ _ refl refl refl (λ j. get_d_same 257 j 0) (λ j. get_d_same 257 j 0)
+loop-c-init c = let t = columns_of c.args.lines.now in
+    subst (λ (w : Stack). Passing c.args.m.now c.args.p.now t w.under w.slots w.behind (cursor 0 0 w.depth 0) t) (sym c.none-parts.ensures)
+    (start _ _ _ _ _ _ refl refl refl (λ j. get_d_same 257 j 0) (λ j. get_d_same 257 j 0))
 
-pub lay_next-c-requires : goal.lay_next-c-requires
-lay_next-c-requires c = let P = c.loop-c.invariant in record { fact_1 = c.requires.fact_1; fact_2 = c.requires.fact_2; fact_3 = c.loop-c-test.true; fact_4 = P.fits; fact_5 = lines_low P c.requires.fact_2 }
-
-pub loop-c-preserved : goal.loop-c-preserved
-loop-c-preserved c = goes_on_lem c.loop-c.invariant c.lay_next-c.ensures.fact_2 c.lay_next-c.ensures.fact_3
+pub lay_next-c-requires-clause-low : goal.lay_next-c-requires-clause-low
+lay_next-c-requires-clause-low c = lines_low c.loop-c.invariant c.requires.fact_2
 
 pub put-requires : goal.put-requires
 put-requires c = end_low c.loop-c.invariant c.requires.fact_2 c.loop-c-test.false

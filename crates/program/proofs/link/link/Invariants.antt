@@ -7,6 +7,3 @@ use Rattle.program.proofs.link.link.Given as goal
 
 abbrev pub invariant-loop-pc : goal.invariant-loop-pc
 invariant-loop-pc l = Passing (bindings_in (ops_in (columns_of l.initial.lines).op 0 (suc l.last))) (linked_in (suc l.last) (columns_of l.initial.lines)) (columns_of l.lines) [] l.n l.pc l.pc
-
-abbrev pub decreases-loop-pc : goal.decreases-loop-pc
-decreases-loop-pc l = l.pc

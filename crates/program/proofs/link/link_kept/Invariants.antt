@@ -7,8 +7,5 @@ use Rattle.program.proofs.link.Loops.{Passing}
 use Rattle.program.proofs.link.link_kept.Given as goal
 
 abbrev pub invariant-loop-pc : goal.invariant-loop-pc
-invariant-loop-pc l = Passing (l.vars + bindings_in (ops_in (columns_of l.initial.lines).op 0 l.end)) (linked_in l.end (columns_of l.initial.lines)) (columns_of l.lines) (kept_at l.kept l.depth) l.n l.pc l.land
-    × Held l.kept l.depth l.pc
-
-abbrev pub decreases-loop-pc : goal.decreases-loop-pc
-decreases-loop-pc l = l.pc
+invariant-loop-pc l = Passing (l.vars + bindings_in (ops_in (columns_of l.initial.lines).op 0 l.end)) (linked_in l.end (columns_of l.initial.lines)) (columns_of l.lines) (kept_at l.kept.places l.kept.depth) l.n l.pc l.land
+    × Held l.kept.places l.kept.depth l.pc

@@ -1,35 +1,16 @@
-use Rattle.program_lay.proofs.Closing.{closing_rules}
+use Rattle.program_lay.proofs.Closing.{ending_next, ending_place, ending_depth, ending_same, ending_laid}
 use Rattle.program_lay.proofs.ends.close.Goals as goal
 
-pub loop-d-init : goal.loop-d-init
-loop-d-init c = search closing_rules
-
-pub bounds-behind-d : goal.bounds-behind-d
-bounds-behind-d c = search closing_rules
-
-pub bounds-behind-d-in-loop-d : goal.bounds-behind-d-in-loop-d
-bounds-behind-d-in-loop-d c = search closing_rules
-
-pub offset_bounds-slots-d : goal.offset_bounds-slots-d
-offset_bounds-slots-d c = search closing_rules
-
-pub bounds-slots-d : goal.bounds-slots-d
-bounds-slots-d c = search closing_rules
-
-pub close_line-requires : goal.close_line-requires
-close_line-requires c = search closing_rules
-
-pub overflow_add-q : goal.overflow_add-q
-overflow_add-q c = search closing_rules
-
-pub overflow_sub-d : goal.overflow_sub-d
-overflow_sub-d c = search closing_rules
-
-pub loop-d-smaller : goal.loop-d-smaller
-loop-d-smaller c = search closing_rules
-
-pub loop-d-preserved : goal.loop-d-preserved
-loop-d-preserved c = search closing_rules
+pub loop-end-preserved : goal.loop-end-preserved
+loop-end-preserved c = ending_next _ _ _ _ _ _ _ c.loop-end.invariant c.requires.floor c.in-Some.end c.in-Some.ensures _ c.close_line.ensures
 
 pub returns : goal.returns
-returns c = search closing_rules
+returns c = let i = c.loop-end.invariant in
+    let f = c.requires.floor in
+    let o = c.in_default.ensures in
+    record {
+      place = ending_place _ _ _ _ _ _ _ i f o;
+      depth = ending_depth _ _ _ _ _ _ _ i f o;
+      same = ending_same _ _ _ _ _ _ _ i f o;
+      laid = ending_laid _ _ _ _ _ _ _ i f o;
+    }

@@ -16,13 +16,13 @@ pub returns-in-2 : goal.returns-in-2
 unfolding op_of ops_under
 returns-in-2 c = rw c.in-2.is
 
-pub returns-then-k-eq1 : goal.returns-then-k-eq1
+pub returns-then-k-eq-INTEGER : goal.returns-then-k-eq-INTEGER
 unfolding op_of ops_under
-returns-then-k-eq1 c = rw (c.in-3.is, c.if-k-eq1.true)
+returns-then-k-eq-INTEGER c = rw (c.in-3.is, c.if-k-eq-INTEGER.true)
 
-pub returns-else-k-eq1 : goal.returns-else-k-eq1
+pub returns-else-k-eq-INTEGER : goal.returns-else-k-eq-INTEGER
 unfolding op_of ops_under
-returns-else-k-eq1 c = rw (c.in-3.is, ne_eqb _ 1 c.if-k-eq1.false)
+returns-else-k-eq-INTEGER c = rw (c.in-3.is, ne_eqb _ 1 c.if-k-eq-INTEGER.false)
 
 pub returns-in-4 : goal.returns-in-4
 unfolding op_of ops_under
@@ -44,13 +44,13 @@ pub returns-in-6 : goal.returns-in-6
 unfolding op_of ops_under
 returns-in-6 c = rw c.in-6.is
 
-pub returns-then-k-eq4 : goal.returns-then-k-eq4
+pub returns-then-k-eq-TUPLE : goal.returns-then-k-eq-TUPLE
 unfolding op_of ops_under
-returns-then-k-eq4 c = rw (c.in-7.is, c.if-k-eq4.true)
+returns-then-k-eq-TUPLE c = rw (c.in-7.is, c.if-k-eq-TUPLE.true)
 
-pub returns-else-k-eq4 : goal.returns-else-k-eq4
+pub returns-else-k-eq-TUPLE : goal.returns-else-k-eq-TUPLE
 unfolding op_of ops_under
-returns-else-k-eq4 c = rw (c.in-7.is, ne_eqb _ 4 c.if-k-eq4.false)
+returns-else-k-eq-TUPLE c = rw (c.in-7.is, ne_eqb _ 4 c.if-k-eq-TUPLE.false)
 
 pub returns-in-8 : goal.returns-in-8
 unfolding op_of ops_under

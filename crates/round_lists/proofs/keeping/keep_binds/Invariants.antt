@@ -5,6 +5,3 @@ use Rattle.round_lists.proofs.keeping.keep_binds.Given as goal
 
 abbrev pub invariant-loop-v : goal.invariant-loop-v
 invariant-loop-v l = Saving l.initial.table l.table l.base 0 l.n (binds_as l.b) l.v
-
-abbrev pub decreases-loop-v : goal.decreases-loop-v
-decreases-loop-v l = l.n - l.v

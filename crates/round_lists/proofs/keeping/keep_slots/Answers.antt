@@ -17,12 +17,6 @@ waiting_at-requires c = search own_rules
 pub put_entry-requires : goal.put_entry-requires
 put_entry-requires c = search own_rules
 
-pub overflow_add-j : goal.overflow_add-j
-overflow_add-j c = search own_rules
-
-pub loop-j-smaller : goal.loop-j-smaller
-loop-j-smaller c = search own_rules
-
 pub loop-j-preserved : goal.loop-j-preserved
 loop-j-preserved c = search own_rules
 

@@ -5,6 +5,3 @@ use Rattle.round_lists.proofs.keeping.keep_slots.Given as goal
 
 abbrev pub invariant-loop-j : goal.invariant-loop-j
 invariant-loop-j l = Saving l.initial.table l.table l.base 16 l.used (waits_as l.slots) l.j
-
-abbrev pub decreases-loop-j : goal.decreases-loop-j
-decreases-loop-j l = l.used - l.j

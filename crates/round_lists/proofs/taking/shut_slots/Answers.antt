@@ -8,12 +8,6 @@ loop-j-init c = search own_rules
 pub put_alone-requires : goal.put_alone-requires
 put_alone-requires c = search own_rules
 
-pub overflow_add-j : goal.overflow_add-j
-overflow_add-j c = search own_rules
-
-pub loop-j-smaller : goal.loop-j-smaller
-loop-j-smaller c = search own_rules
-
 pub loop-j-preserved : goal.loop-j-preserved
 loop-j-preserved c = search own_rules
 

@@ -20,12 +20,6 @@ offset_bounds-b-v c = search own_rules
 pub bounds-b-v : goal.bounds-b-v
 bounds-b-v c = search own_rules
 
-pub overflow_add-v : goal.overflow_add-v
-overflow_add-v c = search own_rules
-
-pub loop-v-smaller : goal.loop-v-smaller
-loop-v-smaller c = search own_rules
-
 pub loop-v-preserved : goal.loop-v-preserved
 loop-v-preserved c = search own_rules
 

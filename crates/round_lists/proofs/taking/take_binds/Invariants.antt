@@ -4,6 +4,3 @@ use Rattle.round_lists.proofs.taking.take_binds.Given as goal
 
 abbrev pub invariant-loop-v : goal.invariant-loop-v
 invariant-loop-v l = Rebinding l.table l.base l.n l.initial.b l.b l.v
-
-abbrev pub decreases-loop-v : goal.decreases-loop-v
-decreases-loop-v l = l.n - l.v

@@ -4,6 +4,3 @@ use Rattle.round_lists.proofs.taking.take_slots.Given as goal
 
 abbrev pub invariant-loop-j : goal.invariant-loop-j
 invariant-loop-j l = Waiting l.table l.base l.used l.initial.slots l.slots l.j
-
-abbrev pub decreases-loop-j : goal.decreases-loop-j
-decreases-loop-j l = l.used - l.j

@@ -5,6 +5,3 @@ use Rattle.round_run.proofs.size.slots_used.Given as goal
 
 abbrev pub invariant-loop-pc : goal.invariant-loop-pc
 invariant-loop-pc l = Numbered (columns_of l.lines).arg l.pc l.u
-
-abbrev pub decreases-loop-pc : goal.decreases-loop-pc
-decreases-loop-pc l = 650 - l.pc

@@ -1,3 +1,4 @@
+use mathlib.Core.Path.{refl}
 use native.Mathlib.Omega.{arith}
 use Rattle.round_sweep.proofs.Counts.{count_none, count_or, count_join, count_cons, count_few, frame_place, frame_within}
 use Rattle.round_sweep.proofs.count.choices_left.Goals as goal
@@ -18,7 +19,7 @@ pub overflow_sub-f : goal.overflow_sub-f
 overflow_sub-f c = frame_within c.requires c.if-top-eq0.false _ c.op_at-o.ensures c.if-o-eq-JOIN.true _ c.frame_at-f.ensures
 
 pub returns-then-o-eq-JOIN : goal.returns-then-o-eq-JOIN
-returns-then-o-eq-JOIN c = record { fact_1 = count_join _ _ _ c.if-top-eq0.false _ c.op_at-o.ensures _ c.frame_at-f.ensures _ _ c.index.ensures c.if-o-eq-JOIN.true c.count.ensures; fact_2 = let a = count_few _ _ _ (omega arith) c.count.ensures c.index.ensures in omega arith }
+returns-then-o-eq-JOIN c = record { fact_1 = count_join _ _ _ c.if-top-eq0.false _ c.op_at-o.ensures _ c.frame_at-f.ensures _ _ refl c.if-o-eq-JOIN.true c.count.ensures; fact_2 = let a = count_few _ _ _ (omega arith) c.count.ensures refl in omega arith }
 
 pub returns : goal.returns
-returns c = record { fact_1 = count_cons _ _ _ c.if-top-eq0.false _ c.op_at-o.ensures _ c.frame_at-f.ensures _ _ c.index-2.ensures c.if-o-eq-OR.false c.if-o-eq-JOIN.false c.count-2.ensures; fact_2 = let a = count_few _ _ _ (omega arith) c.count-2.ensures c.index-2.ensures in omega arith }
+returns c = record { fact_1 = count_cons _ _ _ c.if-top-eq0.false _ c.op_at-o.ensures _ c.frame_at-f.ensures _ _ refl c.if-o-eq-OR.false c.if-o-eq-JOIN.false c.count-2.ensures; fact_2 = let a = count_few _ _ _ (omega arith) c.count-2.ensures refl in omega arith }

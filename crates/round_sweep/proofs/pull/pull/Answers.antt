@@ -26,12 +26,6 @@ overflow_add-used c = search own_rules
 pub copy-requires : goal.copy-requires
 copy-requires c = search own_rules
 
-pub overflow_add-k : goal.overflow_add-k
-overflow_add-k c = search own_rules
-
-pub loop-k-smaller : goal.loop-k-smaller
-loop-k-smaller c = search own_rules
-
 pub loop-k-preserved : goal.loop-k-preserved
 loop-k-preserved c = search own_rules
 

@@ -4,6 +4,3 @@ use Rattle.round_sweep.proofs.pull.pull.Given as goal
 
 abbrev pub invariant-loop-k : goal.invariant-loop-k
 invariant-loop-k l = Pulling l.initial.table l.table l.many l.fresh l.left l.used l.k
-
-abbrev pub decreases-loop-k : goal.decreases-loop-k
-decreases-loop-k l = l.left - l.k

@@ -18,12 +18,6 @@ returns-then-w-ne0 c = swept_stopped c.loop-i.invariant c.if-w-ne0.true
 pub turn-w-requires : goal.turn-w-requires
 turn-w-requires c = record { fact_1 = c.requires.fact_1; fact_2 = swept_turning c.loop-i.invariant c.requires.fact_2 c.if-w-ne0.false c.loop-i-test.true; fact_3 = c.requires.fact_3 }
 
-pub overflow_add-i : goal.overflow_add-i
-overflow_add-i c = omega arith
-
-pub loop-i-smaller : goal.loop-i-smaller
-loop-i-smaller c = let h = c.loop-i-test.true in omega arith
-
 pub loop-i-preserved : goal.loop-i-preserved
 loop-i-preserved c = swept_next c.loop-i.invariant c.loop-i-test.true _ _ _ _ c.turn-w.ensures
 

@@ -6,6 +6,3 @@ use Rattle.round_sweep.proofs.sweep.sweep.Given as goal
 
 abbrev pub invariant-loop-i : goal.invariant-loop-i
 invariant-loop-i l = SweptTo (env_by (columns_of l.lines) l.mt l.s l.terms) l.used l.terms.budget l.many l.initial.w l.initial.table l.initial.slots l.initial.room l.i l.w l.table l.slots l.room
-
-abbrev pub decreases-loop-i : goal.decreases-loop-i
-decreases-loop-i l = l.many - l.i

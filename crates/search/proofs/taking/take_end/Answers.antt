@@ -22,7 +22,7 @@ returns-then-is_short c = end_full _ _ _ _ _ _ _ _ (ltb-true _ _ (sym c.is_short
 
 pub loop-v-init : goal.loop-v-init
 loop-v-init c = let w = c.requires.fact_3.words in
-    (omega arith, refl, fits_short _ _ _ w _ c.is_short.ensures c.if-is_short.false, row_start_size _ _ _ _ _, row_start_room _ _ _ _ _ _)
+    (refl, fits_short _ _ _ w _ c.is_short.ensures c.if-is_short.false, row_start_size _ _ _ _ _, row_start_room _ _ _ _ _ _)
 
 pub offset_bounds-b-v : goal.offset_bounds-b-v
 offset_bounds-b-v c = row_mul _ _ _ _ c.requires.fact_3.bound c.loop-v-test.true
@@ -32,34 +32,27 @@ bounds-b-v c = row_16 _ _ _ _ c.requires.fact_3.bound c.loop-v-test.true
 
 pub put_entry-e-requires : goal.put_entry-e-requires
 put_entry-e-requires c = let i = c.loop-v.invariant in
-    let h = c.loop-v-test.true in record { fact_1 = c.requires.fact_1.target; fact_2 = c.requires.fact_1.placed; fact_3 = row_held _ _ _ _ c.requires.fact_3.bound h; fact_4 = row_room _ _ _ _ c.requires.fact_3.bound h _ _ _ _ i.3 i.2 }
-
-pub overflow_add-v : goal.overflow_add-v
-overflow_add-v c = let l = row_16 _ _ _ _ c.requires.fact_3.bound c.loop-v-test.true in record { fits = omega arith }
-
-pub loop-v-smaller : goal.loop-v-smaller
-loop-v-smaller c = let h = c.loop-v-test.true in omega arith
+    let h = c.loop-v-test.true in record { fact_1 = c.requires.fact_1.target; fact_2 = c.requires.fact_1.placed; fact_3 = row_held _ _ _ _ c.requires.fact_3.bound h; fact_4 = row_room _ _ _ _ c.requires.fact_3.bound h _ _ _ _ i.2 i.1 }
 
 pub loop-v-preserved : goal.loop-v-preserved
 loop-v-preserved c = let k = c.requires.fact_3.bound in
     let i = c.loop-v.invariant in
     let h = c.loop-v-test.true in
     let l = ap length c.put_entry-e.ensures.1 ∙ length_put _ _ _ in (
-      omega arith,
-      l ∙ i.1,
-      omega (arith, l, i.2),
-      row_turn_size _ _ _ _ k h _ _ _ _ i.3 c.put_entry-e.ensures.0,
-      row_turn _ _ _ _ k h _ _ _ _ _ _ i.4 c.put_entry-e.ensures.0 c.put_entry-e.ensures.1,
+      l ∙ i.0,
+      omega (arith, l, i.1),
+      row_turn_size _ _ _ _ k h _ _ _ _ i.2 c.put_entry-e.ensures.0,
+      row_turn _ _ _ _ k h _ _ _ _ _ _ i.3 c.put_entry-e.ensures.0 c.put_entry-e.ensures.1,
     )
 
 pub wrote-requires : goal.wrote-requires
 wrote-requires c = let k = c.requires.fact_3 in record { fact_1 = k.steps; fact_2 = k.rows }
 
 pub shape_of-room : goal.shape_of-room
-shape_of-room c = c.loop-v.invariant.1
+shape_of-room c = c.loop-v.invariant.0
 
 pub returns : goal.returns
 returns c = let k = c.requires.fact_3.bound in
     let i = c.loop-v.invariant in
     end_wrote _ _ _ _ _ _ _ _ _ (ltb-false _ _ (sym c.is_short.ensures ∙ c.if-is_short.false)) c.wrote.ensures
-    (row_out_size _ _ _ _ _ _ _ k i.3 c.loop-v-test.false) (row_out _ _ _ _ _ _ _ _ k i.4 c.loop-v-test.false)
+    (row_out_size _ _ _ _ _ _ _ k i.2 c.loop-v-test.false) (row_out _ _ _ _ _ _ _ _ k i.3 c.loop-v-test.false)

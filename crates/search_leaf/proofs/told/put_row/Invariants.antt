@@ -7,8 +7,5 @@ use Rattle.search_leaf.proofs.Words.{row_from}
 use Rattle.search_leaf.proofs.told.put_row.Given as goal
 
 abbrev pub invariant-loop-v : goal.invariant-loop-v
-invariant-loop-v l = (l.v ≤ l.shape.vars) × (length l.room ≡ length l.initial.room) × (l.from + length (row_of l.shape.origins l.shape.vars l.told) ≡ l.e + length (row_from l.shape.origins l.told l.shape.vars l.v))
+invariant-loop-v l = (length l.room ≡ length l.initial.room) × (l.from + length (row_of l.shape.origins l.shape.vars l.told) ≡ l.e + length (row_from l.shape.origins l.told l.shape.vars l.v))
     × (put l.initial.room l.from (row_of l.shape.origins l.shape.vars l.told) ≡ put l.room l.e (row_from l.shape.origins l.told l.shape.vars l.v))
-
-abbrev pub decreases-loop-v : goal.decreases-loop-v
-decreases-loop-v l = l.shape.vars - l.v

@@ -21,7 +21,7 @@ bounds-b-var c = c.requires.fact_3.0
 
 -- src/told.rt:64:5
 pub loop-v-init : goal.loop-v-init
-loop-v-init c = (omega arith, tells_none _ _ _ _ _ c.requires.fact_3.1)
+loop-v-init c = tells_none _ _ _ _ _ c.requires.fact_3.1
 
 -- src/told.rt:66:21
 pub offset_bounds-b-v : goal.offset_bounds-b-v
@@ -51,26 +51,15 @@ offset_bounds-words-v c = let h = c.loop-v-test.true in let l = c.requires.fact_
 pub bounds-words-v : goal.bounds-words-v
 bounds-words-v c = let h = c.loop-v-test.true in let l = c.requires.fact_2.most in omega arith
 
--- src/told.rt:77:9
-pub overflow_add-v : goal.overflow_add-v
-overflow_add-v c = let h = c.loop-v-test.true in let l = c.requires.fact_2.most in record { fits = omega arith }
-
--- src/told.rt:64:5
-pub loop-v-smaller : goal.loop-v-smaller
-loop-v-smaller c = let h = c.loop-v-test.true in omega arith
-
 -- src/told.rt:64:5
 pub loop-v-preserved : goal.loop-v-preserved
 loop-v-preserved c = let h = c.loop-v-test.true in
     let l = c.requires.fact_2.most in
-    let i = c.loop-v.invariant in (
-      omega arith,
-      elim c.if-v-but.branch [
-        | then-v-but+else-tag-ne0 w ↦ tells_next _ _ _ _ _ _ i.1 _ (omega arith) (sym w.number_at-tag.ensures ∙ w.if-tag-ne0.false) (to_z-of_z {w = w32} (search rules) ∙ w.word_of.ensures) _ w.words-is
-        | else-v-but w ↦ tells_but _ _ _ _ _ _ i.1 w.if-v-but.false _ w.words-is
-      ],
-    )
+    let i = c.loop-v.invariant in elim c.if-v-but.branch [
+      | then-v-but+else-tag-ne0 w ↦ tells_next _ _ _ _ _ _ i _ (omega arith) (sym w.number_at-tag.ensures ∙ w.if-tag-ne0.false) (to_z-of_z {w = w32} (search rules) ∙ w.word_of.ensures) _ w.words-is
+      | else-v-but w ↦ tells_but _ _ _ _ _ _ i w.if-v-but.false _ w.words-is
+    ]
 
 -- src/told.rt:51:1
 pub returns : goal.returns
-returns c = record { fact_1 = refl; fact_2 = λ e. tells_all _ _ _ _ _ _ c.loop-v.invariant.1 _ c.loop-v.invariant.0 c.loop-v-test.false }
+returns c = record { fact_1 = refl; fact_2 = λ e. tells_all _ _ _ _ _ _ c.loop-v.invariant _ c.loop-v.auto.v-end c.loop-v-test.false }

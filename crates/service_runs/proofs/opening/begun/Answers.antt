@@ -1,24 +1,20 @@
 -- `service_runs::opening::begun` meets its contract: the words are copied.
-use Rattle.service_runs.proofs.First.{begun_rules}
+use native.Mathlib.Omega.{arith}
+use Rattle.services.proofs.Matches.{matcher_few, pattern_few, ready_target, ready_some}
+use Rattle.service_runs.proofs.First.{target_few, begun_rules}
 use Rattle.service_runs.proofs.opening.begun.Goals as goal
 
 pub open-first-requires : goal.open-first-requires
-open-first-requires c = search begun_rules
+open-first-requires c = record { fact_1 = ready_target _ _ _ c.requires; fact_2 = ready_some _ _ _ c.requires }
 
-pub no_slots-slots-requires : goal.no_slots-slots-requires
-no_slots-slots-requires c = search begun_rules
+pub kept-matchers-requires : goal.kept-matchers-requires
+kept-matchers-requires c = (omega arith, matcher_few _ _ _ c.requires)
 
-pub matcher_kept-matchers-requires : goal.matcher_kept-matchers-requires
-matcher_kept-matchers-requires c = search begun_rules
+pub kept-patterns-requires : goal.kept-patterns-requires
+kept-patterns-requires c = (omega arith, pattern_few _ _ _ c.requires)
 
-pub pattern_kept-patterns-requires : goal.pattern_kept-patterns-requires
-pattern_kept-patterns-requires c = search begun_rules
-
-pub target_kept-targets-requires : goal.target_kept-targets-requires
-target_kept-targets-requires c = search begun_rules
-
-pub index-requires : goal.index-requires
-index-requires c = search begun_rules
+pub kept-targets-requires : goal.kept-targets-requires
+kept-targets-requires c = (omega arith, target_few _ _ _ c.requires)
 
 pub returns : goal.returns
 returns c = search begun_rules

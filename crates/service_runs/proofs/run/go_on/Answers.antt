@@ -1,17 +1,16 @@
-use Rattle.service_runs.proofs.Lending.{goes_rules}
+use mathlib.Core.Path.{sym, ◌∙◌}
+use Rattle.service_runs.proofs.Lending.{is_admitted, goes_not, goes_carried}
 use Rattle.service_runs.proofs.run.go_on.Goals as goal
 
-pub is_ready-requires : goal.is_ready-requires
-is_ready-requires c = search goes_rules
-
-pub returns-then-not-is_ready : goal.returns-then-not-is_ready
-returns-then-not-is_ready c = search goes_rules
+pub returns-then-is_err : goal.returns-then-is_err
+returns-then-is_err c = goes_not _ _ _ _ _ _ _ _ _ _ c.tested.ensures (sym c.is_err.ensures.value ∙ c.if-is_err.true)
 
 pub carry_on-requires : goal.carry_on-requires
-carry_on-requires c = search goes_rules
-
-pub shape_of-room : goal.shape_of-room
-shape_of-room c = search goes_rules
+carry_on-requires c = record {
+  admitted = is_admitted _ _ _ _ _ c.tested.ensures (sym c.is_err.ensures.value ∙ c.if-is_err.false);
+  stands = c.requires.stands;
+  slots_long = c.requires.slots_long;
+}
 
 pub returns : goal.returns
-returns c = search goes_rules
+returns c = goes_carried _ _ _ _ _ _ _ _ _ _ _ _ c.carry_on.ensures

@@ -2,10 +2,6 @@ use Rattle.service_runs.specs.Kept.{told}
 use Rattle.service_runs.proofs.Lending.{tell_rules}
 use Rattle.service_runs.proofs.run.told_of.Goals as goal
 
-pub tell-r-requires : goal.tell-r-requires
-unfolding told
-tell-r-requires c = search tell_rules
-
 pub returns : goal.returns
 unfolding told
 returns c = search tell_rules

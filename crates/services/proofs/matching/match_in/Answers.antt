@@ -1,16 +1,18 @@
 -- `services::matching::match_in` meets its contract: the tests 1 to 6, then the run.
-use borrow.Author.Rules.{rules}
-use Rattle.services.proofs.Matches.{rule_whole, rule_away, target_away, both_admitted}
+use Rattle.std.proofs.lemmas.Result.{err_from_is_err_and}
+use Rattle.services.specs.Matches.{matched_by}
+use Rattle.services.proofs.Matches.{match_refused}
+use Rattle.services.proofs.Outcome.{passed}
 use Rattle.services.proofs.matching.match_in.Goals as goal
 
-pub returns-in-Refused : goal.returns-in-Refused
-returns-in-Refused c = search (rule_away, rules)
-
-pub target_refused-requires : goal.target_refused-requires
-target_refused-requires c = search (rule_whole, rules)
-
-pub returns-in-Refused-target_refused : goal.returns-in-Refused-target_refused
-returns-in-Refused-target_refused c = search (target_away, rules)
+pub returns-in_err-tested : goal.returns-in_err-tested
+returns-in_err-tested c =
+    let p = err_from_is_err_and c.from_residual.result c.from_residual.ensures.1 in
+    rw p.1 (match_refused _ _ _ _ _ _ _ _ c.tested.ensures _ c.in_err-tested.was _ p.2)
 
 pub carry_out-requires : goal.carry_out-requires
-carry_out-requires c = search (both_admitted, rules)
+carry_out-requires c = passed _ _ _ _ _ c.tested.ensures _ c.in_ok-tested.was
+
+pub returns : goal.returns
+unfolding matched_by
+returns c = c.carry_out.ensures

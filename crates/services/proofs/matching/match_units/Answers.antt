@@ -1,7 +1,8 @@
--- `services::matching::match_units` meets its contract: match in form 1.
-use borrow.Author.Rules.{rules}
-use Rattle.services.proofs.Matches.{in_form_1}
+use mathlib.Core.Path.{ap, ◌∙◌}
+use Rattle.rules.specs.Services.{match}
+use Rattle.services.specs.Matches.{told}
 use Rattle.services.proofs.matching.match_units.Goals as goal
 
 pub returns : goal.returns
-returns c = search (in_form_1, rules)
+unfolding match
+returns c = ap (λ m. told m c.match_in.new.room) c.from.ensures ∙ c.match_in.ensures

@@ -1,34 +1,23 @@
 -- `services::review::of_rule` meets its contract: test 11 over the compiled lines, and then 9 and 10.
-use borrow.Author.Rules.{rules}
 use mir.Syntax.{w32}
 use mir.Facts.{to_z-of_z}
 use Rattle.rules.specs.Services.{declined}
-use Rattle.services.specs.Reviews.{reviewed}
+use Rattle.services.specs.Refusals.{refused_numbers}
+use Rattle.services.specs.Reviews.{reviewed, reviewed_by}
 use Rattle.services.proofs.Rules.{matcher_few, pattern_few, always_given, always_rows, counted_given, counted_rows}
 use Rattle.services.proofs.review.of_rule.Goals as goal
 
-pub no_lines-lines-requires : goal.no_lines-lines-requires
-unfolding reviewed declined
-no_lines-lines-requires c = search rules
-
 pub compile-requires : goal.compile-requires
-unfolding reviewed declined
-compile-requires c = search (matcher_few, pattern_few, rules)
-
-pub always_true-requires : goal.always_true-requires
-unfolding reviewed declined
-always_true-requires c = search rules
+compile-requires c = record { fact_1 = matcher_few _ _ c.requires; fact_2 = pattern_few _ _ c.requires }
 
 pub returns-then-always_true : goal.returns-then-always_true
-unfolding reviewed declined
-returns-then-always_true c = search (always_given, always_rows, rules)
-
-pub counted-requires : goal.counted-requires
-unfolding reviewed declined
-counted-requires c = search rules
+unfolding reviewed reviewed_by refused_numbers declined
+returns-then-always_true c = record {
+  result_value = always_given _ _ _ _ c.requires c.no_lines-lines.ensures c.compile.ensures.fact_2 _ _ c.always_true.ensures c.if-always_true.true;
+  rows_value = always_rows _ _ _ _ c.requires c.no_lines-lines.ensures c.compile.ensures.fact_2 _ _ c.always_true.ensures c.if-always_true.true;
+}
 
 pub returns : goal.returns
-unfolding reviewed declined
 returns c =
     let k = to_z-of_z {w = w32} c.ranges.cap in
     record {

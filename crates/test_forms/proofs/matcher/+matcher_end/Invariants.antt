@@ -7,8 +7,5 @@ use Rattle.test_forms.proofs.matcher.+matcher_end.Given as goal
 abbrev pub decreases-matcher_end : goal.decreases-matcher_end
 decreases-matcher_end l = l.left
 
-abbrev pub invariant-loop-n : goal.invariant-loop-n
-invariant-loop-n l = matcher_from l.ms l.left l.at ≡ in_row (matcher_from l.ms (l.left - 1)) l.n l.e
-
-abbrev pub decreases-loop-n : goal.decreases-loop-n
-decreases-loop-n l = l.n
+abbrev pub invariant-loop : goal.invariant-loop
+invariant-loop l = matcher_from l.ms l.left l.at ≡ in_row (matcher_from l.ms (l.left - 1)) (l.n - l.counter) l.end

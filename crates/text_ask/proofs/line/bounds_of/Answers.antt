@@ -1,68 +1,56 @@
-use Rattle.text_ask.proofs.line.Laws.{bounds_rules}
+-- The pieces between the spaces come one by one: two numbers, and no third.
+use Rattle.std.proofs.Common.{sym, rules, arith}
+use borrow.Author.Tests.{tests}
+use Rattle.text_ask.specs.Meaning.{of_bounds}
+use Rattle.text_ask.proofs.Pieces.{pieces, taken, ended, none_left, some_left}
+use Rattle.text_ask.proofs.line.Laws.{one_number, third_number, no_budget, no_room, budget_room, most_of}
 use Rattle.text_ask.proofs.line.bounds_of.Goals as goal
 
-pub find-e-requires : goal.find-e-requires
-find-e-requires c = search bounds_rules
+pub returns-in_err-room : goal.returns-in_err-room
+unfolding of_bounds
+returns-in_err-room c =
+    let all = pieces c.split-pieces.ensures.runs 32 _ c.split-pieces.ensures.rest c.split-pieces.ensures.done c.split-pieces.ensures.closure (λ x b q k. search (rules, tests)) in
+    let one = taken all _ _ _ c.in_ok-budget.was c.next.ensures.steps in
+    let none = ended one.on _ _ c.in_err-room.was c.next-2.ensures.steps in
+    rw c.from_residual-in_err-room.ensures (one_number _ one.is none)
 
-pub returns-then-e-t : goal.returns-then-e-t
-returns-then-e-t c = search bounds_rules
+pub returns-then-is_some : goal.returns-then-is_some
+unfolding of_bounds
+returns-then-is_some c =
+    let all = pieces c.split-pieces.ensures.runs 32 _ c.split-pieces.ensures.rest c.split-pieces.ensures.done c.split-pieces.ensures.closure (λ x b q k. search (rules, tests)) in
+    let one = taken all _ _ _ c.in_ok-budget.was c.next.ensures.steps in
+    let two = taken one.on _ _ _ c.in_ok-room.was c.next-2.ensures.steps in
+    third_number _ one.is two.is (some_left two.on _ _ (sym c.if-is_some.ensures) c.next-3.ensures.steps)
 
-pub overflow_add-e : goal.overflow_add-e
-overflow_add-e c = search bounds_rules
-
-pub find-f-requires : goal.find-f-requires
-find-f-requires c = search bounds_rules
-
-pub returns-then-f-t : goal.returns-then-f-t
-returns-then-f-t c = search bounds_rules
-
-pub slice_bounds-up_to-count : goal.slice_bounds-up_to-count
-slice_bounds-up_to-count c = search bounds_rules
-
-pub slice_bounds-up_to-start : goal.slice_bounds-up_to-start
-slice_bounds-up_to-start c = search bounds_rules
-
-pub slice_bounds-up_to-end : goal.slice_bounds-up_to-end
-slice_bounds-up_to-end c = search bounds_rules
-
-pub up_to-requires : goal.up_to-requires
-up_to-requires c = search bounds_rules
-
-pub enum_known-budget : goal.enum_known-budget
-enum_known-budget c = search bounds_rules
-
-pub overflow_add-e-in-Of : goal.overflow_add-e-in-Of
-overflow_add-e-in-Of c = search bounds_rules
-
-pub slice_bounds-up_to-count-in-Of : goal.slice_bounds-up_to-count-in-Of
-slice_bounds-up_to-count-in-Of c = search bounds_rules
-
-pub slice_bounds-up_to-start-in-Of : goal.slice_bounds-up_to-start-in-Of
-slice_bounds-up_to-start-in-Of c = search bounds_rules
-
-pub slice_bounds-up_to-end-in-Of : goal.slice_bounds-up_to-end-in-Of
-slice_bounds-up_to-end-in-Of c = search bounds_rules
-
-pub up_to-requires-in-Of : goal.up_to-requires-in-Of
-up_to-requires-in-Of c = search bounds_rules
-
-pub enum_known-room : goal.enum_known-room
-enum_known-room c = search bounds_rules
+pub returns-in_err-up_to : goal.returns-in_err-up_to
+unfolding of_bounds
+returns-in_err-up_to c =
+    let all = pieces c.split-pieces.ensures.runs 32 _ c.split-pieces.ensures.rest c.split-pieces.ensures.done c.split-pieces.ensures.closure (λ x b q k. search (rules, tests)) in
+    let one = taken all _ _ _ c.in_ok-budget.was c.next.ensures.steps in
+    let two = taken one.on _ _ _ c.in_ok-room.was c.next-2.ensures.steps in
+    let none = none_left two.on _ _ (sym c.if-is_some.ensures) c.next-3.ensures.steps in
+    rw c.from_residual-in_err-up_to.ensures (no_budget _ one.is two.is none c.in_err-up_to.ensures)
 
 pub overflow_cast-result : goal.overflow_cast-result
-overflow_cast-result c = search bounds_rules
+overflow_cast-result c = let most = most_of _ _ _ c.in_ok-up_to.ensures in record { fits = omega arith }
 
-pub enum_told-1 : goal.enum_told-1
-enum_told-1 c = search bounds_rules
+pub returns-in_err-up_to-2 : goal.returns-in_err-up_to-2
+unfolding of_bounds
+returns-in_err-up_to-2 c =
+    let all = pieces c.split-pieces.ensures.runs 32 _ c.split-pieces.ensures.rest c.split-pieces.ensures.done c.split-pieces.ensures.closure (λ x b q k. search (rules, tests)) in
+    let one = taken all _ _ _ c.in_ok-budget.was c.next.ensures.steps in
+    let two = taken one.on _ _ _ c.in_ok-room.was c.next-2.ensures.steps in
+    let none = none_left two.on _ _ (sym c.if-is_some.ensures) c.next-3.ensures.steps in
+    rw c.from_residual-in_err-up_to-2.ensures (no_room _ one.is two.is none _ c.in_ok-up_to.ensures c.in_err-up_to-2.ensures)
 
-pub enum_told-in-Other : goal.enum_told-in-Other
-enum_told-in-Other c = search bounds_rules
+pub invariant_of-result : goal.invariant_of-result
+invariant_of-result c = record { room_in_bounds = most_of _ _ _ c.in_ok-up_to-2.ensures }
 
-pub returns-in-Of-up_to : goal.returns-in-Of-up_to
-returns-in-Of-up_to c = search bounds_rules
-
-pub returns-in-Other-up_to : goal.returns-in-Other-up_to
-returns-in-Other-up_to c = search bounds_rules
-
-pub returns-in-Other : goal.returns-in-Other
-returns-in-Other c = search bounds_rules
+pub returns : goal.returns
+unfolding of_bounds
+returns c =
+    let all = pieces c.split-pieces.ensures.runs 32 _ c.split-pieces.ensures.rest c.split-pieces.ensures.done c.split-pieces.ensures.closure (λ x b q k. search (rules, tests)) in
+    let one = taken all _ _ _ c.in_ok-budget.was c.next.ensures.steps in
+    let two = taken one.on _ _ _ c.in_ok-room.was c.next-2.ensures.steps in
+    let none = none_left two.on _ _ (sym c.if-is_some.ensures) c.next-3.ensures.steps in
+    budget_room _ one.is two.is none _ _ c.in_ok-up_to.ensures c.in_ok-up_to-2.ensures

@@ -1,66 +1,41 @@
-use Prim.Native.Nat.{◌-◌}
-use Rattle.text_ask.proofs.line.Laws.{line_rules}
+-- The pieces between the spaces come one by one.
+use Rattle.std.proofs.Common.{sym, ◌∙◌, refl, rules, arith}
+use borrow.Author.Tests.{tests, eqb-true, eqb-false}
+use Rattle.std.proofs.lemmas.Iterator.Consumers.{YieldsList-at, YieldsList-turn, YieldsList-end}
+use Rattle.std.proofs.lemmas.List.{length_push}
+use Rattle.text_ask.proofs.Pieces.{pieces}
+use Rattle.text_ask.proofs.line.Laws.{empty_line, none_read, not_a_word, too_many, one_more, line_read}
 use Rattle.text_ask.proofs.line.words_of.Goals as goal
 
-pub returns-then-t-eq0 : goal.returns-then-t-eq0
-returns-then-t-eq0 c = search line_rules
+pub returns-then-is_empty : goal.returns-then-is_empty
+returns-then-is_empty c = empty_line _ _ (eqb-true _ 0 (sym c.if-is_empty.ensures))
 
-pub loop-x-init : goal.loop-x-init
-loop-x-init c = search line_rules
+pub loop-piece-init : goal.loop-piece-init
+loop-piece-init c = record { counted = refl; reading = record { all = none_read _; few = omega arith } }
 
-pub find-e-requires : goal.find-e-requires
-find-e-requires c = search line_rules
+pub returns-in_err-number : goal.returns-in_err-number
+returns-in_err-number c =
+    let all = YieldsList-at c.into_iter-piece-iterator.ensures.into_iter_gives (pieces c.split-piece-items.ensures.runs 32 _ c.split-piece-items.ensures.rest c.split-piece-items.ensures.done c.split-piece-items.ensures.closure (λ x b q k. search (rules, tests))) in
+    let turn = rw (← c.loop-piece.invariant.counted) at (YieldsList-turn all c.loop-piece.yielded _ c.loop-piece.yielded_by _ _ _ c.in-Some.is c.next.ensures.steps) in
+    rw c.from_residual.ensures (not_a_word _ _ _ (omega arith) (eqb-false _ 0 (sym c.if-is_empty.ensures)) c.loop-piece.invariant.reading _ turn c.in_err-number.ensures)
 
-pub slice_bounds-word-count : goal.slice_bounds-word-count
-slice_bounds-word-count c = search line_rules
+pub returns-then-count-eq-LINE_WORDS : goal.returns-then-count-eq-LINE_WORDS
+returns-then-count-eq-LINE_WORDS c =
+    let all = YieldsList-at c.into_iter-piece-iterator.ensures.into_iter_gives (pieces c.split-piece-items.ensures.runs 32 _ c.split-piece-items.ensures.rest c.split-piece-items.ensures.done c.split-piece-items.ensures.closure (λ x b q k. search (rules, tests))) in
+    let turn = rw (← c.loop-piece.invariant.counted) at (YieldsList-turn all c.loop-piece.yielded _ c.loop-piece.yielded_by _ _ _ c.in-Some.is c.next.ensures.steps) in
+    too_many _ _ _ (omega arith) (eqb-false _ 0 (sym c.if-is_empty.ensures)) c.loop-piece.invariant.reading _ turn _ c.in_ok-number.ensures c.if-count-eq-LINE_WORDS.true
 
-pub slice_bounds-word-start : goal.slice_bounds-word-start
-slice_bounds-word-start c = search line_rules
+pub loop-piece-preserved : goal.loop-piece-preserved
+loop-piece-preserved c =
+    let all = YieldsList-at c.into_iter-piece-iterator.ensures.into_iter_gives (pieces c.split-piece-items.ensures.runs 32 _ c.split-piece-items.ensures.rest c.split-piece-items.ensures.done c.split-piece-items.ensures.closure (λ x b q k. search (rules, tests))) in
+    let turn = rw (← c.loop-piece.invariant.counted) at (YieldsList-turn all c.loop-piece.yielded _ c.loop-piece.yielded_by _ _ _ c.in-Some.is c.next.ensures.steps) in
+    record {
+      counted = omega (arith, length_push c.loop-piece.yielded c.in-Some.piece);
+      reading = one_more _ _ _ (omega arith) (eqb-false _ 0 (sym c.if-is_empty.ensures)) c.loop-piece.invariant.reading _ turn _ c.in_ok-number.ensures c.if-count-eq-LINE_WORDS.false;
+    }
 
-pub slice_bounds-word-end : goal.slice_bounds-word-end
-slice_bounds-word-end c = search line_rules
-
-pub word-requires : goal.word-requires
-word-requires c = search line_rules
-
-pub enum_told-1 : goal.enum_told-1
-enum_told-1 c = search line_rules
-
-pub shape_of-out-in-Other : goal.shape_of-out-in-Other
-shape_of-out-in-Other c = search line_rules
-
-pub returns-in-Other : goal.returns-in-Other
-returns-in-Other c = search line_rules
-
-pub enum_known-x : goal.enum_known-x
-enum_known-x c = search line_rules
-
-pub shape_of-out-then-n-eq-LINE_WORDS : goal.shape_of-out-then-n-eq-LINE_WORDS
-shape_of-out-then-n-eq-LINE_WORDS c = search line_rules
-
-pub returns-then-n-eq-LINE_WORDS : goal.returns-then-n-eq-LINE_WORDS
-returns-then-n-eq-LINE_WORDS c = search line_rules
-
-pub offset_bounds-out-n : goal.offset_bounds-out-n
-offset_bounds-out-n c = search line_rules
-
-pub bounds-out-n : goal.bounds-out-n
-bounds-out-n c = search line_rules
-
-pub overflow_add-n : goal.overflow_add-n
-overflow_add-n c = search line_rules
-
-pub shape_of-out-then-e-t : goal.shape_of-out-then-e-t
-shape_of-out-then-e-t c = search line_rules
-
-pub returns-then-e-t : goal.returns-then-e-t
-returns-then-e-t c = search line_rules
-
-pub overflow_add-at : goal.overflow_add-at
-overflow_add-at c = search line_rules
-
-pub loop-x-smaller : goal.loop-x-smaller
-loop-x-smaller c = search line_rules
-
-pub loop-x-preserved : goal.loop-x-preserved
-loop-x-preserved c = search line_rules
+pub returns : goal.returns
+returns c =
+    let all = YieldsList-at c.into_iter-piece-iterator.ensures.into_iter_gives (pieces c.split-piece-items.ensures.runs 32 _ c.split-piece-items.ensures.rest c.split-piece-items.ensures.done c.split-piece-items.ensures.closure (λ x b q k. search (rules, tests))) in
+    let end = YieldsList-end all c.loop-piece.yielded _ c.loop-piece.yielded_by _ _ c.in-None.is c.next.ensures.steps in
+    line_read _ _ _ (omega arith) (eqb-false _ 0 (sym c.if-is_empty.ensures)) c.loop-piece.invariant.reading (c.loop-piece.invariant.counted ∙ end.1)

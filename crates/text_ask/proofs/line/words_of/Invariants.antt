@@ -1,14 +1,7 @@
-use mathlib.Core.Path.{◌≡◌}
-use Prim.Native.Nat.{◌-◌, ◌≤◌}
-use lib.ListN.{length, take, drop}
-use Rattle.text_number.specs.Decimal.{split}
-use Rattle.text_ask.specs.Question.{every}
-use Rattle.text_number.specs.Word.{word}
-use Rattle.text_ask.proofs.line.Laws.{behind}
+-- The words of the pieces so far stand at the start of the table.
+use Rattle.std.proofs.Common.{◌≡◌, length}
+use Rattle.text_ask.proofs.line.Laws.{Reading}
 use Rattle.text_ask.proofs.line.words_of.Given as goal
 
-abbrev pub invariant-loop-x : goal.invariant-loop-x
-invariant-loop-x l = (every word (split 32 l.t) ≡ behind (take l.n l.out) (every word (split 32 (drop l.at l.t)))) × (l.at ≤ length l.t) × (l.n ≤ 2000) × (2000 ≤ length l.out) × (length l.out ≡ length l.initial.out)
-
-abbrev pub decreases-loop-x : goal.decreases-loop-x
-decreases-loop-x l = length l.t - l.at
+abbrev pub invariant-loop-piece : goal.invariant-loop-piece
+invariant-loop-piece l = record { counted : l.count ≡ length l.yielded; reading : Reading l.text l.count l.out }

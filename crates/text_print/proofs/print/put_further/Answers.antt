@@ -1,42 +1,20 @@
-use Rattle.text_print.proofs.print.Laws.{further_rules}
-use Prim.Native.Nat.{◌-◌}
+-- Each number goes behind a space.
+use Rattle.std.proofs.Common.{arith}
+use Rattle.text_print.proofs.Written.{left_all}
+use Rattle.text_print.proofs.print.Laws.{next_in, next_room, next_left, none_left}
 use Rattle.text_print.proofs.print.put_further.Goals as goal
 
-pub loop-i-init : goal.loop-i-init
-loop-i-init c = search further_rules
+pub loop-number-init : goal.loop-number-init
+loop-number-init g c = record { left = left_all _ _ _; room = omega arith }
 
-pub bounds-out-o : goal.bounds-out-o
-bounds-out-o c = search further_rules
+pub put-end-requires : goal.put-end-requires
+put-end-requires g c = next_in g.N.Number.number _ _ _ _ _ _ c.loop-number.invariant.left c.loop-number.invariant.room c.loop-number-test.true _ c.number-item.is
 
-pub overflow_add-o : goal.overflow_add-o
-overflow_add-o c = search further_rules
-
-pub offset_bounds-ws-i : goal.offset_bounds-ws-i
-offset_bounds-ws-i c = search further_rules
-
-pub bounds-ws-i : goal.bounds-ws-i
-bounds-ws-i c = search further_rules
-
-pub put_numeral-o-requires : goal.put_numeral-o-requires
-put_numeral-o-requires c = search further_rules
-
-pub overflow_add-i : goal.overflow_add-i
-overflow_add-i c = search further_rules
-
-pub loop-i-smaller : goal.loop-i-smaller
-loop-i-smaller c = search further_rules
-
-pub loop-i-preserved : goal.loop-i-preserved
-loop-i-preserved c = search further_rules
-
-pub bounds-out-o-2 : goal.bounds-out-o-2
-bounds-out-o-2 c = search further_rules
-
-pub overflow_add-result : goal.overflow_add-result
-overflow_add-result c = search further_rules
-
-pub shape_of-out : goal.shape_of-out
-shape_of-out c = search further_rules
+pub loop-number-preserved : goal.loop-number-preserved
+loop-number-preserved g c = record {
+  left = next_left g.N.Number.number _ _ _ _ _ _ c.loop-number.invariant.left c.loop-number.invariant.room c.loop-number-test.true _ c.number-item.is _ _ c.put-end.ensures;
+  room = next_room g.N.Number.number _ _ _ _ _ _ c.loop-number.invariant.left c.loop-number.invariant.room c.loop-number-test.true _ c.number-item.is _ _ c.put-end.ensures;
+}
 
 pub returns : goal.returns
-returns c = search further_rules
+returns g c = none_left g.N.Number.number _ _ _ _ _ _ c.loop-number.invariant.left c.loop-number.invariant.room (omega arith)

@@ -1,26 +1,12 @@
-use Rattle.text_print.proofs.print.Laws.{line_rules}
+-- The first number, and the others behind it.
+use Rattle.text_print.proofs.print.Laws.{first_in, others_room, line_wrote}
 use Rattle.text_print.proofs.print.put_line.Goals as goal
 
-pub bounds-ws-0 : goal.bounds-ws-0
-bounds-ws-0 c = search line_rules
-
-pub put_numeral-o-requires : goal.put_numeral-o-requires
-put_numeral-o-requires c = search line_rules
-
-pub slice_bounds-put_further-count : goal.slice_bounds-put_further-count
-slice_bounds-put_further-count c = search line_rules
-
-pub slice_bounds-put_further-start : goal.slice_bounds-put_further-start
-slice_bounds-put_further-start c = search line_rules
-
-pub slice_bounds-put_further-end : goal.slice_bounds-put_further-end
-slice_bounds-put_further-end c = search line_rules
+pub put-end-requires : goal.put-end-requires
+put-end-requires g c = first_in g.N.Number.number _ c.requires.numbers_nonempty _ c.index-numbers-0.is _ _ c.requires.numbers_in_bounds
 
 pub put_further-requires : goal.put_further-requires
-put_further-requires c = search line_rules
-
-pub shape_of-out : goal.shape_of-out
-shape_of-out c = search line_rules
+put_further-requires g c = others_room g.N.Number.number _ c.requires.numbers_nonempty _ c.index-numbers-0.is _ _ _ _ c.put-end.ensures c.requires.numbers_in_bounds
 
 pub returns : goal.returns
-returns c = search line_rules
+returns g c = line_wrote g.N.Number.number _ c.requires.numbers_nonempty _ c.index-numbers-0.is _ _ _ _ c.put-end.ensures _ _ c.put_further.ensures

@@ -1,11 +1,14 @@
-use mathlib.Core.Path.{◌≡◌}
-use Prim.Native.Nat.{◌+◌, ◌-◌, ◌*◌, ◌≤◌}
-use lib.ListN.{length, drop}
+-- The words that were passed, and those of the values that are left, are those of all.
+use Rattle.std.proofs.Common.{◌≡◌, ◌+◌, ◌-◌, ◌*◌, ◌≤◌, length}
 use Rattle.text_print.specs.Rows.{extent}
 use Rattle.text_print.proofs.rows.extent_of.Given as goal
 
-abbrev pub invariant-loop-k : goal.invariant-loop-k
-invariant-loop-k l = (extent l.values l.ws ≡ l.i + extent l.k (drop l.i l.ws)) × (l.i ≤ length l.ws) × (l.k ≤ 4294967295 + l.i * 4294967296)
+abbrev pub invariant-loop-rest : goal.invariant-loop-rest
+invariant-loop-rest l = record {
+  passed : extent l.values l.ws + length l.rest ≡ length l.ws + extent l.left l.rest;
+  within : length l.rest ≤ length l.ws;
+  fits : l.left ≤ 4294967295 + (length l.ws - length l.rest) * 4294967296;
+}
 
-abbrev pub decreases-loop-k : goal.decreases-loop-k
-decreases-loop-k l = length l.ws - l.i
+abbrev pub decreases-loop-rest : goal.decreases-loop-rest
+decreases-loop-rest l = length l.rest

@@ -1,17 +1,9 @@
-use Rattle.text_print.proofs.rows.Laws.{inside_rules}
+-- An integer has none, and any other value so many as its second word says.
+use Rattle.text_print.proofs.rows.Laws.{none_inside, so_many}
 use Rattle.text_print.proofs.rows.inside.Goals as goal
 
-pub tag_of-requires : goal.tag_of-requires
-tag_of-requires c = search inside_rules
-
 pub returns-then-tag_of-eq-INTEGER : goal.returns-then-tag_of-eq-INTEGER
-returns-then-tag_of-eq-INTEGER c = search inside_rules
-
-pub tag_of-n-requires : goal.tag_of-n-requires
-tag_of-n-requires c = search inside_rules
-
-pub returns-then-n : goal.returns-then-n
-returns-then-n c = search inside_rules
+returns-then-tag_of-eq-INTEGER c = none_inside _ _ _ c.ranges.tag c.tag_of.ensures c.if-tag_of-eq-INTEGER.true
 
 pub returns : goal.returns
-returns c = search inside_rules
+returns c = so_many _ _ _ c.ranges.tag c.tag_of.ensures _ _ c.if-tag_of-eq-INTEGER.false c.ranges.count c.try_from.ensures c.unwrap_or.ensures

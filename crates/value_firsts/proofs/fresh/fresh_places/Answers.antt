@@ -7,7 +7,7 @@ pub count_at-n-requires : goal.count_at-n-requires
 count_at-n-requires c = search fresh_rules
 
 pub loop-k-init : goal.loop-k-init
-loop-k-init c = (search fresh_rules, search fresh_rules, search fresh_rules)
+loop-k-init c = (search fresh_rules, search fresh_rules)
 
 pub is_old-seen-requires : goal.is_old-seen-requires
 is_old-seen-requires c = search fresh_rules
@@ -15,14 +15,8 @@ is_old-seen-requires c = search fresh_rules
 pub kept-out-requires : goal.kept-out-requires
 kept-out-requires c = search fresh_rules
 
-pub overflow_add-k : goal.overflow_add-k
-overflow_add-k c = search fresh_rules
-
-pub loop-k-smaller : goal.loop-k-smaller
-loop-k-smaller c = search fresh_rules
-
 pub loop-k-preserved : goal.loop-k-preserved
-loop-k-preserved c = (search fresh_rules, search fresh_rules, search fresh_rules)
+loop-k-preserved c = (search fresh_rules, search fresh_rules)
 
 pub returns : goal.returns
 returns c = search fresh_rules

@@ -3,7 +3,4 @@ use Rattle.value_firsts.specs.Firsts.{Fresh}
 use Rattle.value_firsts.proofs.fresh.fresh_places.Given as goal
 
 abbrev pub invariant-loop-k : goal.invariant-loop-k
-invariant-loop-k l = Fresh l.mt l.i l.s l.at l.out × (l.out < 2 ^ l.k) × (l.k ≤ l.n)
-
-abbrev pub decreases-loop-k : goal.decreases-loop-k
-decreases-loop-k l = l.n - l.k
+invariant-loop-k l = Fresh l.mt l.i l.s l.at l.out × (l.out < 2 ^ l.k)

@@ -7,7 +7,7 @@ pub element-e-requires : goal.element-e-requires
 element-e-requires c = search number_rules
 
 pub loop-j-init : goal.loop-j-init
-loop-j-init c = (search number_rules, search number_rules)
+loop-j-init c = search number_rules
 
 pub element-f-requires : goal.element-f-requires
 element-f-requires c = search number_rules
@@ -18,14 +18,8 @@ same_integers-requires c = search number_rules
 pub returns-then-same_integers : goal.returns-then-same_integers
 returns-then-same_integers c = search number_rules
 
-pub overflow_add-j : goal.overflow_add-j
-overflow_add-j c = search number_rules
-
-pub loop-j-smaller : goal.loop-j-smaller
-loop-j-smaller c = search number_rules
-
 pub loop-j-preserved : goal.loop-j-preserved
-loop-j-preserved c = (search number_rules, search number_rules)
+loop-j-preserved c = search number_rules
 
 pub returns : goal.returns
 returns c = λ z. search number_rules

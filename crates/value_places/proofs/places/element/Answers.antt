@@ -4,9 +4,6 @@ use Rattle.value_places.proofs.places.element.Goals as goal
 pub base_at-b-requires : goal.base_at-b-requires
 base_at-b-requires c = search find_rules
 
-pub index-requires : goal.index-requires
-index-requires c = search find_rules
-
 pub overflow_add-b : goal.overflow_add-b
 overflow_add-b c = search find_rules
 

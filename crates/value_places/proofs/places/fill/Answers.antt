@@ -1,4 +1,3 @@
-use Prim.Native.Nat.{◌-◌}
 use Rattle.value_places.proofs.Filling.{fill_rules}
 use Rattle.value_places.proofs.places.fill.Goals as goal
 

@@ -1,3 +1,4 @@
+use mathlib.Core.Path.{refl}
 use Rattle.tables.specs.PlaceLaws.{end_whole, base_whole}
 use Rattle.value_places.proofs.Ends.{ends_turn, ends_fill, ends_base}
 use Rattle.value_places.proofs.Filling.{from_rules, fill_whole, from_end, from_some}
@@ -37,9 +38,6 @@ fill-e-requires c = let l = c.loop-at.invariant in
 pub put_end-requires-else-n-eq0 : goal.put_end-requires-else-n-eq0
 put_end-requires-else-n-eq0 c = search from_rules
 
-pub index-used-requires : goal.index-used-requires
-index-used-requires c = search from_rules
-
 pub overflow_add-used : goal.overflow_add-used
 overflow_add-used c = search from_rules
 
@@ -60,7 +58,7 @@ loop-at-preserved c = let l = c.loop-at.invariant in
       search from_rules,
       end_whole _ _ _ _ p v,
       ends_turn _ _ g l.0 l.1 h _ n _ f.0 _ _ p q v,
-      from_end _ _ _ _ _ _ _ p (from_some _ _ _ _ g l.0 l.1 h n l.5 _ _ _ b f.1 _ c.index-used.ensures l.2 l.4),
+      from_end _ _ _ _ _ _ _ p (from_some _ _ _ _ g l.0 l.1 h n l.5 _ _ _ b f.1 _ refl l.2 l.4),
       search from_rules,
     )
 

@@ -1,0 +1,2 @@
+-- The parts that wait, as the definitions have them.
+pub mod Parts

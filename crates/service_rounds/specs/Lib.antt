@@ -1,2 +1,0 @@
--- Match by rounds in the dialect that the caller picks.
-pub mod Dialects
