@@ -36,7 +36,9 @@ fn words_at(ms: &[i32], at: usize) -> usize
     }
 }
 
-// Where the matcher ends whose tag is at i. Each step is as long as the words say, so it is along no range.
+// Where the matcher ends whose tag is at i. Each step is as long as the words say, so it is along no range. (Inside the comparison of two values, which
+// seldom asks, it would take the registers of that loop: T10 of bench/speed.rs.)
+#[inline(never)]
 pub fn matcher_end(ms: &[i32], i: usize) -> usize
     ensures { result ≡ matcher_end ms.now i }
 {

@@ -15,6 +15,7 @@ pub struct Words<'a> {
     pub target: &'a [i32],
 }
 
+#[inline(always)]
 pub fn tested(dialect: Dialect, words: Words) -> Result<(), Refusal>
     ensures { told result ≡ tested_in (dialect_in dialect) words.entry.matcher.now words.entry.pattern.now words.entry.target.now }
 {

@@ -45,6 +45,7 @@ fn inside_after(t: u32, parts: u32, inside: u32) -> u32
 }
 
 // How many variables a whole pattern has, or the place of the first tag that breaks a rule.
+#[inline(always)]
 pub fn walk(ps: &[i32]) -> Result<u32, usize>
     ensures { result ≡ vars_of ps.now }
 {

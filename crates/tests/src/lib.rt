@@ -75,6 +75,8 @@ impl Refusal {
 }
 
 // Tests 1 to 4 in a dialect, each over its whole slice; `firsts`: dialect 2.
+// (It and what it calls stand inside their callers, where a refusal goes through no memory: a whole call of bench/speed.rs.)
+#[inline(always)]
 pub fn rule_refused_in(firsts: bool, ms: &[i32], ps: &[i32]) -> Result<(), Refusal>
     ensures { told result ≡ judgement (rule_in (dialect_by firsts) ms.now ps.now) }
 {

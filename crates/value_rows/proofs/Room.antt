@@ -10,13 +10,10 @@ use lib.ListN.{length, drop, take, set, length-set}
 use lib.Seq.{sets, sets-eq, length-sets}
 use lib.Count.{ones, ones-le}
 use lib.IntN.{ℤ, pos}
-use borrow.Rule.Slice.PartMut.{put_mid}
 use mir.Syntax.{w32}
 use mir.Val.{SFits, to_z, of_z}
 use mir.Facts.{to_z-of_z}
 use Rattle.std.proofs.Common.{append_assoc}
-use Rattle.std.proofs.lemmas.List.Edits.{paste_all}
-use Rattle.std.proofs.lemmas.Slice.{put_mid-paste}
 use Rattle.std.proofs.lemmas.List.{drop-take}
 use Rattle.value_places.specs.Held.{put, part}
 
@@ -62,13 +59,6 @@ module _ (n m : ℕ) (e : n ≡ ones m) (f : m < 2 ^ 64) where
   count_is = to_z-of_z count_fits_lem ∙ ap pos e
 
 pub ruleset word_rules = (count_fits_lem, count_is, rules)
-
--- What a write to a part of the room leaves.
-pub part_put : (at k : ℕ) (room part ws : List ℤ) → part ≡ ws → k ≡ length ws → at + length ws ≤ length room → put_mid at k room part ≡ put room at ws
-unfolding put
-part_put at k room part ws e f h =
-    put_mid-paste at k room part ws (length ws) e (sym f) refl ∙ paste_all room at ws (length ws) refl
-    ∙ sym (append_assoc (take at room) ws (drop (at + length ws) room)) ∙ sym (sets-eq ws room at h)
 
 pub part_is : (from to : ℕ) (s : List ℤ) → from ≤ to → take (to - from) (drop from s) ≡ part from to s
 unfolding part

@@ -76,9 +76,10 @@ pub fn put_words(room: &mut [i32], from: usize, words: &[i32]) -> usize
     ensures behind { result ≡ from + length words.now }
     ensures written { room.new ≡ put room.old from words.now }
 {
-    let end = from + words.len();
-    room[from..end].copy_from_slice(words);
-    end
+    for i in 0..words.len() {
+        room[from + i] = words[i];
+    }
+    from + words.len()
 }
 
 // The words from an index up to another, once more at an index of the room.
