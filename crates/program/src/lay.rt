@@ -74,10 +74,10 @@ fn lay_next(c: Cursor, m: &[i32], p: &[i32], parts: &mut Parts, lines: &mut Line
 
 // The rule's lines from the first entry on: the place of the last. Each step is as long as the words say, so it is along no range.
 pub fn lay(m: &[i32], p: &[i32], lines: &mut Lines) -> usize
-    requires fact_1 { length m.now ≤ 64 }
-    requires fact_2 { length p.now ≤ 256 }
-    ensures fact_1 { suc result ≡ length (lines_of m.now p.now) }
-    ensures fact_2 { columns_of lines.new ≡ laid 0 (lines_of m.now p.now) (columns_of lines.old) }
+    requires brief { length m.now ≤ 64 }
+    requires short { length p.now ≤ 256 }
+    ensures last { suc result ≡ length (lines_of m.now p.now) }
+    ensures lines { columns_of lines.new ≡ laid 0 (lines_of m.now p.now) (columns_of lines.old) }
 {
     let mut parts = Parts::none();
     let mut c = Cursor { at: 0, pc: 0, i: 0 };

@@ -40,6 +40,7 @@ pub fn takes_place(o: u16) -> bool
 }
 
 // The line's own place: the last one kept, x, where it takes it.
+#[tactic(auto, using(crate::proofs::link::Pass::to_rules))]
 pub fn to_by(o: u16, land: u16, x: u16) -> u16
     ensures { result ≡ to_at o land x }
 {
@@ -47,6 +48,7 @@ pub fn to_by(o: u16, land: u16, x: u16) -> u16
 }
 
 // The place that is kept.
+#[tactic(auto, using(crate::proofs::link::Pass::place_rules))]
 pub fn place_by(o: u16, pc: usize, land: u16) -> u16
     requires { pc < entries }
     ensures { result ≡ place_by o pc land }
@@ -55,6 +57,7 @@ pub fn place_by(o: u16, pc: usize, land: u16) -> u16
 }
 
 // Where a state stands that comes to this line, x being the last place kept.
+#[tactic(auto, using(crate::proofs::link::Pass::place_rules), unfolding(program_rules::specs::Pile::land_at))]
 pub fn land_by(o: u16, pc: usize, land: u16, x: u16) -> u16
     requires { pc < entries }
     ensures { result ≡ land_at o pc land x }
@@ -67,6 +70,7 @@ pub fn land_by(o: u16, pc: usize, land: u16, x: u16) -> u16
 }
 
 // How many places are kept when this line has taken its own.
+#[tactic(auto, using(crate::proofs::link::Pass::lower_rules))]
 pub fn lowered(o: u16, depth: usize) -> usize
     ensures { result ≡ lower o depth }
 {
@@ -103,6 +107,7 @@ impl Kept {
     }
 
     // The places kept after this line.
+    #[tactic(auto, using(crate::proofs::link::Pass::keep_rules))]
     fn keep(&mut self, o: u16, pc: usize, land: u16)
         requires at { pc < entries }
         requires deep { self.old.depth < entries }
@@ -119,6 +124,7 @@ impl Kept {
 }
 
 // How many variables there are with this one.
+#[tactic(auto, using(crate::proofs::link::Pass::count_rules))]
 pub fn counted(n: usize, o: u16) -> usize
     requires { n < 1000 }
     ensures { result ≡ n + binding o }
@@ -128,10 +134,11 @@ pub fn counted(n: usize, o: u16) -> usize
 
 // For each line before `end` the place where the next state stands, with an array for the places kept, of which there is none at `end`; and how many
 // variables there are, `vars` of them from `end` on.
+#[tactic(auto, using(crate::proofs::link::Loops::keeping_rules))]
 fn link_kept(end: usize, vars: usize, lines: &mut Lines) -> usize
     requires { vars + end ≤ entries }
-    ensures fact_1 { result ≡ vars + bindings_in (ops_in (columns_of lines.old).op 0 end) }
-    ensures fact_2 { columns_of lines.new ≡ linked_in end (columns_of lines.old) }
+    ensures value { result ≡ vars + bindings_in (ops_in (columns_of lines.old).op 0 end) }
+    ensures lines { columns_of lines.new ≡ linked_in end (columns_of lines.old) }
 {
     let mut kept = Kept::none();
     let mut n = vars;
@@ -154,10 +161,11 @@ fn link_kept(end: usize, vars: usize, lines: &mut Lines) -> usize
 
 // For each line up to the last the place where the next state stands, and how many variables there are. As long as no line keeps or takes a place there
 // is no array to clear; in a rule without or and not none does.
+#[tactic(auto, using(crate::proofs::link::Loops::linking_rules))]
 pub fn link(last: usize, lines: &mut Lines) -> usize
     requires { last < entries }
-    ensures fact_1 { result ≡ bindings_in (ops_in (columns_of lines.old).op 0 (suc last)) }
-    ensures fact_2 { columns_of lines.new ≡ linked_in (suc last) (columns_of lines.old) }
+    ensures value { result ≡ bindings_in (ops_in (columns_of lines.old).op 0 (suc last)) }
+    ensures lines { columns_of lines.new ≡ linked_in (suc last) (columns_of lines.old) }
 {
     let mut n: usize = 0;
     for pc in (0..last + 1).rev() {

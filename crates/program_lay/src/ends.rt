@@ -44,10 +44,11 @@ pub fn close(parts: &mut Parts, pc: usize, lines: &mut Lines) -> usize
 }
 
 // The line before the second side of an or, where that is what waits: the place after it.
+#[tactic(auto, using(crate::proofs::Laws::ends_rules))]
 pub fn other(n: u8, pc: usize, lines: &mut Lines) -> usize
     requires { pc < entries }
-    ensures fact_1 { result ≡ pc + length (else_lines n) }
-    ensures fact_2 { columns_of lines.new ≡ laid pc (else_lines n) (columns_of lines.old) }
+    ensures value { result ≡ pc + length (else_lines n) }
+    ensures lines { columns_of lines.new ≡ laid pc (else_lines n) (columns_of lines.old) }
 {
     if n == OTHER_SIDE {
         put(pc, OR_OTHER, 0, 0, 0, 0, lines);

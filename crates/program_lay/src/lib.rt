@@ -28,10 +28,11 @@ pub fn put(pc: usize, o: u16, f: u16, a: u16, i: u8, c: i32, lines: &mut Lines)
 }
 
 // The same atom under something, where a wildcard or a variable is not there: the place after it.
+#[tactic(auto, using(crate::proofs::Laws::leaf_rules))]
 pub fn strip(k: u32, o: u16, i: u8, pc: usize, lines: &mut Lines) -> usize
     requires { pc < entries }
-    ensures fact_1 { result ≡ pc + length (strip_lines k o i) }
-    ensures fact_2 { columns_of lines.new ≡ laid pc (strip_lines k o i) (columns_of lines.old) }
+    ensures value { result ≡ pc + length (strip_lines k o i) }
+    ensures lines { columns_of lines.new ≡ laid pc (strip_lines k o i) (columns_of lines.old) }
 {
     if k == 0 {
         return pc;
@@ -44,9 +45,10 @@ pub fn strip(k: u32, o: u16, i: u8, pc: usize, lines: &mut Lines) -> usize
 }
 
 // The line of a tag without parts, whose operands are at an index.
+#[tactic(auto, using(crate::proofs::Laws::leaf_rules))]
 pub fn leaf_line(p: &[i32], at: usize, o: u16, i: u8, f: u16, pc: usize, lines: &mut Lines)
-    requires fact_1 { at ≤ length p.now }
-    requires fact_2 { pc < entries }
+    requires within { at ≤ length p.now }
+    requires line { pc < entries }
     ensures { columns_of lines.new ≡ written pc (leaf_line o i f (drop at p.now)) (columns_of lines.old) }
 {
     let n = operands(o);
@@ -56,6 +58,7 @@ pub fn leaf_line(p: &[i32], at: usize, o: u16, i: u8, f: u16, pc: usize, lines: 
 }
 
 // The one or two lines of a tag without parts: the place after them.
+#[tactic(auto, using(crate::proofs::Laws::leaf_rules))]
 pub fn leaf(
     p: &[i32],
     at: usize,
@@ -66,10 +69,10 @@ pub fn leaf(
     pc: usize,
     lines: &mut Lines,
 ) -> usize
-    requires fact_1 { at ≤ length p.now }
-    requires fact_2 { pc + 1 < entries }
-    ensures fact_1 { result ≡ suc (pc + length (strip_lines k o i)) }
-    ensures fact_2 { columns_of lines.new ≡ written (pc + length (strip_lines k o i)) (leaf_line o i f (drop at p.now)) (laid pc (strip_lines k o i) (columns_of lines.old)) }
+    requires within { at ≤ length p.now }
+    requires next_line { pc + 1 < entries }
+    ensures value { result ≡ suc (pc + length (strip_lines k o i)) }
+    ensures lines { columns_of lines.new ≡ written (pc + length (strip_lines k o i)) (leaf_line o i f (drop at p.now)) (laid pc (strip_lines k o i) (columns_of lines.old)) }
 {
     let q = strip(k, o, i, pc, lines);
     leaf_line(p, at, o, i, f, q, lines);
@@ -79,8 +82,8 @@ pub fn leaf(
 // The lines that are reserved: the place after them.
 pub fn reserve(e: u8, pc: usize, lines: &mut Lines) -> usize
     requires { pc + e < entries }
-    ensures fact_1 { result ≡ pc + e }
-    ensures fact_2 { columns_of lines.new ≡ laid pc (reserved_lines e) (columns_of lines.old) }
+    ensures value { result ≡ pc + e }
+    ensures lines { columns_of lines.new ≡ laid pc (reserved_lines e) (columns_of lines.old) }
 {
     let end = pc + usize::from(e);
     for q in pc..end {
@@ -90,11 +93,12 @@ pub fn reserve(e: u8, pc: usize, lines: &mut Lines) -> usize
 }
 
 // The line of a tag with parts, and those reserved after it: the place after them.
+#[tactic(auto, using(crate::proofs::Laws::divide_rules))]
 pub fn divide(o: u16, e: u8, f: u16, i: u8, pc: usize, lines: &mut Lines) -> usize
-    requires fact_1 { suc pc + e < entries }
-    requires fact_2 { o + e < 256 }
-    ensures fact_1 { result ≡ suc pc + e }
-    ensures fact_2 { columns_of lines.new ≡ laid pc (line (o + e) f 0 i (pos 0) ∷ reserved_lines e) (columns_of lines.old) }
+    requires lines { suc pc + e < entries }
+    requires instruction { o + e < 256 }
+    ensures value { result ≡ suc pc + e }
+    ensures lines { columns_of lines.new ≡ laid pc (line (o + e) f 0 i (pos 0) ∷ reserved_lines e) (columns_of lines.old) }
 {
     put(pc, o + u16::from(e), f, 0, i, 0, lines);
     reserve(e, pc + 1, lines)

@@ -20,6 +20,7 @@ pub const END_OF_OR: u8 = 4;
 pub const END_OF_NOT: u8 = 5;
 
 // Where the matcher ends whose tag is at an index.
+#[tactic(auto, using(crate::proofs::Laws::end_rules))]
 pub fn end_of(m: &[i32], i: u8) -> u8
     requires { length m.now ≤ 64 }
     ensures { result ≡ matcher_end m.now i }
@@ -29,6 +30,7 @@ pub fn end_of(m: &[i32], i: u8) -> u8
 }
 
 // The matcher of a first part.
+#[tactic(auto, using(crate::proofs::Laws::under_rules))]
 pub fn first_under(o: u16, i: u8) -> u8
     requires { (o ≡ 10 → ⊥) → o ≤ 13 → i + 2 < 256 }
     ensures { result ≡ first_under o i }
@@ -46,9 +48,10 @@ pub fn first_under(o: u16, i: u8) -> u8
 }
 
 // The matcher of a second part.
+#[tactic(auto, using(crate::proofs::Laws::under_rules))]
 pub fn second_under(m: &[i32], o: u16, i: u8) -> u8
-    requires fact_1 { length m.now ≤ 64 }
-    requires fact_2 { ((o ≡ 10 → ⊥) → o ≤ 13 → i + 2 < 256) }
+    requires brief { length m.now ≤ 64 }
+    requires instruction { ((o ≡ 10 → ⊥) → o ≤ 13 → i + 2 < 256) }
     ensures { result ≡ second_under m.now o i }
 {
     if o == PAIR {
@@ -58,6 +61,7 @@ pub fn second_under(m: &[i32], o: u16, i: u8) -> u8
 }
 
 // The slot of the value for the atom after a not, f being that of what waits.
+#[tactic(auto, using(crate::proofs::Laws::by_rules))]
 pub fn from_by(o: u16, f: u16) -> u16
     ensures { result ≡ cond (eqb o 16) f 0 }
 {
@@ -65,6 +69,7 @@ pub fn from_by(o: u16, f: u16) -> u16
 }
 
 // The slot of what waits after a tag with parts.
+#[tactic(auto, using(crate::proofs::Laws::by_rules))]
 pub fn slot_by(o: u16, pc: usize, f: u16) -> u16
     requires { pc < 1000 }
     ensures { result ≡ cond (eqb o 15) f pc }

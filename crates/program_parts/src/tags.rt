@@ -58,6 +58,7 @@ pub fn beyond_two(k: u32) -> u8
 }
 
 // How many places are reserved after the line of a tag with parts, whose operand is at an index.
+#[tactic(auto, using(crate::proofs::Laws::reserved_rules))]
 pub fn reserved(p: &[i32], at: usize, o: u16) -> u8
     ensures { result ≡ reserved_by o (drop at p.now) }
 {
@@ -69,6 +70,7 @@ pub fn reserved(p: &[i32], at: usize, o: u16) -> u8
 }
 
 // The word at an index, and 0 past the end.
+#[tactic(auto, using(crate::proofs::Laws::operand_rules))]
 pub fn word_at(p: &[i32], at: usize) -> i32
     ensures { result ≡ get_or p.now at (pos 0) }
 {
@@ -76,6 +78,7 @@ pub fn word_at(p: &[i32], at: usize) -> i32
 }
 
 // The variable that the first of n operands names.
+#[tactic(auto, using(crate::proofs::Laws::operand_rules))]
 pub fn arg_of(p: &[i32], at: usize, n: usize) -> u16
     ensures { result ≡ arg_of n (drop at p.now) }
 {
@@ -87,6 +90,7 @@ pub fn arg_of(p: &[i32], at: usize, n: usize) -> u16
 }
 
 // The last of n operands: the constant, or the number that is added.
+#[tactic(auto, using(crate::proofs::Laws::operand_rules))]
 pub fn con_of(p: &[i32], at: usize, n: usize) -> i32
     requires { at + n ≤ length p.now + 2 }
     ensures { result ≡ con_of n (drop at p.now) }

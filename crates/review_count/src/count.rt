@@ -72,8 +72,8 @@ fn factor(o: u16, taken: u16, cap: u64) -> u64
 // The product of the factors before the next line, `last` being the product that was laid aside with what was taken last.
 #[tactic(auto, unfolding(crate::specs::Tally::next_of, crate::specs::Tally::factor_of))]
 fn product(o: u16, earlier: u64, taken: u16, last: u64, cap: u64) -> u64
-    requires fact_1 { cap ≤ 64 }
-    requires fact_2 { earlier + last ≤ 281474976710656 }
+    requires cap { cap ≤ 64 }
+    requires sum_fits { earlier + last ≤ 281474976710656 }
     ensures { result ≡ next_of cap o earlier taken last }
 {
     match o {
@@ -173,7 +173,7 @@ fn depth_after(t: Turn, depth: usize) -> usize
 
 // The count for a largest collection of `cap` elements, none where it is too big. The sum never falls, so the first sum that is too big decides. `waits` is
 // what waits, up to a depth.
-#[tactic(auto, using(crate::proofs::count::Sums::own_rules))]
+#[tactic(auto, using(crate::proofs::count::Sums::own_rules, crate::proofs::count::Sums::own_rules))]
 pub fn tallied(lines: &Lines, cap: u64) -> Option<Tally>
     requires { cap ≤ 64 }
     ensures { result ≡ within (whole_sum cap (columns_of lines.now).op) (whole_product cap (columns_of lines.now).op) }

@@ -14,10 +14,11 @@ use tables::slot::{Held, Slots, frame_at};
 use value_rows::Binding;
 
 // The values that wait.
+#[tactic(auto, using(crate::proofs::Laws::own_rules))]
 fn keep_slots(table: &mut [i32], base: usize, used: usize, slots: &Slots)
-    requires fact_1 { 16 ≤ used }
-    requires fact_2 { used ≤ 272 }
-    requires fact_3 { 3 * (base + 275) ≤ length table.old }
+    requires all_bindings { 16 ≤ used }
+    requires few_slots { used ≤ 272 }
+    requires table_long { 3 * (base + 275) ≤ length table.old }
     ensures { Saved table.old table.new base 16 used (waits_as slots.now) }
 {
     for j in FIRST..used {
@@ -26,9 +27,10 @@ fn keep_slots(table: &mut [i32], base: usize, used: usize, slots: &Slots)
 }
 
 // The bindings.
+#[tactic(auto, using(crate::proofs::Laws::own_rules))]
 fn keep_binds(table: &mut [i32], base: usize, n: usize, b: [Binding; 16])
-    requires fact_1 { n ≤ 16 }
-    requires fact_2 { 3 * (base + 275) ≤ length table.old }
+    requires few_variables { n ≤ 16 }
+    requires table_long { 3 * (base + 275) ≤ length table.old }
     ensures { Saved table.old table.new base 0 n (binds_as b) }
 {
     for v in 0..n {
@@ -42,6 +44,7 @@ fn keep_binds(table: &mut [i32], base: usize, n: usize, b: [Binding; 16])
 }
 
 // The first state, and the choices left in the open frame.
+#[tactic(auto, using(crate::proofs::Laws::own_rules))]
 fn keep_head(table: &mut [i32], base: usize, x: State, whole: u64, left: u64)
     requires { 3 * (base + 275) ≤ length table.old }
     ensures { Headed table.old table.new base x whole left }
@@ -73,9 +76,10 @@ fn keep_head(table: &mut [i32], base: usize, x: State, whole: u64, left: u64)
 }
 
 // The head of the list whose first state stands.
+#[tactic(auto, using(crate::proofs::Laws::own_rules))]
 fn keep_first(table: &mut [i32], base: usize, x: State, lines: &Lines, slots: &Slots)
-    requires fact_1 { Framed (columns_of lines.now).arg slots.now x.top }
-    requires fact_2 { 3 * (base + 275) ≤ length table.old }
+    requires framed { Framed (columns_of lines.now).arg slots.now x.top }
+    requires table_long { 3 * (base + 275) ≤ length table.old }
     ensures { Topped table.old table.new base x (view_of (columns_of lines.now).arg slots.now) }
 {
     let top = x.top;
@@ -88,6 +92,7 @@ fn keep_first(table: &mut [i32], base: usize, x: State, lines: &Lines, slots: &S
 }
 
 // The list of states whose first stands, the r-th of the table.
+#[tactic(auto, using(crate::proofs::Laws::own_rules))]
 pub fn keep(
     x: State,
     b: [Binding; 16],
@@ -98,11 +103,11 @@ pub fn keep(
     slots: &Slots,
     table: &mut [i32],
 )
-    requires fact_1 { Framed (columns_of lines.now).arg slots.now x.top }
-    requires fact_2 { n ≤ 16 }
-    requires fact_3 { 16 ≤ used }
-    requires fact_4 { used ≤ 272 }
-    requires fact_5 { 825 * r + 825 ≤ length table.old }
+    requires framed { Framed (columns_of lines.now).arg slots.now x.top }
+    requires few_variables { n ≤ 16 }
+    requires all_bindings { 16 ≤ used }
+    requires few_slots { used ≤ 272 }
+    requires table_long { 825 * r + 825 ≤ length table.old }
     ensures { Stored table.old table.new r n used x (view_of (columns_of lines.now).arg slots.now) slots.now b }
 {
     let base = r * ENTRIES;

@@ -13,11 +13,12 @@ use tables::slot::{Frame, Slots, held_at, put_frame};
 use value_rows::Binding;
 
 // The values wait in their slots.
+#[tactic(auto, using(crate::proofs::Outs::own_rules))]
 fn take_slots(table: &[i32], base: usize, used: usize, slots: &mut Slots)
-    requires fact_1 { 16 ≤ used }
-    requires fact_2 { used ≤ 272 }
-    requires fact_3 { 3 * (base + 275) ≤ length table.now }
-    requires fact_4 { 1360 ≤ length slots.old }
+    requires all_bindings { 16 ≤ used }
+    requires few_slots { used ≤ 272 }
+    requires table_long { 3 * (base + 275) ≤ length table.now }
+    requires slots_long { 1360 ≤ length slots.old }
     ensures { Waited table.now base used slots.old slots.new }
 {
     for j in FIRST..used {
@@ -26,9 +27,10 @@ fn take_slots(table: &[i32], base: usize, used: usize, slots: &mut Slots)
 }
 
 // No frame is below any.
+#[tactic(auto, using(crate::proofs::Outs::own_rules))]
 fn shut_slots(used: usize, slots: &mut Slots)
-    requires fact_1 { used ≤ 272 }
-    requires fact_2 { 1360 ≤ length slots.old }
+    requires few_slots { used ≤ 272 }
+    requires slots_long { 1360 ≤ length slots.old }
     ensures { Shut used slots.old slots.new }
 {
     for j in 0..used {
@@ -37,9 +39,10 @@ fn shut_slots(used: usize, slots: &mut Slots)
 }
 
 // The bindings.
+#[tactic(auto, using(crate::proofs::Outs::own_rules))]
 fn take_binds(table: &[i32], base: usize, n: usize, given: [Binding; 16]) -> [Binding; 16]
-    requires fact_1 { n ≤ 16 }
-    requires fact_2 { 3 * (base + 275) ≤ length table.now }
+    requires few_variables { n ≤ 16 }
+    requires table_long { 3 * (base + 275) ≤ length table.now }
     ensures { Rebound table.now base n given result }
 {
     let mut b = given;
@@ -54,6 +57,7 @@ fn take_binds(table: &[i32], base: usize, n: usize, given: [Binding; 16]) -> [Bi
 }
 
 // The r-th list of the table; its bindings.
+#[tactic(auto, using(crate::proofs::Outs::own_rules))]
 pub fn take_out(
     table: &[i32],
     r: usize,
@@ -62,11 +66,11 @@ pub fn take_out(
     given: [Binding; 16],
     slots: &mut Slots,
 ) -> [Binding; 16]
-    requires fact_1 { n ≤ 16 }
-    requires fact_2 { 16 ≤ used }
-    requires fact_3 { used ≤ 272 }
-    requires fact_4 { 825 * r + 825 ≤ length table.now }
-    requires fact_5 { 1360 ≤ length slots.old }
+    requires few_variables { n ≤ 16 }
+    requires all_bindings { 16 ≤ used }
+    requires few_slots { used ≤ 272 }
+    requires table_long { 825 * r + 825 ≤ length table.now }
+    requires slots_long { 1360 ≤ length slots.old }
     ensures { TakenOut table.now r n used slots.old slots.new given result }
 {
     let base = r * ENTRIES;
@@ -76,10 +80,11 @@ pub fn take_out(
 }
 
 // Its frame at a line is open again.
+#[tactic(auto, using(crate::proofs::Outs::own_rules))]
 pub fn reopen(table: &[i32], r: usize, pc: usize, lines: &Lines, slots: &mut Slots)
-    requires fact_1 { Slotted (columns_of lines.now).arg slots.old pc }
-    requires fact_2 { Alone (columns_of lines.now).arg pc }
-    requires fact_3 { 825 * r + 825 ≤ length table.now }
+    requires slotted { Slotted (columns_of lines.now).arg slots.old pc }
+    requires alone { Alone (columns_of lines.now).arg pc }
+    requires table_long { 825 * r + 825 ≤ length table.now }
     ensures { view_of (columns_of lines.now).arg slots.new ≡ reopened pc (entry_at table.now (275 * r + 1)) (entry_at table.now (275 * r + 2)) (view_of (columns_of lines.now).arg slots.old) }
 {
     let base = r * ENTRIES;

@@ -18,7 +18,7 @@ use size::{most_states, slots_used};
 use tables::line::Lines;
 use tables::place::no_places;
 use tables::slot::no_slots;
-use value_places::places::places_of;
+use value_places::places::{Units, places_of};
 
 const OUT_OF_BUDGET: u32 = 7;
 
@@ -49,19 +49,20 @@ pub fn search_rounds(
     table: &mut [i32],
     room: &mut [i32],
 ) -> Report
-    requires fact_1 { Ruled (env_by (columns_of lines.now) mt.now s.now terms) }
-    requires fact_2 { terms.budget < 2 ^ 63 }
+    requires ruled { Ruled (env_by (columns_of lines.now) mt.now s.now terms) }
+    requires budget_fits { terms.budget < 2 ^ 63 }
     ensures { ByRounds (env_by (columns_of lines.now) mt.now s.now terms) terms.budget (length table.old) room.old (matched result.answer result.rows result.steps result.words room.new) }
 {
     let limit = most_states(table.len());
     if limit == 0 {
         return without_table(terms.budget);
     }
+    let units = Units { words: s };
     let mut places = no_places();
-    places_of(s, &mut places);
+    places_of(units, &mut places);
     let mut slots = no_slots();
     let used = slots_used(lines);
-    let first = open(s);
+    let first = open(units);
     let x = first.state;
     let b = first.binds;
     let n = terms.vars;
@@ -74,7 +75,7 @@ pub fn search_rounds(
         answer: 0,
     };
     let r = rounds(
-        begun, limit, terms, used, mt, s, &places, lines, &mut slots, table, room,
+        begun, limit, terms, used, mt, units, &places, lines, &mut slots, table, room,
     );
     let y = r.state;
     Report {

@@ -13,6 +13,7 @@ use search_step::State;
 use tables::line::Lines;
 use tables::place::Places;
 use tables::slot::Slots;
+use value_places::places::Units;
 use value_rows::Bindings;
 
 // Between two rounds: how many lists the table has, and how many states wait in them. `answer` is 0 while the run goes on.
@@ -48,17 +49,17 @@ pub fn take_round(
     terms: Terms,
     used: usize,
     mt: &[i32],
-    s: &[i32],
+    units: Units,
     places: &Places,
     lines: &Lines,
     slots: &mut Slots,
     table: &mut [i32],
     room: &mut [i32],
 ) -> Round
-    requires fact_1 { Given s.now places.now }
-    requires fact_2 { Begins (env_by (columns_of lines.now) mt.now s.now terms) used terms.budget r table.old slots.old room.old }
-    requires fact_3 { terms.budget < 2 ^ 63 }
-    ensures { Rounded (env_by (columns_of lines.now) mt.now s.now terms) used terms.budget r table.old slots.old room.old result table.new slots.new room.new }
+    requires given { Given units.words.now places.now }
+    requires begins { Begins (env_by (columns_of lines.now) mt.now units.words.now terms) used terms.budget r table.old slots.old room.old }
+    requires budget_fits { terms.budget < 2 ^ 63 }
+    ensures { Rounded (env_by (columns_of lines.now) mt.now units.entry.words.now terms) used terms.budget r table.old slots.old room.old result table.new slots.new room.new }
 {
     let many = r.many;
     let x = r.state;
@@ -72,7 +73,7 @@ pub fn take_round(
         answer: 0,
     };
     let w = sweep(
-        first, many, terms, used, mt, s, places, lines, slots, table, room,
+        first, many, terms, used, mt, units, places, lines, slots, table, room,
     );
     let y = w.state;
     let c = w.binds;
@@ -96,17 +97,17 @@ pub fn rounds(
     terms: Terms,
     used: usize,
     mt: &[i32],
-    s: &[i32],
+    units: Units,
     places: &Places,
     lines: &Lines,
     slots: &mut Slots,
     table: &mut [i32],
     room: &mut [i32],
 ) -> Round
-    requires fact_1 { Given s.now places.now }
-    requires fact_2 { Starts (env_by (columns_of lines.now) mt.now s.now terms) used terms.budget limit first table.old slots.old room.old }
-    requires fact_3 { terms.budget < 2 ^ 63 }
-    ensures { Arrived (env_by (columns_of lines.now) mt.now s.now terms) used terms.budget limit first table.old slots.old room.old result table.new slots.new room.new }
+    requires given { Given units.words.now places.now }
+    requires starts { Starts (env_by (columns_of lines.now) mt.now units.words.now terms) used terms.budget limit first table.old slots.old room.old }
+    requires budget_fits { terms.budget < 2 ^ 63 }
+    ensures { Arrived (env_by (columns_of lines.now) mt.now units.entry.words.now terms) used terms.budget limit first table.old slots.old room.old result table.new slots.new room.new }
 {
     let mut r = first;
     while r.many != 0 {
@@ -118,7 +119,7 @@ pub fn rounds(
         if limit < r.waiting {
             return halt(x, b, OUT_OF_TABLE);
         }
-        let q = take_round(r, terms, used, mt, s, places, lines, slots, table, room);
+        let q = take_round(r, terms, used, mt, units, places, lines, slots, table, room);
         if q.answer != 0 {
             return q;
         }

@@ -13,8 +13,8 @@ use words::marks::count;
 // A cons has one for each mark left, a join one for each longer front and its own, an or one.
 pub fn choices_left(top: usize, lines: &Lines, slots: &Slots) -> usize
     requires { Framing (columns_of lines.now).op (columns_of lines.now).arg slots.now top }
-    ensures fact_1 { result ≡ choices_in (columns_of lines.now).op top (view_of (columns_of lines.now).arg slots.now) }
-    ensures fact_2 { result ≤ 65 }
+    ensures value { result ≡ choices_in (columns_of lines.now).op top (view_of (columns_of lines.now).arg slots.now) }
+    ensures few { result ≤ 65 }
 {
     if top == 0 {
         return 0;

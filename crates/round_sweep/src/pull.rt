@@ -6,10 +6,11 @@ use round_lists::HEAD;
 use round_table::{ENTRIES, copy};
 
 // From the lists behind `many` on, `left` of them, to those behind `fresh`; of each the entries that the rule uses.
+#[tactic(auto, using(crate::proofs::Pulls::own_rules))]
 pub fn pull(table: &mut [i32], many: usize, fresh: usize, left: usize, used: usize)
-    requires fact_1 { fresh ≤ many }
-    requires fact_2 { used ≤ 272 }
-    requires fact_3 { 825 * (many + left) ≤ length table.old }
+    requires fresh { fresh ≤ many }
+    requires few_slots { used ≤ 272 }
+    requires table_long { 825 * (many + left) ≤ length table.old }
     ensures { Pulled table.old table.new many fresh left used }
 {
     if fresh == many {

@@ -12,6 +12,7 @@ use search_step::State;
 use tables::line::Lines;
 use tables::place::Places;
 use tables::slot::Slots;
+use value_places::places::Units;
 use value_rows::Bindings;
 
 // The bindings as they are left, and how many lists were kept.
@@ -30,15 +31,15 @@ pub fn put_rest(
     terms: Terms,
     used: usize,
     mt: &[i32],
-    s: &[i32],
+    units: Units,
     places: &Places,
     lines: &Lines,
     slots: &mut Slots,
     table: &mut [i32],
 ) -> Rest
-    requires fact_1 { Given s.now places.now }
-    requires fact_2 { Rests (env_by (columns_of lines.now) mt.now s.now terms) used table.old i to x slots.old given }
-    ensures { Rested (env_by (columns_of lines.now) mt.now s.now terms) used table.old table.new i to result.more slots.old slots.new given result.binds }
+    requires given { Given units.words.now places.now }
+    requires rests { Rests (env_by (columns_of lines.now) mt.now units.words.now terms) used table.old i to x slots.old given }
+    ensures { Rested (env_by (columns_of lines.now) mt.now units.entry.words.now terms) used table.old table.new i to result.more slots.old slots.new given result.binds }
 {
     let one = entry_at(table, i * ENTRIES + 1);
     if one.at == 0 {
@@ -48,7 +49,7 @@ pub fn put_rest(
         };
     }
     let b = remain(
-        x, given, i, to, terms, used, mt, s, places, lines, slots, table,
+        x, given, i, to, terms, used, mt, units, places, lines, slots, table,
     );
     Rest { binds: b, more: 1 }
 }

@@ -11,6 +11,7 @@ use search::Terms;
 use tables::line::Lines;
 use tables::place::Places;
 use tables::slot::Slots;
+use value_places::places::Units;
 
 // List after list, from the first, until the run ends.
 pub fn sweep(
@@ -19,17 +20,17 @@ pub fn sweep(
     terms: Terms,
     used: usize,
     mt: &[i32],
-    s: &[i32],
+    units: Units,
     places: &Places,
     lines: &Lines,
     slots: &mut Slots,
     table: &mut [i32],
     room: &mut [i32],
 ) -> Sweep
-    requires fact_1 { Given s.now places.now }
-    requires fact_2 { Sweeps (env_by (columns_of lines.now) mt.now s.now terms) used terms.budget many first table.old slots.old room.old }
-    requires fact_3 { terms.budget < 2 ^ 63 }
-    ensures { SweptBy (env_by (columns_of lines.now) mt.now s.now terms) used terms.budget many first table.old slots.old room.old result table.new slots.new room.new }
+    requires given { Given units.words.now places.now }
+    requires sweeps { Sweeps (env_by (columns_of lines.now) mt.now units.words.now terms) used terms.budget many first table.old slots.old room.old }
+    requires budget_fits { terms.budget < 2 ^ 63 }
+    ensures { SweptBy (env_by (columns_of lines.now) mt.now units.entry.words.now terms) used terms.budget many first table.old slots.old room.old result table.new slots.new room.new }
 {
     let mut w = first;
     for i in 0..many {
@@ -37,7 +38,7 @@ pub fn sweep(
             return w;
         }
         w = turn(
-            w, i, many, terms, used, mt, s, places, lines, slots, table, room,
+            w, i, many, terms, used, mt, units, places, lines, slots, table, room,
         );
     }
     w

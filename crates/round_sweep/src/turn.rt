@@ -14,6 +14,7 @@ use search_step::{ENDED, FULL, State};
 use tables::line::Lines;
 use tables::place::Places;
 use tables::slot::Slots;
+use value_places::places::Units;
 use value_rows::Bindings;
 
 // How far a round is: how many new lists there are, how many remainders, and how many states wait. `answer` is 0 while the run goes on.
@@ -110,18 +111,18 @@ fn give_up(
     terms: Terms,
     used: usize,
     mt: &[i32],
-    s: &[i32],
+    units: Units,
     places: &Places,
     lines: &Lines,
     slots: &mut Slots,
     table: &mut [i32],
     room: &mut [i32],
 ) -> Halfway
-    requires fact_1 { Given s.now places.now }
-    requires fact_2 { Turning (env_by (columns_of lines.now) mt.now s.now terms) used terms.budget many i w table.old slots.old room.old }
-    requires fact_3 { w.state.steps < terms.budget }
-    requires fact_4 { terms.budget < 2 ^ 63 }
-    ensures { GivenUp (env_by (columns_of lines.now) mt.now s.now terms) used terms.budget many i w table.old slots.old room.old result.taken result.more table.new slots.new room.new }
+    requires given { Given units.words.now places.now }
+    requires turning { Turning (env_by (columns_of lines.now) mt.now units.words.now terms) used terms.budget many i w table.old slots.old room.old }
+    requires budget_left { w.state.steps < terms.budget }
+    requires budget_fits { terms.budget < 2 ^ 63 }
+    ensures { GivenUp (env_by (columns_of lines.now) mt.now units.entry.words.now terms) used terms.budget many i w table.old slots.old room.old result.taken result.more table.new slots.new room.new }
 {
     let x = w.state;
     let b = w.binds;
@@ -133,7 +134,7 @@ fn give_up(
         terms,
         used,
         mt,
-        s,
+        units,
         places,
         lines,
         slots,
@@ -141,7 +142,7 @@ fn give_up(
     );
     let c = r.binds;
     let t = take_first(
-        x, c, i, terms, used, mt, s, places, lines, slots, table, room,
+        x, c, i, terms, used, mt, units, places, lines, slots, table, room,
     );
     Halfway {
         taken: t,
@@ -157,17 +158,17 @@ pub fn turn(
     terms: Terms,
     used: usize,
     mt: &[i32],
-    s: &[i32],
+    units: Units,
     places: &Places,
     lines: &Lines,
     slots: &mut Slots,
     table: &mut [i32],
     room: &mut [i32],
 ) -> Sweep
-    requires fact_1 { Given s.now places.now }
-    requires fact_2 { Turning (env_by (columns_of lines.now) mt.now s.now terms) used terms.budget many i w table.old slots.old room.old }
-    requires fact_3 { terms.budget < 2 ^ 63 }
-    ensures { Turned (env_by (columns_of lines.now) mt.now s.now terms) used terms.budget many i w table.old slots.old room.old result table.new slots.new room.new }
+    requires given { Given units.words.now places.now }
+    requires turning { Turning (env_by (columns_of lines.now) mt.now units.words.now terms) used terms.budget many i w table.old slots.old room.old }
+    requires budget_fits { terms.budget < 2 ^ 63 }
+    ensures { Turned (env_by (columns_of lines.now) mt.now units.entry.words.now terms) used terms.budget many i w table.old slots.old room.old result table.new slots.new room.new }
 {
     let x = w.state;
     if terms.budget <= x.steps {
@@ -175,7 +176,7 @@ pub fn turn(
         return stop(x, b, OUT_OF_BUDGET);
     }
     let h = give_up(
-        w, i, many, terms, used, mt, s, places, lines, slots, table, room,
+        w, i, many, terms, used, mt, units, places, lines, slots, table, room,
     );
     let t = h.taken;
     follow(
@@ -186,7 +187,7 @@ pub fn turn(
         terms,
         used,
         mt,
-        s,
+        units.words,
         lines,
         slots,
         table,

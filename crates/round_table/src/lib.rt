@@ -43,8 +43,8 @@ fn put_word(table: &mut [i32], i: usize, u: u32)
 // The entry at an index.
 pub fn entry_at(table: &[i32], i: usize) -> Held
     requires { 3 * i + 2 < length table.now }
-    ensures fact_1 { result ≡ entry_at table.now i }
-    ensures fact_2 { Small result }
+    ensures value { result ≡ entry_at table.now i }
+    ensures small { Small result }
 {
     let k = 3 * i;
     Held {
@@ -65,9 +65,10 @@ pub fn put_entry(table: &mut [i32], i: usize, h: Held)
 }
 
 // n entries from one on are copied to earlier ones.
+#[tactic(auto, using(crate::proofs::Laws::own_rules))]
 pub fn copy(table: &mut [i32], from: usize, to: usize, n: usize)
-    requires fact_1 { to + n ≤ from }
-    requires fact_2 { 3 * (from + n) ≤ length table.old }
+    requires below { to + n ≤ from }
+    requires table_long { 3 * (from + n) ≤ length table.old }
     ensures { Copied table.old table.new from to n }
 {
     for k in 0..n {

@@ -12,6 +12,7 @@ use words::marks::one;
 use words::{ENTRIES, tag_at};
 
 // Whether n elements have these marks.
+#[tactic(auto, using(crate::proofs::Tests::mark_rules))]
 fn within(n: u32, m: u64) -> bool
     ensures { Decides result (m < 2 ^ n) }
 {
@@ -22,6 +23,7 @@ fn within(n: u32, m: u64) -> bool
 }
 
 // How many elements may be marked, if a tag stands here.
+#[tactic(auto, using(crate::proofs::Tests::mark_rules))]
 fn marks_in(s: &[i32], at: usize) -> u32
     requires { at < length s.now }
     ensures { result ≡ marks_at s.now at }
@@ -32,6 +34,7 @@ fn marks_in(s: &[i32], at: usize) -> u32
     0
 }
 
+#[tactic(auto, using(crate::proofs::Tests::held_rules))]
 pub fn is_held(s: &[i32], at: usize, m: u64) -> bool
     ensures { Decides result (Held s.now at m) }
 {
@@ -45,6 +48,7 @@ pub fn is_held(s: &[i32], at: usize, m: u64) -> bool
 }
 
 // Whether each variable is bound to a held value.
+#[tactic(auto, using(crate::proofs::Tests::bound_rules))]
 pub fn are_bound(s: &[i32], b: Bindings) -> bool
     ensures { Decides result (Bound s.now b 16) }
 {
@@ -57,6 +61,7 @@ pub fn are_bound(s: &[i32], b: Bindings) -> bool
 }
 
 // Whether a line with this instruction, at j, is one whose next choice can be taken from this value and what is left of it.
+#[tactic(auto, using(crate::proofs::Tests::frame_rules))]
 pub fn is_frame(o: u16, s: &[i32], j: usize, at: usize, m: u64, c: u64) -> bool
     ensures { Decides result (Frame o s.now j at m c) }
 {

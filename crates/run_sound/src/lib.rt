@@ -19,9 +19,10 @@ use value_rows::Bindings;
 use words::ENTRIES;
 
 // Of a run in which a state stands, over a room of some words.
+#[tactic(auto, using(crate::proofs::Runs::sound_rules))]
 pub fn is_sound(x: State, b: Bindings, room: usize, s: &[i32], lines: &Lines, slots: &Slots) -> bool
-    requires fact_1 { Numbered (columns_of lines.now).arg slots.now }
-    requires fact_2 { Closes (columns_of lines.now).op (columns_of lines.now).arg }
+    requires numbered { Numbered (columns_of lines.now).arg slots.now }
+    requires closes { Closes (columns_of lines.now).op (columns_of lines.now).arg }
     ensures { Decides result (Sound (columns_of lines.now).op s.now (view_of (columns_of lines.now).arg slots.now) x b room) }
 {
     if ENTRIES <= x.pc {

@@ -14,6 +14,7 @@ use tables::slot::{Slots, frame_at, held_at, low_at};
 use words::ENTRIES;
 
 // The frame that `top` names, if it names one.
+#[tactic(auto, using(crate::proofs::Runs::open_rules))]
 pub fn is_open(top: usize, s: &[i32], lines: &Lines, slots: &Slots) -> bool
     requires { Numbered (columns_of lines.now).arg slots.now }
     ensures { Decides result (Picks (columns_of lines.now).op s.now top (view_of (columns_of lines.now).arg slots.now).ats (view_of (columns_of lines.now).arg slots.now).wholes (view_of (columns_of lines.now).arg slots.now).lefts) }
@@ -30,9 +31,10 @@ pub fn is_open(top: usize, s: &[i32], lines: &Lines, slots: &Slots) -> bool
     is_frame(o, s, j, f.at, f.whole, f.left)
 }
 
+#[tactic(auto, using(crate::proofs::Runs::line_rules))]
 fn is_line(j: usize, s: &[i32], lines: &Lines, slots: &Slots) -> bool
-    requires fact_1 { Numbered (columns_of lines.now).arg slots.now }
-    requires fact_2 { j < entries }
+    requires numbered { Numbered (columns_of lines.now).arg slots.now }
+    requires line { j < entries }
     ensures { Decides result (Line (columns_of lines.now).op s.now (view_of (columns_of lines.now).arg slots.now) j) }
 {
     let h = held_at(slots, lines, j);
@@ -44,6 +46,7 @@ fn is_line(j: usize, s: &[i32], lines: &Lines, slots: &Slots) -> bool
 }
 
 // Whether a line is an end.
+#[tactic(auto, using(crate::proofs::Runs::lines_rules))]
 fn is_end(lines: &Lines, j: usize) -> bool
     requires { j < entries }
     ensures { Decides result (get_or (columns_of lines.now).op j 0 ≡ 0) }
@@ -52,9 +55,10 @@ fn is_end(lines: &Lines, j: usize) -> bool
 }
 
 // The lines up to the end, and the last one, which stands for all after the end.
+#[tactic(auto, using(crate::proofs::Runs::lines_rules))]
 pub fn are_lines(s: &[i32], lines: &Lines, slots: &Slots) -> bool
-    requires fact_1 { Numbered (columns_of lines.now).arg slots.now }
-    requires fact_2 { Closes (columns_of lines.now).op (columns_of lines.now).arg }
+    requires numbered { Numbered (columns_of lines.now).arg slots.now }
+    requires closes { Closes (columns_of lines.now).op (columns_of lines.now).arg }
     ensures { Decides result (Lined (columns_of lines.now).op s.now (view_of (columns_of lines.now).arg slots.now)) }
 {
     let mut j: usize = 0;

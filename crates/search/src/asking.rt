@@ -11,6 +11,7 @@ use search_step::State;
 use tables::line::{Lines, con_at, mat_at};
 use tables::place::Places;
 use value_equality::{equal, is_sum};
+use value_places::places::Units;
 use value_rows::Binding;
 
 // The value of a state's first atom.
@@ -25,10 +26,10 @@ pub fn value_of(x: State) -> Binding
 
 // Under integer: whether an integer, plus the line's constant, is the state's.
 pub fn is_sum_at(x: State, y: Binding, s: &[i32], lines: &Lines) -> bool
-    requires fact_1 { y.at + 1 < length s.now }
-    requires fact_2 { x.at + 1 < length s.now }
-    requires fact_3 { x.pc < entries }
-    requires fact_4 { x.pc < length (columns_of lines.now).con }
+    requires number_y { y.at + 1 < length s.now }
+    requires number_x { x.at + 1 < length s.now }
+    requires line { x.pc < entries }
+    requires constant { x.pc < length (columns_of lines.now).con }
     ensures { result ≡ is_sum s.now y.at (get_or (columns_of lines.now).con x.pc (pos 0)) x.at }
 {
     let c = con_at(lines, x.pc);
@@ -40,16 +41,16 @@ pub fn is_equal_at(
     x: State,
     y: Binding,
     mt: &[i32],
-    s: &[i32],
+    units: Units,
     places: &Places,
     lines: &Lines,
 ) -> bool
-    requires fact_1 { Given s.now places.now }
-    requires fact_2 { Held s.now y.at y.marks }
-    requires fact_3 { Held s.now x.at x.marks }
-    requires fact_4 { x.pc < entries }
-    ensures { result ≡ equal_at mt.now (get_or (columns_of lines.now).mat x.pc 0) s.now y.at y.marks x.at x.marks }
+    requires given { Given units.words.now places.now }
+    requires held_y { Held units.words.now y.at y.marks }
+    requires held_x { Held units.words.now x.at x.marks }
+    requires line { x.pc < entries }
+    ensures { result ≡ equal_at mt.now (get_or (columns_of lines.now).mat x.pc 0) units.entry.words.now y.at y.marks x.at x.marks }
 {
     let i = mat_at(lines, x.pc);
-    equal(mt, i, s, places, y.at, y.marks, x.at, x.marks)
+    equal(mt, i, units, places, y.at, y.marks, x.at, x.marks)
 }

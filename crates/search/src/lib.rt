@@ -29,7 +29,7 @@ use tables::place::{Places, no_places};
 use tables::slot::{Slots, no_slots};
 use taking::{bounds_of, goes_on, take_end};
 use value_firsts::fresh::fresh_places;
-use value_places::places::{places_of, whole};
+use value_places::places::{Units, places_of, whole};
 use value_rows::{Binding, Bindings, VARIABLES};
 
 // What a run keeps to, beside its rule and its target: the most steps, how many variables there are, whether a row tells origins, whether a
@@ -55,17 +55,17 @@ pub fn advance(
     from: Progress,
     terms: Terms,
     mt: &[i32],
-    s: &[i32],
+    units: Units,
     places: &Places,
     lines: &Lines,
     slots: &mut Slots,
     room: &mut [i32],
 ) -> Progress
-    requires fact_1 { Given s.now places.now }
-    requires fact_2 { Fine (env_by (columns_of lines.now) mt.now s.now terms) }
-    requires fact_3 { Valid (env_by (columns_of lines.now) mt.now s.now terms) (run from.state (view_of (columns_of lines.now).arg slots.old) from.binds room.old) }
-    requires fact_4 { Fresh mt.now 1 s.now 0 terms.fresh }
-    ensures { run result.state (view_of (columns_of lines.now).arg slots.new) result.binds room.new ≡ run_of (env_by (columns_of lines.now) mt.now s.now terms) (terms.budget - from.state.steps) (run from.state (view_of (columns_of lines.now).arg slots.old) from.binds room.old) }
+    requires given { Given units.words.now places.now }
+    requires fine { Fine (env_by (columns_of lines.now) mt.now units.words.now terms) }
+    requires valid { Valid (env_by (columns_of lines.now) mt.now units.words.now terms) (run from.state (view_of (columns_of lines.now).arg slots.old) from.binds room.old) }
+    requires fresh { Fresh mt.now 1 units.words.now 0 terms.fresh }
+    ensures { run result.state (view_of (columns_of lines.now).arg slots.new) result.binds room.new ≡ run_of (env_by (columns_of lines.now) mt.now units.entry.words.now terms) (terms.budget - from.state.steps) (run from.state (view_of (columns_of lines.now).arg slots.old) from.binds room.old) }
 {
     let mut x = from.state;
     let mut b = from.binds;
@@ -75,51 +75,51 @@ pub fn advance(
         if DROP < o {
             let v = arg_at(lines, x.pc);
             if o == SUM {
-                same = is_sum_at(x, b[v], s, lines);
+                same = is_sum_at(x, b[v], units.words, lines);
             } else if o < SUM {
                 if o == BIND {
                     b[v] = value_of(x);
                 }
             } else if o < NIL {
-                same = is_equal_at(x, b[v], mt, s, places, lines);
+                same = is_equal_at(x, b[v], mt, units, places, lines);
             }
         }
         if o == END {
-            x = take_end(x, b, terms, s, places, room);
+            x = take_end(x, b, terms, units, places, room);
         } else {
-            x = x.step(Asked { same: same }, s, places, lines, slots);
+            x = x.step(Asked { same: same }, units, places, lines, slots);
             if o == MULTISET_CONS {
-                narrow(terms, x, mt, s, places, lines, slots);
+                narrow(terms, x, mt, units, places, lines, slots);
                 let a = asked_at(x, lines);
                 if 0 < a.first {
                     let g = b[arg_at(lines, a.first)].at;
                     let h = b[arg_at(lines, a.second)].at;
-                    x.steps = pass(x.steps, a, g, h, terms.budget, s, places, lines, slots);
+                    x.steps = pass(x.steps, a, g, h, terms.budget, units, places, lines, slots);
                 }
                 let i = leaf_at(x, lines, slots);
                 if 0 < i {
-                    let r = take(x, i, b, bounds_of(terms), s, places, lines, slots, room);
+                    let r = take(x, i, b, bounds_of(terms), units, places, lines, slots, room);
                     x = r.state;
                     b[arg_at(lines, i)] = last_of(r);
                 }
             }
         }
-        x = settle(x, s, places, lines, slots);
+        x = settle(x, units, places, lines, slots);
     }
     Progress { state: x, binds: b }
 }
 
 // Before the first step: the target as a whole is held, its tag at the first index, and no variable is bound.
-pub fn open(s: &[i32]) -> Progress
-    requires fact_1 { Target s.now }
-    requires fact_2 { 0 < length s.now }
-    ensures fact_1 { result.state ≡ opening 0 (whole_at s.now 0) }
-    ensures fact_2 { result.binds ≡ unbound 16 }
+#[tactic(auto, unfolding(crate::specs::Run::opening, crate::specs::Searched::unbound))]
+pub fn open(units: Units) -> Progress
+    requires { 0 < length units.words.now }
+    ensures state { result.state ≡ opening 0 (whole_at units.entry.words.now 0) }
+    ensures binds { result.binds ≡ unbound 16 }
 {
     let first = State {
         pc: 0,
         at: 0,
-        marks: whole(s, 0),
+        marks: whole(units, 0),
         top: 0,
         live: STANDS,
         rows: 0,
@@ -147,6 +147,7 @@ const OUT_OF_BUDGET: u32 = 7;
 
 const OUT_OF_ROOM: u32 = 8;
 
+#[tactic(auto, using(search_step::proofs::Laws::cases), unfolding(crate::specs::Run::answer_of))]
 fn answer_of(live: u64) -> u32
     ensures { result ≡ answer_of live }
 {
@@ -172,35 +173,34 @@ pub fn tell(x: State) -> Report
 }
 
 // The target's fresh places, by the matcher after the rule's own tag, where they are of use.
-fn fresh_if(firsts: bool, mt: &[i32], s: &[i32], places: &Places) -> u64
-    requires fact_1 { Given s.now places.now }
-    requires fact_2 { 0 < length s.now }
-    ensures { Fresh mt.now 1 s.now 0 result }
+fn fresh_if(firsts: bool, mt: &[i32], units: Units, places: &Places) -> u64
+    requires given { Given units.words.now places.now }
+    requires some_words { 0 < length units.words.now }
+    ensures { Fresh mt.now 1 units.entry.words.now 0 result }
 {
     if !firsts {
         return 0;
     }
-    fresh_places(mt, 1, s, places, 0)
+    fresh_places(mt, 1, units, places, 0)
 }
 
 // The whole run of a program on a target: it is opened, advanced by its budget, and told.
-pub fn search(terms: Terms, mt: &[i32], s: &[i32], lines: &Lines, room: &mut [i32]) -> Report
-    requires fact_1 { Target s.now }
-    requires fact_2 { 0 < length s.now }
-    requires fact_3 { Fine (env_by (columns_of lines.now) mt.now s.now terms) }
-    ensures { Searched (env_by (columns_of lines.now) mt.now s.now terms) terms.budget room.old (matched result.answer result.rows result.steps result.words room.new) }
+pub fn search(terms: Terms, mt: &[i32], units: Units, lines: &Lines, room: &mut [i32]) -> Report
+    requires some_words { 0 < length units.words.now }
+    requires fine { Fine (env_by (columns_of lines.now) mt.now units.words.now terms) }
+    ensures { Searched (env_by (columns_of lines.now) mt.now units.entry.words.now terms) terms.budget room.old (matched result.answer result.rows result.steps result.words room.new) }
 {
     let mut places = no_places();
-    places_of(s, &mut places);
+    places_of(units, &mut places);
     let mut slots = no_slots();
-    let first = open(s);
+    let first = open(units);
     let known = Terms {
         budget: terms.budget,
         vars: terms.vars,
         origins: terms.origins,
         firsts: terms.firsts,
-        fresh: fresh_if(terms.firsts, mt, s, &places),
+        fresh: fresh_if(terms.firsts, mt, units, &places),
     };
-    let last = advance(first, known, mt, s, &places, lines, &mut slots, room);
+    let last = advance(first, known, mt, units, &places, lines, &mut slots, room);
     tell(last.state)
 }

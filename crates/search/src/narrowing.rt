@@ -14,11 +14,13 @@ use tables::line::{Lines, mat_at};
 use tables::place::Places;
 use tables::slot::{Slots, frame_at, put_left};
 use value_firsts::{Span, firsts_above};
+use value_places::places::Units;
 
 // The lower 32 of 64 marks are the remainder by this.
 const HALF: u64 = 4294967296;
 
 // What is known of the target itself is of use where it is divided by the rule's own matcher.
+#[tactic(auto, using(crate::proofs::Freshened::fresh_at_rules))]
 fn fresh_at(i: usize, at: usize, fresh: u64) -> u64
     ensures { result ≡ fresh_at i at fresh }
 {
@@ -35,15 +37,15 @@ fn narrow_above(
     top: usize,
     span: Span,
     mt: &[i32],
-    s: &[i32],
+    units: Units,
     places: &Places,
     lines: &Lines,
     slots: &mut Slots,
 )
-    requires fact_1 { Given s.now places.now }
-    requires fact_2 { Above mt.now (columns_of lines.now).mat (columns_of lines.now).arg s.now slots.old top span.marks span.stop }
-    requires fact_3 { Fresh mt.now 1 s.now 0 span.fresh }
-    ensures { Replaced mt.now (get_or (columns_of lines.now).mat (top - 1) 0) s.now (top - 1) span.marks span.stop (view_of (columns_of lines.now).arg slots.old) (view_of (columns_of lines.now).arg slots.new) }
+    requires given { Given units.words.now places.now }
+    requires above { Above mt.now (columns_of lines.now).mat (columns_of lines.now).arg units.words.now slots.old top span.marks span.stop }
+    requires fresh { Fresh mt.now 1 units.words.now 0 span.fresh }
+    ensures { Replaced mt.now (get_or (columns_of lines.now).mat (top - 1) 0) units.entry.words.now (top - 1) span.marks span.stop (view_of (columns_of lines.now).arg slots.old) (view_of (columns_of lines.now).arg slots.new) }
 {
     let j = top - 1;
     let i = mat_at(lines, j);
@@ -56,7 +58,7 @@ fn narrow_above(
         stop: span.stop,
         fresh: fresh_at(i, f.at, span.fresh),
     };
-    let c = firsts_above(mt, i + 1, s, places, f.at, known);
+    let c = firsts_above(mt, i + 1, units, places, f.at, known);
     put_left(slots, lines, j, f.left - (span.marks - span.stop) + c);
 }
 
@@ -65,15 +67,15 @@ pub fn narrow(
     terms: Terms,
     x: State,
     mt: &[i32],
-    s: &[i32],
+    units: Units,
     places: &Places,
     lines: &Lines,
     slots: &mut Slots,
 )
-    requires fact_1 { Given s.now places.now }
-    requires fact_2 { (0 < x.marks → Opened (columns_of lines.now).arg s.now slots.old x) }
-    requires fact_3 { Fresh mt.now 1 s.now 0 terms.fresh }
-    ensures { view_of (columns_of lines.now).arg slots.new ≡ narrowed (dialect_by terms.firsts) mt.now (get_or (columns_of lines.now).mat (x.top - 1) 0) s.now x (view_of (columns_of lines.now).arg slots.old) }
+    requires given { Given units.words.now places.now }
+    requires opened { (0 < x.marks → Opened (columns_of lines.now).arg units.words.now slots.old x) }
+    requires fresh { Fresh mt.now 1 units.words.now 0 terms.fresh }
+    ensures { view_of (columns_of lines.now).arg slots.new ≡ narrowed (dialect_by terms.firsts) mt.now (get_or (columns_of lines.now).mat (x.top - 1) 0) units.entry.words.now x (view_of (columns_of lines.now).arg slots.old) }
 {
     if !terms.firsts {
         return;
@@ -93,6 +95,6 @@ pub fn narrow(
         stop: low,
         fresh: terms.fresh,
     };
-    narrow_above(x.top, lower, mt, s, places, lines, slots);
-    narrow_above(x.top, upper, mt, s, places, lines, slots);
+    narrow_above(x.top, lower, mt, units, places, lines, slots);
+    narrow_above(x.top, upper, mt, units, places, lines, slots);
 }

@@ -11,9 +11,11 @@ use search_leaf::Bounds;
 use search_leaf::told::Shape;
 use search_step::{CHOOSES, FULL, STANDS, State};
 use tables::place::Places;
+use value_places::places::Units;
 use value_rows::{Bindings, put_entry, row_size};
 
 // Whether a state stands, and the budget is not used up.
+#[tactic(auto, using(search_step::proofs::Laws::cases), unfolding(crate::specs::Run::goes_on))]
 pub fn goes_on(x: State, budget: u64) -> bool
     ensures { result ≡ goes_on x budget }
 {
@@ -38,20 +40,21 @@ pub fn bounds_of(terms: Terms) -> Bounds
 }
 
 // Whether a row does not fit into the words that are free. Its size is asked only where it could be so: no value has more words than the target.
-pub fn is_short(terms: Terms, b: Bindings, free: usize, s: &[i32], places: &Places) -> bool
-    requires fact_1 { Given s.now places.now }
-    requires fact_2 { Bound s.now b terms.vars }
-    requires fact_3 { 0 < length s.now }
-    ensures { result ≡ ltb free (length (row (form_by terms.origins) (bound s.now b terms.vars))) }
+pub fn is_short(terms: Terms, b: Bindings, free: usize, units: Units, places: &Places) -> bool
+    requires given { Given units.words.now places.now }
+    requires bound { Bound units.words.now b terms.vars }
+    requires some_words { 0 < length units.words.now }
+    ensures { result ≡ ltb free (length (row (form_by terms.origins) (bound units.entry.words.now b terms.vars))) }
 {
     let n = terms.vars;
-    if free < n * (s.len() + 1) {
-        return free < row_size(terms.origins, s, places, b, n);
+    if free < n * (units.words.len() + 1) {
+        return free < row_size(terms.origins, units, places, b, n);
     }
     false
 }
 
 // It takes a step; `live` says how the run goes on.
+#[tactic(auto, unfolding(search_step::specs::Steps::counted, search_step::specs::Steps::lived))]
 fn ended(mut x: State, live: u64) -> State
     requires { x.steps + 1 < 2 ^ 64 }
     ensures { result ≡ lived (counted x) live }
@@ -62,6 +65,7 @@ fn ended(mut x: State, live: u64) -> State
 }
 
 // Its row does not fit, and is not begun.
+#[tactic(auto, unfolding(search_step::specs::Steps::counted, crate::specs::Run::filled, search_step::specs::Steps::lived))]
 pub fn filled(x: State) -> State
     requires { x.steps + 1 < 2 ^ 64 }
     ensures { result ≡ filled x }
@@ -70,9 +74,10 @@ pub fn filled(x: State) -> State
 }
 
 // Its row is written, up to a word of the room.
+#[tactic(auto, unfolding(search_step::specs::Steps::counted, search_step::specs::Steps::lived, crate::specs::Run::wrote_to))]
 pub fn wrote(mut x: State, end: usize) -> State
-    requires fact_1 { x.steps + 1 < 2 ^ 64 }
-    requires fact_2 { x.rows + 1 < 2 ^ 64 }
+    requires steps_fit { x.steps + 1 < 2 ^ 64 }
+    requires rows_fit { x.rows + 1 < 2 ^ 64 }
     ensures { result ≡ wrote_to x end }
 {
     x.words = end;
@@ -85,22 +90,22 @@ pub fn take_end(
     x: State,
     b: Bindings,
     terms: Terms,
-    s: &[i32],
+    units: Units,
     places: &Places,
     room: &mut [i32],
 ) -> State
-    requires fact_1 { Given s.now places.now }
-    requires fact_2 { 0 < length s.now }
-    requires fact_3 { Rows s.now b terms.vars x room.old }
-    ensures { ended result room.new ≡ end_of (form_by terms.origins) s.now terms.vars x b room.old }
+    requires given { Given units.words.now places.now }
+    requires some_words { 0 < length units.words.now }
+    requires rows { Rows units.words.now b terms.vars x room.old }
+    ensures { ended result room.new ≡ end_of (form_by terms.origins) units.entry.words.now terms.vars x b room.old }
 {
     let mut e = x.words;
-    if is_short(terms, b, room.len() - e, s, places) {
+    if is_short(terms, b, room.len() - e, units, places) {
         return filled(x);
     }
     for v in 0..terms.vars {
         let y = b[v];
-        e = put_entry(terms.origins, s, places, y.at, y.marks, room, e);
+        e = put_entry(terms.origins, units, places, y.at, y.marks, room, e);
     }
     wrote(x, e)
 }

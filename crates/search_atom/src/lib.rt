@@ -16,20 +16,22 @@ use tables::slot::{Slots, low_at, put_left};
 use words::marks::{Parts, lowest, one};
 
 // Whether a word of the target is an instruction's constant.
+#[tactic(auto, using(crate::proofs::Laws::word_rules))]
 fn is_constant(s: &[i32], at: usize, lines: &Lines, pc: usize) -> bool
-    requires fact_1 { at + 1 < length s.now }
-    requires fact_2 { pc < entries }
-    requires fact_3 { pc < length (columns_of lines.now).con }
+    requires number { at + 1 < length s.now }
+    requires line { pc < entries }
+    requires constant { pc < length (columns_of lines.now).con }
     ensures { result ≡ same (get_or s.now (at + 1) (pos 0)) (get_or (columns_of lines.now).con pc (pos 0)) }
 {
     s[at + 1] == con_at(lines, pc)
 }
 
 // Whether the atom's test holds.
+#[tactic(auto, using(crate::proofs::Laws::cases), unfolding(crate::specs::Leaves::passes_of))]
 pub fn passes(o: u16, q: bool, s: &[i32], at: usize, m: u64, lines: &Lines, pc: usize) -> bool
-    requires fact_1 { at + 1 < length s.now }
-    requires fact_2 { pc < entries }
-    requires fact_3 { pc < length (columns_of lines.now).con }
+    requires number { at + 1 < length s.now }
+    requires line { pc < entries }
+    requires constant { pc < length (columns_of lines.now).con }
     ensures { result ≡ passes_of o q s.now at m (get_or (columns_of lines.now).con pc (pos 0)) }
 {
     if o == CONSTANT {
@@ -48,6 +50,7 @@ pub fn passes(o: u16, q: bool, s: &[i32], at: usize, m: u64, lines: &Lines, pc: 
 }
 
 // Whether a cons has nothing to choose from.
+#[tactic(auto, using(crate::proofs::Laws::cases), unfolding(crate::specs::Leaves::none_of))]
 pub fn nothing(o: u16, m: u64) -> bool
     ensures { result ≡ none_of o m }
 {
@@ -58,6 +61,7 @@ pub fn nothing(o: u16, m: u64) -> bool
 }
 
 // The choices that a frame is opened with.
+#[tactic(auto, using(crate::proofs::Laws::open_rules), unfolding(crate::specs::Leaves::opens_of))]
 pub fn opens(o: u16, m: u64) -> u64
     requires { none_of o m ≡ false }
     ensures { result ≡ opens_of o m }
@@ -73,6 +77,7 @@ pub fn opens(o: u16, m: u64) -> u64
 }
 
 // The next longer front of a join; 0 where the back is empty.
+#[tactic(auto, using(crate::proofs::Laws::cases), unfolding(crate::specs::Leaves::longer_of))]
 pub fn longer_front(c: u64, b: u64) -> u64
     requires { c + b < 2 ^ 64 }
     ensures { result ≡ longer_of c b }
@@ -85,11 +90,12 @@ pub fn longer_front(c: u64, b: u64) -> u64
 }
 
 // What is left to choose from at a line: with nothing left the frame is no longer open. The last open frame then.
+#[tactic(auto, using(crate::proofs::Laws::leave_rules))]
 pub fn leave(top: usize, more: u64, pc: usize, lines: &Lines, slots: &mut Slots) -> usize
-    requires fact_1 { Slotted (columns_of lines.now).arg slots.old pc }
-    requires fact_2 { Alone (columns_of lines.now).arg pc }
-    ensures fact_1 { result ≡ top_by more pc (view_of (columns_of lines.now).arg slots.old).lows top }
-    ensures fact_2 { view_of (columns_of lines.now).arg slots.new ≡ left_in more pc (view_of (columns_of lines.now).arg slots.old) }
+    requires slotted { Slotted (columns_of lines.now).arg slots.old pc }
+    requires alone { Alone (columns_of lines.now).arg pc }
+    ensures value { result ≡ top_by more pc (view_of (columns_of lines.now).arg slots.old).lows top }
+    ensures slots { view_of (columns_of lines.now).arg slots.new ≡ left_in more pc (view_of (columns_of lines.now).arg slots.old) }
 {
     if more == 0 {
         return low_at(slots, lines, pc);
@@ -99,6 +105,7 @@ pub fn leave(top: usize, more: u64, pc: usize, lines: &Lines, slots: &mut Slots)
 }
 
 // The slot of the value with which a frame's choice goes on: an or's own, and of a not that of what waits behind it.
+#[tactic(auto, using(crate::proofs::Laws::slot_rules))]
 pub fn slot_of(o: u16, j: usize, lines: &Lines) -> usize
     requires { j < entries }
     ensures { result ≡ slot_by o j (columns_of lines.now).from }

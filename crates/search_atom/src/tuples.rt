@@ -10,7 +10,7 @@ use tables::instruction::JOIN;
 use tables::line::Lines;
 use tables::place::Places;
 use tables::slot::{Held, Slots, put_held};
-use value_places::places::{count_at, element, whole};
+use value_places::places::{Units, count_at, element, whole};
 
 // How many parts wait at an instruction: of two to four parts, all but the first.
 pub fn later(o: u16) -> usize
@@ -22,19 +22,20 @@ pub fn later(o: u16) -> usize
 }
 
 // Whether the value at an index has n parts and one.
-pub fn is_wide(s: &[i32], at: usize, n: usize) -> bool
-    requires fact_1 { Target s.now }
-    requires fact_2 { Tag s.now at }
-    requires fact_3 { n < 256 }
-    ensures { result ≡ is_wide s.now at n }
+#[tactic(auto, using(crate::proofs::Laws::wide_rules))]
+pub fn is_wide(units: Units, at: usize, n: usize) -> bool
+    requires tag { Tag units.words.now at }
+    requires few { n < 256 }
+    ensures { result ≡ is_wide units.entry.words.now at n }
 {
-    let k = count_at(s, at);
+    let k = count_at(units, at);
     (k as usize) == n + 1
 }
 
 // Part i waits at a line.
+#[tactic(auto, using(crate::proofs::Laws::part_rules))]
 fn put_part(
-    s: &[i32],
+    units: Units,
     places: &Places,
     at: usize,
     i: u32,
@@ -42,21 +43,21 @@ fn put_part(
     lines: &Lines,
     slots: &mut Slots,
 )
-    requires fact_1 { Target s.now }
-    requires fact_2 { Placed s.now places.now }
-    requires fact_3 { Tag s.now at × (i < count_at s.now at) }
-    requires fact_4 { Slotted (columns_of lines.now).arg slots.old pc }
-    requires fact_5 { Alone (columns_of lines.now).arg pc }
-    ensures { view_of (columns_of lines.now).arg slots.new ≡ put_held pc (part_held s.now at i) (view_of (columns_of lines.now).arg slots.old) }
+    requires placed { Placed units.words.now places.now }
+    requires part { Tag units.words.now at × (i < count_at units.words.now at) }
+    requires slotted { Slotted (columns_of lines.now).arg slots.old pc }
+    requires alone { Alone (columns_of lines.now).arg pc }
+    ensures { view_of (columns_of lines.now).arg slots.new ≡ put_held pc (part_held units.entry.words.now at i) (view_of (columns_of lines.now).arg slots.old) }
 {
-    let e = element(s, places, at, i);
-    let m = whole(s, e);
+    let e = element(units, places, at, i);
+    let m = whole(units, e);
     put_held(slots, lines, pc, Held { at: e, marks: m });
 }
 
 // The n parts after the first, one to three, wait at the lines from one on.
+#[tactic(auto, using(crate::proofs::Laws::keep_rules))]
 pub fn keep(
-    s: &[i32],
+    units: Units,
     places: &Places,
     at: usize,
     from: usize,
@@ -64,20 +65,19 @@ pub fn keep(
     lines: &Lines,
     slots: &mut Slots,
 )
-    requires fact_1 { Target s.now }
-    requires fact_2 { Placed s.now places.now }
-    requires fact_3 { Tag s.now at }
-    requires fact_4 { (n < count_at s.now at) × (0 < n) × (n < 4) }
-    requires fact_5 { Parts (columns_of lines.now).arg slots.old from n }
-    ensures { view_of (columns_of lines.now).arg slots.new ≡ parts_in s.now at from n (view_of (columns_of lines.now).arg slots.old) }
+    requires placed { Placed units.words.now places.now }
+    requires tag { Tag units.words.now at }
+    requires parts_wide { (n < count_at units.words.now at) × (0 < n) × (n < 4) }
+    requires parts { Parts (columns_of lines.now).arg slots.old from n }
+    ensures { view_of (columns_of lines.now).arg slots.new ≡ parts_in units.entry.words.now at from n (view_of (columns_of lines.now).arg slots.old) }
 {
-    put_part(s, places, at, 1, from, lines, slots);
+    put_part(units, places, at, 1, from, lines, slots);
     if n < 2 {
         return;
     }
-    put_part(s, places, at, 2, from + 1, lines, slots);
+    put_part(units, places, at, 2, from + 1, lines, slots);
     if n < 3 {
         return;
     }
-    put_part(s, places, at, 3, from + 2, lines, slots);
+    put_part(units, places, at, 3, from + 2, lines, slots);
 }

@@ -15,14 +15,15 @@ use tables::instruction::{JOIN, MULTISET_CONS};
 use tables::line::{Lines, op_at, to_at};
 use tables::place::Places;
 use tables::slot::{Slots, frame_at, held_at, low_at, put_back};
-use value_places::places::{element, whole};
+use value_places::places::{Units, element, whole};
 use words::marks::{lowest, rest, without};
 
 // The next front and back of the join at a line.
+#[tactic(auto, using(crate::proofs::Laws::join_rules), unfolding(search_step::specs::Steps::moved, search_step::specs::Steps::topped))]
 fn join(mut x: State, pc: usize, lines: &Lines, slots: &mut Slots) -> State
-    requires fact_1 { Joins (view_of (columns_of lines.now).arg slots.old).wholes (view_of (columns_of lines.now).arg slots.old).lefts pc }
-    requires fact_2 { Slotted (columns_of lines.now).arg slots.old pc }
-    requires fact_3 { Alone (columns_of lines.now).arg pc }
+    requires joins { Joins (view_of (columns_of lines.now).arg slots.old).wholes (view_of (columns_of lines.now).arg slots.old).lefts pc }
+    requires slotted { Slotted (columns_of lines.now).arg slots.old pc }
+    requires alone { Alone (columns_of lines.now).arg pc }
     ensures { turned result (view_of (columns_of lines.now).arg slots.new) ≡ join_of pc x (view_of (columns_of lines.now).arg slots.old) }
 {
     let f = frame_at(slots, lines, pc);
@@ -41,28 +42,28 @@ fn join(mut x: State, pc: usize, lines: &Lines, slots: &mut Slots) -> State
 }
 
 // The next element of the cons at a line.
+#[tactic(auto, using(crate::proofs::Laws::cons_rules), unfolding(search_step::specs::Steps::moved, search_step::specs::Steps::topped))]
 fn cons(
     mut x: State,
     pc: usize,
-    s: &[i32],
+    units: Units,
     places: &Places,
     lines: &Lines,
     slots: &mut Slots,
 ) -> State
-    requires fact_1 { Target s.now }
-    requires fact_2 { Placed s.now places.now }
-    requires fact_3 { Conses s.now (view_of (columns_of lines.now).arg slots.old).ats (view_of (columns_of lines.now).arg slots.old).lefts pc }
-    requires fact_4 { Slotted (columns_of lines.now).arg slots.old pc }
-    requires fact_5 { Alone (columns_of lines.now).arg pc }
-    ensures { turned result (view_of (columns_of lines.now).arg slots.new) ≡ cons_of s.now pc x (view_of (columns_of lines.now).arg slots.old) }
+    requires placed { Placed units.words.now places.now }
+    requires conses { Conses units.words.now (view_of (columns_of lines.now).arg slots.old).ats (view_of (columns_of lines.now).arg slots.old).lefts pc }
+    requires slotted { Slotted (columns_of lines.now).arg slots.old pc }
+    requires alone { Alone (columns_of lines.now).arg pc }
+    ensures { turned result (view_of (columns_of lines.now).arg slots.new) ≡ cons_of units.entry.words.now pc x (view_of (columns_of lines.now).arg slots.old) }
 {
     let f = frame_at(slots, lines, pc);
     let t = f.at;
     let m = f.whole;
     let c = f.left;
     let k = lowest(c);
-    let e = element(s, places, t, k);
-    let a = whole(s, e);
+    let e = element(units, places, t, k);
+    let a = whole(units, e);
     let b = without(m, k);
     put_back(slots, lines, pc, b);
     x.pc = pc + 1;
@@ -76,9 +77,10 @@ fn cons(
 }
 
 // The frame of the or or not at a line is no longer open: the second side, or what follows the not.
+#[tactic(auto, using(crate::proofs::Laws::resume_rules), unfolding(search_step::specs::Steps::moved, search_step::specs::Steps::topped))]
 fn resume(mut x: State, o: u16, pc: usize, lines: &Lines, slots: &Slots) -> State
-    requires fact_1 { Slotted (columns_of lines.now).arg slots.now pc }
-    requires fact_2 { Slotted (columns_of lines.now).arg slots.now (get_or (columns_of lines.now).from pc 0) }
+    requires slotted { Slotted (columns_of lines.now).arg slots.now pc }
+    requires slotted_from { Slotted (columns_of lines.now).arg slots.now (get_or (columns_of lines.now).from pc 0) }
     ensures { result ≡ resumed_at o pc (columns_of lines.now).from (columns_of lines.now).to (view_of (columns_of lines.now).arg slots.now).ats (view_of (columns_of lines.now).arg slots.now).lows (view_of (columns_of lines.now).arg slots.now).backs x }
 {
     let i = slot_of(o, pc, lines);
@@ -92,12 +94,12 @@ fn resume(mut x: State, o: u16, pc: usize, lines: &Lines, slots: &Slots) -> Stat
 }
 
 // The next choice of the last open frame.
-pub fn pick(mut x: State, s: &[i32], places: &Places, lines: &Lines, slots: &mut Slots) -> State
-    requires fact_1 { Target s.now }
-    requires fact_2 { Placed s.now places.now }
-    requires fact_3 { Named (columns_of lines.now).op (columns_of lines.now).from (columns_of lines.now).arg slots.old }
-    requires fact_4 { Picks (columns_of lines.now).op s.now x.top (view_of (columns_of lines.now).arg slots.old).ats (view_of (columns_of lines.now).arg slots.old).wholes (view_of (columns_of lines.now).arg slots.old).lefts }
-    ensures { turned result (view_of (columns_of lines.now).arg slots.new) ≡ pick_of (columns_of lines.now).op (columns_of lines.now).from (columns_of lines.now).to s.now x (view_of (columns_of lines.now).arg slots.old) }
+#[tactic(auto, using(crate::proofs::Laws::pick_rules), unfolding(search_step::specs::Steps::lived))]
+pub fn pick(mut x: State, units: Units, places: &Places, lines: &Lines, slots: &mut Slots) -> State
+    requires placed { Placed units.words.now places.now }
+    requires named { Named (columns_of lines.now).op (columns_of lines.now).from (columns_of lines.now).arg slots.old }
+    requires picks { Picks (columns_of lines.now).op units.words.now x.top (view_of (columns_of lines.now).arg slots.old).ats (view_of (columns_of lines.now).arg slots.old).wholes (view_of (columns_of lines.now).arg slots.old).lefts }
+    ensures { turned result (view_of (columns_of lines.now).arg slots.new) ≡ pick_of (columns_of lines.now).op (columns_of lines.now).from (columns_of lines.now).to units.entry.words.now x (view_of (columns_of lines.now).arg slots.old) }
 {
     let top = x.top;
     if top == 0 {
@@ -112,20 +114,20 @@ pub fn pick(mut x: State, s: &[i32], places: &Places, lines: &Lines, slots: &mut
         }
         return resume(x, o, pc, lines, slots);
     }
-    cons(x, pc, s, places, lines, slots)
+    cons(x, pc, units, places, lines, slots)
 }
 
 // The next choice is taken where no state stands.
-pub fn settle(x: State, s: &[i32], places: &Places, lines: &Lines, slots: &mut Slots) -> State
-    requires fact_1 { Target s.now }
-    requires fact_2 { Placed s.now places.now }
-    requires fact_3 { Named (columns_of lines.now).op (columns_of lines.now).from (columns_of lines.now).arg slots.old }
-    requires fact_4 { PicksIf x.live (columns_of lines.now).op s.now x.top (view_of (columns_of lines.now).arg slots.old).ats (view_of (columns_of lines.now).arg slots.old).wholes (view_of (columns_of lines.now).arg slots.old).lefts }
-    ensures { turned result (view_of (columns_of lines.now).arg slots.new) ≡ settle_of (columns_of lines.now).op (columns_of lines.now).from (columns_of lines.now).to s.now x (view_of (columns_of lines.now).arg slots.old) }
+#[tactic(auto, using(crate::proofs::Laws::settle_rules), unfolding(crate::specs::Choices::settle_of))]
+pub fn settle(x: State, units: Units, places: &Places, lines: &Lines, slots: &mut Slots) -> State
+    requires placed { Placed units.words.now places.now }
+    requires named { Named (columns_of lines.now).op (columns_of lines.now).from (columns_of lines.now).arg slots.old }
+    requires picks_if { PicksIf x.live (columns_of lines.now).op units.words.now x.top (view_of (columns_of lines.now).arg slots.old).ats (view_of (columns_of lines.now).arg slots.old).wholes (view_of (columns_of lines.now).arg slots.old).lefts }
+    ensures { turned result (view_of (columns_of lines.now).arg slots.new) ≡ settle_of (columns_of lines.now).op (columns_of lines.now).from (columns_of lines.now).to units.entry.words.now x (view_of (columns_of lines.now).arg slots.old) }
 {
     let live = x.live;
     if live == CHOOSES {
-        return pick(x, s, places, lines, slots);
+        return pick(x, units, places, lines, slots);
     }
     x
 }

@@ -17,7 +17,7 @@ use tables::line::{Lines, arg_at, con_at, op_at};
 use tables::place::{Places, base_at, place_at};
 use tables::slot::{Slots, frame_at, put_left};
 use told::{Shape, Words, but_of, put_row, row_words, told_of, word_of};
-use value_places::places::number_at;
+use value_places::places::{Units, number_at};
 use value_rows::{Binding, Bindings, VARIABLES};
 use words::is_total;
 use words::marks::{lowest, rest};
@@ -59,16 +59,15 @@ fn take_sums(
     budget: u64,
     shape: Shape,
     told: &Words,
-    s: &[i32],
+    units: Units,
     places: &Places,
     room: &mut [i32],
 ) -> Tally
-    requires fact_1 { Target s.now }
-    requires fact_2 { Placed s.now places.now }
-    requires fact_3 { Parts s.now part first.left }
-    requires fact_4 { Counts budget first room.old }
-    requires fact_5 { (part.op ≡ 5) × (shape.vars ≤ 16) × (length told.now ≡ 16) }
-    ensures { Told s.now shape.origins shape.vars part budget first told.now room.old result part.value room.new }
+    requires placed { Placed units.words.now places.now }
+    requires parts { Parts units.words.now part first.left }
+    requires counts { Counts budget first room.old }
+    requires leaf { (part.op ≡ 5) × (shape.vars ≤ 16) × (length told.now ≡ 16) }
+    ensures { Told units.entry.words.now shape.origins shape.vars part budget first told.now room.old result part.value room.new }
 {
     if budget < 4 {
         return first;
@@ -77,7 +76,7 @@ fn take_sums(
     let size = row_words(shape);
     let base = base_at(places, part.at);
     let g = part.value.at;
-    let number = s[g + 1];
+    let number = units.words[g + 1];
     let mut left = first.left;
     let mut steps = first.steps;
     let mut rows = first.rows;
@@ -89,7 +88,7 @@ fn take_sums(
         }
         let k = lowest(left);
         let e = place_at(places, base + k as usize);
-        let found = is_total(number, part.plus, s[e + 1]);
+        let found = is_total(number, part.plus, units.words[e + 1]);
         if found {
             if room.len() - words < size {
                 return tally_of(left, steps, rows, words);
@@ -129,16 +128,15 @@ fn take_all(
     budget: u64,
     shape: Shape,
     mut told: Words,
-    s: &[i32],
+    units: Units,
     places: &Places,
     room: &mut [i32],
 ) -> Taken
-    requires fact_1 { Target s.now }
-    requires fact_2 { Placed s.now places.now }
-    requires fact_3 { Parts s.now part first.left }
-    requires fact_4 { Counts budget first room.old }
-    requires fact_5 { (part.op ≡ 5 → ⊥) × (shape.vars ≤ 16) × (length told ≡ 16) }
-    ensures { Told s.now shape.origins shape.vars part budget first told room.old result.tally result.last room.new }
+    requires placed { Placed units.words.now places.now }
+    requires parts { Parts units.words.now part first.left }
+    requires counts { Counts budget first room.old }
+    requires leaf { (part.op ≡ 5 → ⊥) × (shape.vars ≤ 16) × (length told ≡ 16) }
+    ensures { Told units.entry.words.now shape.origins shape.vars part budget first told room.old result.tally result.last room.new }
 {
     let size = row_words(shape);
     let base = base_at(places, part.at);
@@ -158,12 +156,12 @@ fn take_all(
         if part.op == BIND {
             let k = lowest(left);
             let e = place_at(places, base + k as usize);
-            let tag = number_at(s, e);
+            let tag = number_at(units.words, e);
             if tag != 0 {
                 return taken_of(left, steps, rows, words, last);
             }
             let v = part.var;
-            told[v] = word_of(shape.origins, s, e);
+            told[v] = word_of(shape.origins, units.words, e);
             last = Binding { at: e, marks: 0 };
         }
         words = put_row(shape, &told, room, words);
@@ -201,23 +199,22 @@ pub fn take(
     i: usize,
     b: Bindings,
     by: Bounds,
-    s: &[i32],
+    units: Units,
     places: &Places,
     lines: &Lines,
     slots: &mut Slots,
     room: &mut [i32],
 ) -> Leaves
-    requires fact_1 { Target s.now }
-    requires fact_2 { Placed s.now places.now }
-    requires fact_3 { Takes s.now (columns_of lines.now).con by.shape.vars i (part_of (columns_of lines.now).op (columns_of lines.now).arg (columns_of lines.now).con i b x (view_of (columns_of lines.now).arg slots.old)) by.budget b x (view_of (columns_of lines.now).arg slots.old) room.old }
-    requires fact_4 { Slotted (columns_of lines.now).arg slots.old (x.top - 1) }
-    requires fact_5 { Alone (columns_of lines.now).arg (x.top - 1) }
-    ensures { None (part_of (columns_of lines.now).op (columns_of lines.now).arg (columns_of lines.now).con i b x (view_of (columns_of lines.now).arg slots.old)) x (view_of (columns_of lines.now).arg slots.old) room.old result.state (view_of (columns_of lines.now).arg slots.new) result.last room.new ⊎ Took s.now by.shape.origins by.shape.vars (part_of (columns_of lines.now).op (columns_of lines.now).arg (columns_of lines.now).con i b x (view_of (columns_of lines.now).arg slots.old)) by.budget b x (view_of (columns_of lines.now).arg slots.old) room.old result.state (view_of (columns_of lines.now).arg slots.new) result.last room.new }
+    requires placed { Placed units.words.now places.now }
+    requires takes { Takes units.words.now (columns_of lines.now).con by.shape.vars i (part_of (columns_of lines.now).op (columns_of lines.now).arg (columns_of lines.now).con i b x (view_of (columns_of lines.now).arg slots.old)) by.budget b x (view_of (columns_of lines.now).arg slots.old) room.old }
+    requires slotted { Slotted (columns_of lines.now).arg slots.old (x.top - 1) }
+    requires alone { Alone (columns_of lines.now).arg (x.top - 1) }
+    ensures { None (part_of (columns_of lines.now).op (columns_of lines.now).arg (columns_of lines.now).con i b x (view_of (columns_of lines.now).arg slots.old)) x (view_of (columns_of lines.now).arg slots.old) room.old result.state (view_of (columns_of lines.now).arg slots.new) result.last room.new ⊎ Took units.entry.words.now by.shape.origins by.shape.vars (part_of (columns_of lines.now).op (columns_of lines.now).arg (columns_of lines.now).con i b x (view_of (columns_of lines.now).arg slots.old)) by.budget b x (view_of (columns_of lines.now).arg slots.old) room.old result.state (view_of (columns_of lines.now).arg slots.new) result.last room.new }
 {
     let o = op_at(lines, i);
     let v = arg_at(lines, i);
     let mut words = [0i32; VARIABLES];
-    let told = told_of(by.shape, b, v, but_of(o, v), s, &mut words);
+    let told = told_of(by.shape, b, v, but_of(o, v), units, &mut words);
     let y = told.value;
     if !told.all {
         return Leaves { state: x, last: y };
@@ -240,9 +237,11 @@ pub fn take(
     let mut t = first;
     let mut last = y;
     if o == SUM {
-        t = take_sums(first, part, by.budget, by.shape, &words, s, places, room);
+        t = take_sums(
+            first, part, by.budget, by.shape, &words, units, places, room,
+        );
     } else {
-        let r = take_all(first, part, by.budget, by.shape, words, s, places, room);
+        let r = take_all(first, part, by.budget, by.shape, words, units, places, room);
         t = r.tally;
         last = r.last;
     }

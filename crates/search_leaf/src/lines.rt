@@ -29,9 +29,10 @@ fn is_long(m: u64) -> bool
 }
 
 // The line at which the first part, which starts at a line, is tested or bound; 0 where it is neither.
+#[tactic(auto, using(crate::proofs::Ends::tested_rules))]
 fn tested_at(top: usize, lines: &Lines) -> usize
-    requires fact_1 { top < entries }
-    requires fact_2 { Ends (columns_of lines.now).op (columns_of lines.now).to }
+    requires line { top < entries }
+    requires ends { Ends (columns_of lines.now).op (columns_of lines.now).to }
     ensures { 0 < result → Tested (columns_of lines.now).op top result }
 {
     let o = op_at(lines, top);
@@ -52,9 +53,10 @@ fn tested_at(top: usize, lines: &Lines) -> usize
 }
 
 // Whether behind a line only a wildcard is left.
+#[tactic(auto, using(crate::proofs::Ends::last_rules))]
 fn is_last(i: usize, lines: &Lines) -> bool
-    requires fact_1 { i < entries }
-    requires fact_2 { Ends (columns_of lines.now).op (columns_of lines.now).to }
+    requires line { i < entries }
+    requires ends { Ends (columns_of lines.now).op (columns_of lines.now).to }
     ensures { result ≡ true → Last (columns_of lines.now).op (columns_of lines.now).to i }
 {
     let a = to_at(lines, i);

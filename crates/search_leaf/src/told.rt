@@ -6,7 +6,7 @@ ghost use Rattle.value_rows.specs.Row.{Bound, nothing};
 ghost use Rattle.search_leaf.specs.Told.{word_of, entry_of, row_of, size_of, Tells, but_of};
 
 use tables::instruction::BIND;
-use value_places::places::number_at;
+use value_places::places::{Units, number_at};
 use value_rows::{Binding, Bindings, VARIABLES};
 
 // How many variables a row tells, and whether it tells origins.
@@ -26,6 +26,7 @@ pub struct Told {
 }
 
 // An index as a word.
+#[tactic(auto, using(value_rows::proofs::Halves::index_rules))]
 fn index_word(at: usize) -> i32
     requires { at < 1024 }
     ensures { result ≡ pos at }
@@ -34,6 +35,7 @@ fn index_word(at: usize) -> i32
 }
 
 // The word of the integer at an index: its place, or its number.
+#[tactic(auto, using(crate::proofs::Words::word_rules))]
 pub fn word_of(origins: bool, s: &[i32], at: usize) -> i32
     requires { (at < 1024) × (at + 1 < length s.now) }
     ensures { result ≡ word_of origins s.now at }
@@ -50,27 +52,26 @@ pub fn told_of(
     b: Bindings,
     var: usize,
     but: usize,
-    s: &[i32],
+    units: Units,
     words: &mut Words,
 ) -> Told
-    requires fact_1 { Target s.now }
-    requires fact_2 { Bound s.now b shape.vars }
-    requires fact_3 { (var < 16) × (length words.old ≡ 16) }
-    ensures fact_1 { result.value ≡ get_or b var nothing }
-    ensures fact_2 { (result.all ≡ true → Tells shape.origins s.now b shape.vars but words.new) }
+    requires bound { Bound units.words.now b shape.vars }
+    requires variable { (var < 16) × (length words.old ≡ 16) }
+    ensures value { result.value ≡ get_or b var nothing }
+    ensures tells { (result.all ≡ true → Tells shape.origins units.entry.words.now b shape.vars but words.new) }
 {
     let value = b[var];
     for v in 0..shape.vars {
         if v != but {
             let at = b[v].at;
-            let tag = number_at(s, at);
+            let tag = number_at(units.words, at);
             if tag != 0 {
                 return Told {
                     all: false,
                     value: value,
                 };
             }
-            words[v] = word_of(shape.origins, s, at);
+            words[v] = word_of(shape.origins, units.words, at);
         }
     }
     Told {
@@ -80,6 +81,7 @@ pub fn told_of(
 }
 
 // The variable that a line binds, whose word is not asked for; or none.
+#[tactic(auto, using(crate::proofs::Words::but_rules))]
 pub fn but_of(op: u16, v: usize) -> usize
     ensures { result ≡ but_of op v }
 {
@@ -119,6 +121,7 @@ pub fn put_row(shape: Shape, told: &Words, room: &mut [i32], from: usize) -> usi
 }
 
 // How many words a row has.
+#[tactic(auto, using(crate::proofs::Words::size_rules))]
 pub fn row_words(shape: Shape) -> usize
     requires { shape.vars ≤ 16 }
     ensures { result ≡ size_of shape.origins shape.vars }

@@ -15,6 +15,7 @@ use tables::instruction::NOT;
 use tables::line::{Lines, op_at};
 use tables::place::Places;
 use tables::slot::Slots;
+use value_places::places::Units;
 use value_rows::Binding;
 
 // What has come of a state: `spent` says that the budget ended in the search inside a not.
@@ -26,22 +27,23 @@ pub struct Taken {
 }
 
 // One step from the state that stands.
+#[tactic(auto, using(crate::proofs::Heads::own_rules))]
 fn once(
     x: State,
     given: [Binding; 16],
     terms: Terms,
     mt: &[i32],
-    s: &[i32],
+    units: Units,
     places: &Places,
     lines: &Lines,
     slots: &mut Slots,
     room: &mut [i32],
 ) -> Progress
-    requires fact_1 { Given s.now places.now }
-    requires fact_2 { Fine (env_by (columns_of lines.now) mt.now s.now terms) }
-    requires fact_3 { Valid (env_by (columns_of lines.now) mt.now s.now terms) (run x (view_of (columns_of lines.now).arg slots.old) given room.old) }
-    requires fact_4 { x.steps + 1 < 2 ^ 64 }
-    ensures { run result.state (view_of (columns_of lines.now).arg slots.new) result.binds room.new ≡ run_of (env_by (columns_of lines.now) mt.now s.now terms) 1 (run x (view_of (columns_of lines.now).arg slots.old) given room.old) }
+    requires given { Given units.words.now places.now }
+    requires fine { Fine (env_by (columns_of lines.now) mt.now units.words.now terms) }
+    requires valid { Valid (env_by (columns_of lines.now) mt.now units.words.now terms) (run x (view_of (columns_of lines.now).arg slots.old) given room.old) }
+    requires steps_fit { x.steps + 1 < 2 ^ 64 }
+    ensures { run result.state (view_of (columns_of lines.now).arg slots.new) result.binds room.new ≡ run_of (env_by (columns_of lines.now) mt.now units.entry.words.now terms) 1 (run x (view_of (columns_of lines.now).arg slots.old) given room.old) }
 {
     let one = Terms {
         budget: x.steps + 1,
@@ -54,7 +56,7 @@ fn once(
         state: x,
         binds: given,
     };
-    advance(from, one, mt, s, places, lines, slots, room)
+    advance(from, one, mt, units, places, lines, slots, room)
 }
 
 // The search inside a not goes on while a frame is open.
@@ -63,16 +65,16 @@ fn leave_not(
     given: [Binding; 16],
     terms: Terms,
     mt: &[i32],
-    s: &[i32],
+    units: Units,
     places: &Places,
     lines: &Lines,
     slots: &mut Slots,
     room: &mut [i32],
 ) -> Taken
-    requires fact_1 { Given s.now places.now }
-    requires fact_2 { Inside (env_by (columns_of lines.now) mt.now s.now terms) terms.budget first slots.old given room.old }
-    requires fact_3 { terms.budget < 2 ^ 63 }
-    ensures { LeftBy (env_by (columns_of lines.now) mt.now s.now terms) terms.budget first slots.old given room.old result.spent result.state slots.new result.binds room.new }
+    requires given { Given units.words.now places.now }
+    requires inside { Inside (env_by (columns_of lines.now) mt.now units.words.now terms) terms.budget first slots.old given room.old }
+    requires budget_fits { terms.budget < 2 ^ 63 }
+    ensures { LeftBy (env_by (columns_of lines.now) mt.now units.entry.words.now terms) terms.budget first slots.old given room.old result.spent result.state slots.new result.binds room.new }
 {
     let mut x = first;
     let mut b = given;
@@ -91,7 +93,7 @@ fn leave_not(
                 spent: true,
             };
         }
-        let f = once(x, b, terms, mt, s, places, lines, slots, room);
+        let f = once(x, b, terms, mt, units, places, lines, slots, room);
         let c = f.binds;
         x = f.state;
         b = c;
@@ -104,6 +106,7 @@ fn leave_not(
 }
 
 // The first state of the r-th list, alone.
+#[tactic(auto, using(crate::proofs::Heads::own_rules))]
 fn alone_of(x: State, r: usize, table: &[i32]) -> State
     requires { 825 * r + 825 ≤ length table.now }
     ensures { result ≡ alone_in table.now r x }
@@ -124,6 +127,7 @@ fn alone_of(x: State, r: usize, table: &[i32]) -> State
 }
 
 // The first state of the r-th list is taken up.
+#[tactic(auto, using(crate::proofs::Heads::own_rules))]
 pub fn take_first(
     x: State,
     given: [Binding; 16],
@@ -131,26 +135,26 @@ pub fn take_first(
     terms: Terms,
     used: usize,
     mt: &[i32],
-    s: &[i32],
+    units: Units,
     places: &Places,
     lines: &Lines,
     slots: &mut Slots,
     table: &[i32],
     room: &mut [i32],
 ) -> Taken
-    requires fact_1 { Given s.now places.now }
-    requires fact_2 { Firsts (env_by (columns_of lines.now) mt.now s.now terms) used table.now r terms.budget x slots.old given room.old }
-    requires fact_3 { terms.budget < 2 ^ 63 }
-    ensures { TookBy (env_by (columns_of lines.now) mt.now s.now terms) used table.now r terms.budget x slots.old given room.old result.spent result.state slots.new result.binds room.new }
+    requires given { Given units.words.now places.now }
+    requires firsts { Firsts (env_by (columns_of lines.now) mt.now units.words.now terms) used table.now r terms.budget x slots.old given room.old }
+    requires budget_fits { terms.budget < 2 ^ 63 }
+    ensures { TookBy (env_by (columns_of lines.now) mt.now units.entry.words.now terms) used table.now r terms.budget x slots.old given room.old result.spent result.state slots.new result.binds room.new }
 {
     let b = take_out(table, r, terms.vars, used, given, slots);
     let y = alone_of(x, r, table);
     let o = op_at(lines, y.pc);
-    let f = once(y, b, terms, mt, s, places, lines, slots, room);
+    let f = once(y, b, terms, mt, units, places, lines, slots, room);
     let z = f.state;
     let c = f.binds;
     if o == NOT {
-        return leave_not(z, c, terms, mt, s, places, lines, slots, room);
+        return leave_not(z, c, terms, mt, units, places, lines, slots, room);
     }
     Taken {
         state: z,

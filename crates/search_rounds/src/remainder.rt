@@ -14,9 +14,11 @@ use search_step::{CHOOSES, State};
 use tables::line::Lines;
 use tables::place::Places;
 use tables::slot::Slots;
+use value_places::places::Units;
 use value_rows::Binding;
 
 // The state at the head of the r-th list, with its frame open; the next choice is still to be taken.
+#[tactic(auto, using(crate::proofs::Laws::own_rules))]
 fn head_of(x: State, r: usize, table: &[i32]) -> State
     requires { 825 * r + 825 ≤ length table.now }
     ensures { result ≡ head_in table.now r x }
@@ -38,6 +40,7 @@ fn head_of(x: State, r: usize, table: &[i32]) -> State
 }
 
 // The remainder of the r-th list, of which an open frame is left, is kept as another.
+#[tactic(auto, using(crate::proofs::Laws::own_rules))]
 pub fn remain(
     x: State,
     given: [Binding; 16],
@@ -46,21 +49,21 @@ pub fn remain(
     terms: Terms,
     used: usize,
     mt: &[i32],
-    s: &[i32],
+    units: Units,
     places: &Places,
     lines: &Lines,
     slots: &mut Slots,
     table: &mut [i32],
 ) -> [Binding; 16]
-    requires fact_1 { Given s.now places.now }
-    requires fact_2 { Listed (env_by (columns_of lines.now) mt.now s.now terms) used table.old r to x slots.old given }
-    ensures { Remained (env_by (columns_of lines.now) mt.now s.now terms) used table.old table.new r to slots.old slots.new given result }
+    requires given { Given units.words.now places.now }
+    requires listed { Listed (env_by (columns_of lines.now) mt.now units.words.now terms) used table.old r to x slots.old given }
+    ensures { Remained (env_by (columns_of lines.now) mt.now units.entry.words.now terms) used table.old table.new r to slots.old slots.new given result }
 {
     let n = terms.vars;
     let b = take_out(table, r, n, used, given, slots);
     let y = head_of(x, r, table);
     reopen(table, r, y.top - 1, lines, slots);
-    let z = settle(y, s, places, lines, slots);
+    let z = settle(y, units, places, lines, slots);
     keep(z, b, to, n, used, lines, slots, table);
     b
 }

@@ -17,6 +17,7 @@ use tables::instruction::{MULTISET_CONS, PAIR, SUM};
 use tables::line::{Lines, con_at, from_at, op_at, to_at};
 use tables::place::Places;
 use tables::slot::Slots;
+use value_places::places::Units;
 
 // The line at which the first part starts; the line that asks for an integer, 0 where there is none; and the one that asks for the second part of a pair
 // after it, the same where there is none.
@@ -28,6 +29,7 @@ pub struct Asking {
 }
 
 // The line that asks, where the next choice is that of a multiset's cons: the first part's own, or that of a pair's first part.
+#[tactic(auto, using(crate::proofs::Lines::first_rules))]
 fn first_at(x: State, lines: &Lines) -> usize
     requires { Opens (columns_of lines.now).op (columns_of lines.now).to x }
     ensures { result ≡ first_of (columns_of lines.now).op x }
@@ -59,6 +61,7 @@ fn first_at(x: State, lines: &Lines) -> usize
 }
 
 // The line that asks after line i, for what waits at the pair's line.
+#[tactic(auto, using(crate::proofs::Lines::second_rules))]
 fn second_at(top: usize, i: usize, lines: &Lines) -> usize
     requires { top < i → (i < entries) × (get_or (columns_of lines.now).to i 0 < entries) }
     ensures { result ≡ second_of (columns_of lines.now).op (columns_of lines.now).from (columns_of lines.now).to top i }
@@ -79,6 +82,7 @@ fn second_at(top: usize, i: usize, lines: &Lines) -> usize
 }
 
 // The lines of the next choice that ask.
+#[tactic(auto, using(crate::proofs::Lines::asked_rules))]
 pub fn asked_at(x: State, lines: &Lines) -> Asking
     requires { Opens (columns_of lines.now).op (columns_of lines.now).to x }
     ensures { result ≡ asked_of (columns_of lines.now).op (columns_of lines.now).from (columns_of lines.now).to x }
@@ -92,9 +96,10 @@ pub fn asked_at(x: State, lines: &Lines) -> Asking
 }
 
 // What a pair is asked for, by the lines that ask and the integers at g and at h; both: whether there are two lines.
+#[tactic(auto, using(crate::proofs::Lines::asked_rules))]
 fn wanted(a: Asking, g: usize, h: usize, both: bool, lines: &Lines) -> Wanted
-    requires fact_1 { (a.first < entries) × (a.second < entries) }
-    requires fact_2 { (a.first < length (columns_of lines.now).con) × (a.second < length (columns_of lines.now).con) }
+    requires lines { (a.first < entries) × (a.second < entries) }
+    requires constants { (a.first < length (columns_of lines.now).con) × (a.second < length (columns_of lines.now).con) }
     ensures { result ≡ wanted_by (columns_of lines.now).con a g h both }
 {
     let c = con_at(lines, a.first);
@@ -113,24 +118,23 @@ pub fn pass(
     g: usize,
     h: usize,
     budget: u64,
-    s: &[i32],
+    units: Units,
     places: &Places,
     lines: &Lines,
     slots: &mut Slots,
 ) -> u64
-    requires fact_1 { Target s.now }
-    requires fact_2 { Placed s.now places.now }
-    requires fact_3 { Seeking s.now (columns_of lines.now).con (columns_of lines.now).arg slots.old a g h budget begun }
-    ensures fact_1 { (a.first ≡ a.part → Over s.now (columns_of lines.now).con g budget a.part begun (view_of (columns_of lines.now).arg slots.old) result (view_of (columns_of lines.now).arg slots.new)) }
-    ensures fact_2 { ((a.first ≡ a.part → ⊥) → OverPairs s.now (wanted_of (columns_of lines.now).con a g h) budget a.part begun (view_of (columns_of lines.now).arg slots.old) result (view_of (columns_of lines.now).arg slots.new)) }
+    requires placed { Placed units.words.now places.now }
+    requires seeking { Seeking units.words.now (columns_of lines.now).con (columns_of lines.now).arg slots.old a g h budget begun }
+    ensures integers { (a.first ≡ a.part → Over units.entry.words.now (columns_of lines.now).con g budget a.part begun (view_of (columns_of lines.now).arg slots.old) result (view_of (columns_of lines.now).arg slots.new)) }
+    ensures pairs { ((a.first ≡ a.part → ⊥) → OverPairs units.entry.words.now (wanted_of (columns_of lines.now).con a g h) budget a.part begun (view_of (columns_of lines.now).arg slots.old) result (view_of (columns_of lines.now).arg slots.new)) }
 {
     if a.first == a.part {
-        return pass_over(a.part, begun, g, budget, s, places, lines, slots);
+        return pass_over(a.part, begun, g, budget, units, places, lines, slots);
     }
     if a.first == a.second {
         let one = wanted(a, g, h, false, lines);
-        return pass_pairs(a.part, begun, one, budget, s, places, lines, slots);
+        return pass_pairs(a.part, begun, one, budget, units, places, lines, slots);
     }
     let two = wanted(a, g, h, true, lines);
-    pass_pairs(a.part, begun, two, budget, s, places, lines, slots)
+    pass_pairs(a.part, begun, two, budget, units, places, lines, slots)
 }

@@ -16,7 +16,7 @@ use tables::line::{Lines, con_at};
 use tables::place::Places;
 use tables::slot::{Slots, frame_at, put_left};
 use value_equality::is_sum;
-use value_places::places::element;
+use value_places::places::{Units, element};
 use words::marks::{lowest, rest};
 
 // The choices left, and the steps taken.
@@ -27,28 +27,28 @@ pub struct Sought {
 }
 
 // The choices of the collection at an index are passed over, the lowest first, up to one that is the integer at g plus c, to the last, or to the budget.
+#[tactic(auto, using(crate::proofs::Laws::seek_rules))]
 pub fn seek(
     first: Sought,
     at: usize,
     g: usize,
     c: i32,
     budget: u64,
-    s: &[i32],
+    units: Units,
     places: &Places,
 ) -> Sought
-    requires fact_1 { Target s.now }
-    requires fact_2 { Placed s.now places.now }
-    requires fact_3 { Held s.now at first.left }
-    requires fact_4 { (0 < first.left) × (g + 1 < length s.now) × (first.steps ≤ budget) }
-    ensures { Passed s.now at g c first.left first.steps result.left result.steps × (result.steps ≤ budget) }
+    requires placed { Placed units.words.now places.now }
+    requires held { Held units.words.now at first.left }
+    requires counted { (0 < first.left) × (g + 1 < length units.words.now) × (first.steps ≤ budget) }
+    ensures { Passed units.entry.words.now at g c first.left first.steps result.left result.steps × (result.steps ≤ budget) }
 {
     let mut left = first.left;
     let mut steps = first.steps;
     let mut more = rest(left);
     while 0 < more {
         let k = lowest(left);
-        let e = element(s, places, at, k);
-        let found = is_sum(s, g, c, e);
+        let e = element(units, places, at, k);
+        let found = is_sum(units.words, g, c, e);
         if found {
             return Sought {
                 left: left,
@@ -77,17 +77,16 @@ pub fn pass_over(
     begun: u64,
     g: usize,
     budget: u64,
-    s: &[i32],
+    units: Units,
     places: &Places,
     lines: &Lines,
     slots: &mut Slots,
 ) -> u64
-    requires fact_1 { Target s.now }
-    requires fact_2 { Placed s.now places.now }
-    requires fact_3 { Seeks s.now (columns_of lines.now).con g budget top begun (view_of (columns_of lines.now).arg slots.old) }
-    requires fact_4 { Slotted (columns_of lines.now).arg slots.old (top - 1) }
-    requires fact_5 { Alone (columns_of lines.now).arg (top - 1) }
-    ensures { Over s.now (columns_of lines.now).con g budget top begun (view_of (columns_of lines.now).arg slots.old) result (view_of (columns_of lines.now).arg slots.new) }
+    requires placed { Placed units.words.now places.now }
+    requires seeks { Seeks units.words.now (columns_of lines.now).con g budget top begun (view_of (columns_of lines.now).arg slots.old) }
+    requires slotted { Slotted (columns_of lines.now).arg slots.old (top - 1) }
+    requires alone { Alone (columns_of lines.now).arg (top - 1) }
+    ensures { Over units.entry.words.now (columns_of lines.now).con g budget top begun (view_of (columns_of lines.now).arg slots.old) result (view_of (columns_of lines.now).arg slots.new) }
 {
     let j = top - 1;
     let f = frame_at(slots, lines, j);
@@ -97,7 +96,7 @@ pub fn pass_over(
         left: f.left,
         steps: begun,
     };
-    let last = seek(first, at, g, c, budget, s, places);
+    let last = seek(first, at, g, c, budget, units, places);
     put_left(slots, lines, j, last.left);
     last.steps
 }

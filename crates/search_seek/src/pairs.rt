@@ -15,7 +15,7 @@ use tables::line::Lines;
 use tables::place::Places;
 use tables::slot::{Slots, frame_at, put_left};
 use value_equality::is_sum;
-use value_places::places::element;
+use value_places::places::{Units, element};
 use words::marks::{lowest, rest};
 
 // An integer that is asked for: the one at an index, plus a constant.
@@ -35,26 +35,26 @@ pub struct Wanted {
 
 // The steps of a value that fails: two at the first part of a pair, which stands after its two words; three at its second. 0 where it does not fail, or is
 // no pair.
-fn cost(e: usize, w: Wanted, s: &[i32], places: &Places) -> u64
-    requires fact_1 { Target s.now }
-    requires fact_2 { Placed s.now places.now }
-    requires fact_3 { Tag s.now e }
-    requires fact_4 { Integers s.now w }
-    ensures { result ≡ cost_of s.now w e }
+#[tactic(auto, using(crate::proofs::Passing::cost_rules))]
+fn cost(e: usize, w: Wanted, units: Units, places: &Places) -> u64
+    requires placed { Placed units.words.now places.now }
+    requires tag { Tag units.words.now e }
+    requires integers { Integers units.words.now w }
+    ensures { result ≡ cost_of units.entry.words.now w e }
 {
-    let fits = is_wide(s, e, 1);
+    let fits = is_wide(units, e, 1);
     if !fits {
         return 0;
     }
-    let first = is_sum(s, w.first.at, w.first.plus, e + 2);
+    let first = is_sum(units.words, w.first.at, w.first.plus, e + 2);
     if !first {
         return 2;
     }
     if !w.both {
         return 0;
     }
-    let b = element(s, places, e, 1);
-    let second = is_sum(s, w.second.at, w.second.plus, b);
+    let b = element(units, places, e, 1);
+    let second = is_sum(units.words, w.second.at, w.second.plus, b);
     if second {
         return 0;
     }
@@ -70,20 +70,20 @@ pub struct Passing {
 }
 
 // The choices of the collection at an index are passed over, the lowest first, up to one that does not fail, to the last, or to the budget.
+#[tactic(auto, using(crate::proofs::Passing::pair_rules))]
 pub fn seek_pairs(
     first: Sought,
     at: usize,
     w: Wanted,
     budget: u64,
-    s: &[i32],
+    units: Units,
     places: &Places,
 ) -> Passing
-    requires fact_1 { Target s.now }
-    requires fact_2 { Placed s.now places.now }
-    requires fact_3 { Integers s.now w }
-    requires fact_4 { Held s.now at first.left }
-    requires fact_5 { (0 < first.left) × (first.steps ≤ budget) }
-    ensures { PassedPairs s.now at w first.left first.steps result.left result.steps result.last × (result.steps ≤ budget) }
+    requires placed { Placed units.words.now places.now }
+    requires integers { Integers units.words.now w }
+    requires held { Held units.words.now at first.left }
+    requires counted { (0 < first.left) × (first.steps ≤ budget) }
+    ensures { PassedPairs units.entry.words.now at w first.left first.steps result.left result.steps result.last × (result.steps ≤ budget) }
 {
     let mut left = first.left;
     let mut steps = first.steps;
@@ -91,8 +91,8 @@ pub fn seek_pairs(
     let mut more = rest(left);
     while 0 < more {
         let k = lowest(left);
-        let e = element(s, places, at, k);
-        let n = cost(e, w, s, places);
+        let e = element(units, places, at, k);
+        let n = cost(e, w, units, places);
         if n == 0 {
             return Passing {
                 left: left,
@@ -125,17 +125,16 @@ pub fn pass_pairs(
     begun: u64,
     w: Wanted,
     budget: u64,
-    s: &[i32],
+    units: Units,
     places: &Places,
     lines: &Lines,
     slots: &mut Slots,
 ) -> u64
-    requires fact_1 { Target s.now }
-    requires fact_2 { Placed s.now places.now }
-    requires fact_3 { SeeksPairs s.now w budget top begun (view_of (columns_of lines.now).arg slots.old) }
-    requires fact_4 { Slotted (columns_of lines.now).arg slots.old (top - 1) }
-    requires fact_5 { Alone (columns_of lines.now).arg (top - 1) × Parts (columns_of lines.now).arg slots.old top 1 }
-    ensures { OverPairs s.now w budget top begun (view_of (columns_of lines.now).arg slots.old) result (view_of (columns_of lines.now).arg slots.new) }
+    requires placed { Placed units.words.now places.now }
+    requires seeks_pairs { SeeksPairs units.words.now w budget top begun (view_of (columns_of lines.now).arg slots.old) }
+    requires slotted { Slotted (columns_of lines.now).arg slots.old (top - 1) }
+    requires alone { Alone (columns_of lines.now).arg (top - 1) × Parts (columns_of lines.now).arg slots.old top 1 }
+    ensures { OverPairs units.entry.words.now w budget top begun (view_of (columns_of lines.now).arg slots.old) result (view_of (columns_of lines.now).arg slots.new) }
 {
     let j = top - 1;
     let f = frame_at(slots, lines, j);
@@ -143,11 +142,11 @@ pub fn pass_pairs(
         left: f.left,
         steps: begun,
     };
-    let r = seek_pairs(first, f.at, w, budget, s, places);
+    let r = seek_pairs(first, f.at, w, budget, units, places);
     if r.last == 0 {
         return begun;
     }
-    keep(s, places, r.last, top, 1, lines, slots);
+    keep(units, places, r.last, top, 1, lines, slots);
     put_left(slots, lines, j, r.left);
     r.steps
 }

@@ -18,7 +18,7 @@ use tables::instruction::{AND, JOIN, LIST_CONS, NIL, SAME};
 use tables::line::{Lines, from_at, op_at, to_at};
 use tables::place::Places;
 use tables::slot::{Frame, Slots, held_at, put_back, put_frame};
-use value_places::places::{element, whole};
+use value_places::places::{Units, element, whole};
 use words::marks::{lowest, one, rest};
 
 // How a run goes on, `live`: no state is left; the state at pc stands; the next state is the next choice of the last open frame; a row did not fit.
@@ -52,9 +52,10 @@ pub struct Asked {
 
 impl State {
     // The atom is dropped: the next one in prefix order, whose value waits in a slot.
+    #[tactic(auto, using(crate::proofs::Laws::drop_rules), unfolding(crate::specs::Steps::moved))]
     fn drop(mut self, lines: &Lines, slots: &Slots) -> State
-        requires fact_1 { self.pc < entries }
-        requires fact_2 { Slotted (columns_of lines.now).arg slots.now (get_or (columns_of lines.now).from self.pc 0) }
+        requires line { self.pc < entries }
+        requires slotted_from { Slotted (columns_of lines.now).arg slots.now (get_or (columns_of lines.now).from self.pc 0) }
         ensures { result ≡ dropped (columns_of lines.now).from (columns_of lines.now).to (view_of (columns_of lines.now).arg slots.now).ats (view_of (columns_of lines.now).arg slots.now).backs self }
     {
         let pc = self.pc;
@@ -68,11 +69,12 @@ impl State {
     }
 
     // A frame is opened at pc.
+    #[tactic(auto, using(crate::proofs::Laws::push_rules), unfolding(crate::specs::Steps::pushed))]
     fn push(mut self, choices: u64, lines: &Lines, slots: &mut Slots) -> State
-        requires fact_1 { Slotted (columns_of lines.now).arg slots.old self.pc }
-        requires fact_2 { Alone (columns_of lines.now).arg self.pc }
-        ensures fact_1 { result ≡ pushed self }
-        ensures fact_2 { (view_of (columns_of lines.now).arg slots.new) ≡ pushed_in choices self (view_of (columns_of lines.now).arg slots.old) }
+        requires slotted { Slotted (columns_of lines.now).arg slots.old self.pc }
+        requires alone { Alone (columns_of lines.now).arg self.pc }
+        ensures value { result ≡ pushed self }
+        ensures slots { (view_of (columns_of lines.now).arg slots.new) ≡ pushed_in choices self (view_of (columns_of lines.now).arg slots.old) }
     {
         let pc = self.pc;
         let top = self.top;
@@ -88,9 +90,10 @@ impl State {
     }
 
     // A cons or a join: the frame is opened, unless there is no choice.
+    #[tactic(auto, using(crate::proofs::Laws::split_rules), unfolding(crate::specs::Steps::lived, crate::specs::Steps::split_of))]
     fn split(mut self, o: u16, lines: &Lines, slots: &mut Slots) -> State
-        requires fact_1 { Slotted (columns_of lines.now).arg slots.old self.pc }
-        requires fact_2 { Alone (columns_of lines.now).arg self.pc }
+        requires slotted { Slotted (columns_of lines.now).arg slots.old self.pc }
+        requires alone { Alone (columns_of lines.now).arg self.pc }
         ensures { turned result (view_of (columns_of lines.now).arg slots.new) ≡ split_of o self (view_of (columns_of lines.now).arg slots.old) }
     {
         let m = self.marks;
@@ -104,13 +107,13 @@ impl State {
     }
 
     // A list's cons: its one choice is taken at once, and the frame is left as one that is no longer open.
-    fn head(mut self, s: &[i32], places: &Places, lines: &Lines, slots: &mut Slots) -> State
-        requires fact_1 { Target s.now }
-        requires fact_2 { Placed s.now places.now }
-        requires fact_3 { Held s.now self.at self.marks }
-        requires fact_4 { Slotted (columns_of lines.now).arg slots.old self.pc }
-        requires fact_5 { Alone (columns_of lines.now).arg self.pc }
-        ensures { turned result (view_of (columns_of lines.now).arg slots.new) ≡ head_of s.now self (view_of (columns_of lines.now).arg slots.old) }
+    #[tactic(auto, using(crate::proofs::Laws::head_rules), unfolding(crate::specs::Steps::lived, crate::specs::Steps::moved))]
+    fn head(mut self, units: Units, places: &Places, lines: &Lines, slots: &mut Slots) -> State
+        requires placed { Placed units.words.now places.now }
+        requires held { Held units.words.now self.at self.marks }
+        requires slotted { Slotted (columns_of lines.now).arg slots.old self.pc }
+        requires alone { Alone (columns_of lines.now).arg self.pc }
+        ensures { turned result (view_of (columns_of lines.now).arg slots.new) ≡ head_of units.entry.words.now self (view_of (columns_of lines.now).arg slots.old) }
     {
         let m = self.marks;
         if m == 0 {
@@ -127,38 +130,38 @@ impl State {
         };
         put_frame(slots, lines, pc, f, self.top);
         put_back(slots, lines, pc, rest(m));
-        let e = element(s, places, at, k);
+        let e = element(units, places, at, k);
         self.pc = pc + 1;
         self.at = e;
-        self.marks = whole(s, e);
+        self.marks = whole(units, e);
         self.live = STANDS;
         self
     }
 
     // A tuple: the first part is next, the others wait.
+    #[tactic(auto, using(crate::proofs::Laws::apart_rules), unfolding(crate::specs::Steps::lived, crate::specs::Steps::moved))]
     fn apart(
         mut self,
         o: u16,
-        s: &[i32],
+        units: Units,
         places: &Places,
         lines: &Lines,
         slots: &mut Slots,
     ) -> State
-        requires fact_1 { Target s.now }
-        requires fact_2 { Placed s.now places.now }
-        requires fact_3 { Aparts s.now o (columns_of lines.now).arg slots.old self }
-        ensures { turned result (view_of (columns_of lines.now).arg slots.new) ≡ apart_of s.now (o - 10) self (view_of (columns_of lines.now).arg slots.old) }
+        requires placed { Placed units.words.now places.now }
+        requires aparts { Aparts units.words.now o (columns_of lines.now).arg slots.old self }
+        ensures { turned result (view_of (columns_of lines.now).arg slots.new) ≡ apart_of units.entry.words.now (o - 10) self (view_of (columns_of lines.now).arg slots.old) }
     {
         let n = later(o);
         let at = self.at;
-        let fits = is_wide(s, at, n);
+        let fits = is_wide(units, at, n);
         if fits {
             let from = self.pc;
-            keep(s, places, at, from, n, lines, slots);
-            let first = element(s, places, at, 0);
+            keep(units, places, at, from, n, lines, slots);
+            let first = element(units, places, at, 0);
             self.pc = from + n;
             self.at = first;
-            self.marks = whole(s, first);
+            self.marks = whole(units, first);
             self.live = STANDS;
             return self;
         }
@@ -167,37 +170,44 @@ impl State {
     }
 
     // A cons, a join, a tuple; and, or, not.
-    fn divide(self, o: u16, s: &[i32], places: &Places, lines: &Lines, slots: &mut Slots) -> State
-        requires fact_1 { Target s.now }
-        requires fact_2 { Placed s.now places.now }
-        requires fact_3 { Divides s.now o (columns_of lines.now).from (columns_of lines.now).arg slots.old self }
-        ensures { turned result (view_of (columns_of lines.now).arg slots.new) ≡ divide_of s.now o (columns_of lines.now).from self (view_of (columns_of lines.now).arg slots.old) }
+    #[tactic(auto, using(crate::proofs::Laws::divide_rules))]
+    fn divide(
+        self,
+        o: u16,
+        units: Units,
+        places: &Places,
+        lines: &Lines,
+        slots: &mut Slots,
+    ) -> State
+        requires placed { Placed units.words.now places.now }
+        requires divides { Divides units.words.now o (columns_of lines.now).from (columns_of lines.now).arg slots.old self }
+        ensures { turned result (view_of (columns_of lines.now).arg slots.new) ≡ divide_of units.entry.words.now o (columns_of lines.now).from self (view_of (columns_of lines.now).arg slots.old) }
     {
         if JOIN < o {
             if o < AND {
-                return self.apart(o, s, places, lines, slots);
+                return self.apart(o, units, places, lines, slots);
             }
             return self.sides(o, lines, slots);
         }
         if o == LIST_CONS {
-            return self.head(s, places, lines, slots);
+            return self.head(units, places, lines, slots);
         }
         self.split(o, lines, slots)
     }
 
     // Takes up a state that has an atom left.
+    #[tactic(auto, using(crate::proofs::Laws::step_rules), unfolding(crate::specs::Steps::counted, crate::specs::Steps::lived, crate::specs::Steps::moved))]
     pub fn step(
         mut self,
         asked: Asked,
-        s: &[i32],
+        units: Units,
         places: &Places,
         lines: &Lines,
         slots: &mut Slots,
     ) -> State
-        requires fact_1 { Target s.now }
-        requires fact_2 { Placed s.now places.now }
-        requires fact_3 { Steps s.now (columns_of lines.now).op (columns_of lines.now).from (columns_of lines.now).arg (columns_of lines.now).con slots.old self }
-        ensures { turned result (view_of (columns_of lines.now).arg slots.new) ≡ step_of (columns_of lines.now).op (columns_of lines.now).from (columns_of lines.now).to (columns_of lines.now).con s.now asked.same self (view_of (columns_of lines.now).arg slots.old) }
+        requires placed { Placed units.words.now places.now }
+        requires steps { Steps units.words.now (columns_of lines.now).op (columns_of lines.now).from (columns_of lines.now).arg (columns_of lines.now).con slots.old self }
+        ensures { turned result (view_of (columns_of lines.now).arg slots.new) ≡ step_of (columns_of lines.now).op (columns_of lines.now).from (columns_of lines.now).to (columns_of lines.now).con units.entry.words.now asked.same self (view_of (columns_of lines.now).arg slots.old) }
     {
         let pc = self.pc;
         let o = op_at(lines, pc);
@@ -208,11 +218,11 @@ impl State {
             return self;
         }
         if NIL < o {
-            return self.divide(o, s, places, lines, slots);
+            return self.divide(o, units, places, lines, slots);
         }
         let at = self.at;
         let m = self.marks;
-        let ok = passes(o, asked.same, s, at, m, lines, pc);
+        let ok = passes(o, asked.same, units.words, at, m, lines, pc);
         if ok {
             return self.drop(lines, slots);
         }

@@ -12,11 +12,12 @@ use tables::slot::{Held, Slots, low_at, put_held, put_side};
 
 impl State {
     // And: the value waits for the second part; the first is next, on the same value.
+    #[tactic(auto, using(crate::proofs::Laws::both_rules), unfolding(crate::specs::Steps::kept_at, crate::specs::Steps::moved))]
     fn both(mut self, lines: &Lines, slots: &mut Slots) -> State
-        requires fact_1 { Slotted (columns_of lines.now).arg slots.old self.pc }
-        requires fact_2 { Alone (columns_of lines.now).arg self.pc }
-        ensures fact_1 { result ≡ kept_at self }
-        ensures fact_2 { (view_of (columns_of lines.now).arg slots.new) ≡ kept_in self (view_of (columns_of lines.now).arg slots.old) }
+        requires slotted { Slotted (columns_of lines.now).arg slots.old self.pc }
+        requires alone { Alone (columns_of lines.now).arg self.pc }
+        ensures value { result ≡ kept_at self }
+        ensures slots { (view_of (columns_of lines.now).arg slots.new) ≡ kept_in self (view_of (columns_of lines.now).arg slots.old) }
     {
         let pc = self.pc;
         let h = Held {
@@ -30,11 +31,12 @@ impl State {
     }
 
     // Or, not: a frame is opened at pc, with the value; what is inside is next, on the same value.
+    #[tactic(auto, using(crate::proofs::Laws::both_rules), unfolding(crate::specs::Steps::framed_at))]
     fn frame(mut self, lines: &Lines, slots: &mut Slots) -> State
-        requires fact_1 { Slotted (columns_of lines.now).arg slots.old self.pc }
-        requires fact_2 { Alone (columns_of lines.now).arg self.pc }
-        ensures fact_1 { result ≡ framed_at self }
-        ensures fact_2 { (view_of (columns_of lines.now).arg slots.new) ≡ framed_in self (view_of (columns_of lines.now).arg slots.old) }
+        requires slotted { Slotted (columns_of lines.now).arg slots.old self.pc }
+        requires alone { Alone (columns_of lines.now).arg self.pc }
+        ensures value { result ≡ framed_at self }
+        ensures slots { (view_of (columns_of lines.now).arg slots.new) ≡ framed_in self (view_of (columns_of lines.now).arg slots.old) }
     {
         let pc = self.pc;
         let top = self.top;
@@ -50,9 +52,10 @@ impl State {
     }
 
     // The search inside the not at j has a row: its frame and those above it are no longer open, and no state stands.
+    #[tactic(auto, using(crate::proofs::Laws::cut_rules), unfolding(crate::specs::Steps::lived, crate::specs::Steps::topped))]
     fn cut(mut self, lines: &Lines, slots: &Slots) -> State
-        requires fact_1 { self.pc < entries }
-        requires fact_2 { Slotted (columns_of lines.now).arg slots.now (get_or (columns_of lines.now).from self.pc 0) }
+        requires line { self.pc < entries }
+        requires slotted_from { Slotted (columns_of lines.now).arg slots.now (get_or (columns_of lines.now).from self.pc 0) }
         ensures { result ≡ cut_to (columns_of lines.now).from (view_of (columns_of lines.now).arg slots.now).lows self }
     {
         let pc = self.pc;
@@ -63,6 +66,7 @@ impl State {
     }
 
     // And, or, not, and the end of the search inside a not.
+    #[tactic(auto, using(crate::proofs::Laws::sides_rules), unfolding(crate::specs::Steps::lived))]
     pub fn sides(mut self, o: u16, lines: &Lines, slots: &mut Slots) -> State
         requires { Sides o (columns_of lines.now).from (columns_of lines.now).arg slots.old self }
         ensures { turned result (view_of (columns_of lines.now).arg slots.new) ≡ sides_of o (columns_of lines.now).from self (view_of (columns_of lines.now).arg slots.old) }

@@ -21,7 +21,7 @@ use services::testing::Words;
 use tables::line::{Lines, no_lines};
 use tables::place::no_places;
 use tables::slot::Slots;
-use value_places::places::places_of;
+use value_places::places::{Units, places_of};
 
 // The most steps of a run.
 const MOST: u64 = 4294967295;
@@ -51,10 +51,11 @@ fn search_on(
     requires fresh { Fresh m.now 1 t.now 0 terms.fresh }
     ensures { run result.state (view_of (columns_of lines.now).arg slots.new) result.binds room.new ≡ run_of (env_by (columns_of lines.now) m.now t.now terms) (terms.budget - from.state.steps) (run from.state (view_of (columns_of lines.now).arg slots.old) from.binds room.old) }
 {
+    let units = Units { words: t };
     let mut places = no_places();
-    places_of(t, &mut places);
+    places_of(units, &mut places);
     let mut waiting = *slots;
-    let last = advance(from, terms, m, t, &places, lines, &mut waiting, room);
+    let last = advance(from, terms, m, units, &places, lines, &mut waiting, room);
     *slots = waiting;
     last
 }

@@ -4,6 +4,7 @@ ghost use Rattle.services.specs.Matches.{Ready};
 ghost use Rattle.services.specs.Refusals.{refused_numbers};
 ghost use Rattle.service_runs.specs.Opens.{Taken, Declines, Opens, kept, away, begun as begins};
 
+use value_places::places::Units;
 use crate::run::Run;
 use search::open;
 use search_step::{ENDED, State};
@@ -81,7 +82,10 @@ fn begun(form: u32, dialect: u32, words: Words, size: u32) -> Start
     requires { Ready words.matcher.now words.pattern.now words.target.now }
     ensures { result ≡ begins form dialect words.entry.matcher.now words.entry.pattern.now words.entry.target.now size }
 {
-    let first = open(words.target);
+    let units = Units {
+        words: words.target,
+    };
+    let first = open(units);
     let binds = first.binds;
     let slots = no_slots();
     let matchers = kept::<64>(words.matcher);

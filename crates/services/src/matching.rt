@@ -4,6 +4,7 @@ ghost use Rattle.rules.specs.Services.{match, match_of, match_picked};
 ghost use Rattle.services.specs.Picks.{form_in, dialect_in};
 ghost use Rattle.services.specs.Matches.{Admitted, told, matched_by, reported};
 
+use value_places::places::Units;
 use crate::picks::{Dialect, RowForm};
 use crate::refusal::Refused;
 use crate::testing::{Words, tested};
@@ -63,7 +64,10 @@ fn carry_out(dialect: Dialect, form: RowForm, words: Words, budget: u32, room: &
         firsts: dialect.takes_firsts(),
         fresh: 0,
     };
-    search(terms, words.matcher, words.target, &lines, room)
+    let units = Units {
+        words: words.target,
+    };
+    search(terms, words.matcher, units, &lines, room)
 }
 
 // Match in a dialect, with its rows in one of the two forms: a refusal leaves the room as it was.

@@ -87,8 +87,8 @@ fn joined(low: u16, high: u16) -> u32
 
 // The constant of a line.
 pub fn con_at(lines: &Lines, pc: usize) -> i32
-    requires fact_1 { pc < entries }
-    requires fact_2 { pc < length (columns_of lines.now).con }
+    requires line { pc < entries }
+    requires constant { pc < length (columns_of lines.now).con }
     ensures { result ≡ get_or (columns_of lines.now).con pc (pos 0) }
 {
     let at = CONS + 2 * pc;

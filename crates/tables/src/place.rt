@@ -48,24 +48,24 @@ pub fn place_at(places: &Places, j: usize) -> usize
 }
 
 pub fn put_end(places: &mut Places, at: usize, end: usize)
-    requires fact_1 { at / 2 < value_count }
-    requires fact_2 { end < 65536 }
+    requires value { at / 2 < value_count }
+    requires end_fits { end < 65536 }
     ensures { sections_of places.new ≡ put_end (at / 2) end (sections_of places.old) }
 {
     places[at / 2] = end as u16;
 }
 
 pub fn put_base(places: &mut Places, at: usize, base: usize)
-    requires fact_1 { at / 2 < value_count }
-    requires fact_2 { base < 65536 }
+    requires value { at / 2 < value_count }
+    requires base_fits { base < 65536 }
     ensures { sections_of places.new ≡ put_base (at / 2) base (sections_of places.old) }
 {
     places[BASES + at / 2] = base as u16;
 }
 
 pub fn put_place(places: &mut Places, j: usize, place: usize)
-    requires fact_1 { j < value_count }
-    requires fact_2 { place < 65536 }
+    requires value { j < value_count }
+    requires place_fits { place < 65536 }
     ensures { sections_of places.new ≡ put_place j place (sections_of places.old) }
 {
     places[PLACES + j] = place as u16;

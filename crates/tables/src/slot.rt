@@ -79,8 +79,8 @@ pub fn low_at(slots: &Slots, lines: &Lines, pc: usize) -> usize
 
 // A value waits at a line.
 pub fn put_held(slots: &mut Slots, lines: &Lines, pc: usize, h: Held)
-    requires fact_1 { Slotted (columns_of lines.now).arg slots.old pc }
-    requires fact_2 { Alone (columns_of lines.now).arg pc }
+    requires slotted { Slotted (columns_of lines.now).arg slots.old pc }
+    requires alone { Alone (columns_of lines.now).arg pc }
     ensures { view_of (columns_of lines.now).arg slots.new ≡ put_held pc h (view_of (columns_of lines.now).arg slots.old) }
 {
     let j = arg_at(lines, pc);
@@ -90,8 +90,8 @@ pub fn put_held(slots: &mut Slots, lines: &Lines, pc: usize, h: Held)
 
 // A frame is opened at a line, over the one below.
 pub fn put_frame(slots: &mut Slots, lines: &Lines, pc: usize, f: Frame, low: usize)
-    requires fact_1 { Slotted (columns_of lines.now).arg slots.old pc }
-    requires fact_2 { Alone (columns_of lines.now).arg pc }
+    requires slotted { Slotted (columns_of lines.now).arg slots.old pc }
+    requires alone { Alone (columns_of lines.now).arg pc }
     ensures { view_of (columns_of lines.now).arg slots.new ≡ put_frame pc f low (view_of (columns_of lines.now).arg slots.old) }
 {
     let j = arg_at(lines, pc);
@@ -103,8 +103,8 @@ pub fn put_frame(slots: &mut Slots, lines: &Lines, pc: usize, f: Frame, low: usi
 
 // A frame with one choice left, and the value for it.
 pub fn put_side(slots: &mut Slots, lines: &Lines, pc: usize, h: Held, low: usize)
-    requires fact_1 { Slotted (columns_of lines.now).arg slots.old pc }
-    requires fact_2 { Alone (columns_of lines.now).arg pc }
+    requires slotted { Slotted (columns_of lines.now).arg slots.old pc }
+    requires alone { Alone (columns_of lines.now).arg pc }
     ensures { view_of (columns_of lines.now).arg slots.new ≡ put_side pc h low (view_of (columns_of lines.now).arg slots.old) }
 {
     let j = arg_at(lines, pc);
@@ -115,8 +115,8 @@ pub fn put_side(slots: &mut Slots, lines: &Lines, pc: usize, h: Held, low: usize
 
 // What is left to choose from at a line.
 pub fn put_left(slots: &mut Slots, lines: &Lines, pc: usize, left: u64)
-    requires fact_1 { Slotted (columns_of lines.now).arg slots.old pc }
-    requires fact_2 { Alone (columns_of lines.now).arg pc }
+    requires slotted { Slotted (columns_of lines.now).arg slots.old pc }
+    requires alone { Alone (columns_of lines.now).arg pc }
     ensures { view_of (columns_of lines.now).arg slots.new ≡ put_left pc left (view_of (columns_of lines.now).arg slots.old) }
 {
     let j = arg_at(lines, pc);
@@ -125,8 +125,8 @@ pub fn put_left(slots: &mut Slots, lines: &Lines, pc: usize, left: u64)
 
 // The marks that wait at a line.
 pub fn put_back(slots: &mut Slots, lines: &Lines, pc: usize, back: u64)
-    requires fact_1 { Slotted (columns_of lines.now).arg slots.old pc }
-    requires fact_2 { Alone (columns_of lines.now).arg pc }
+    requires slotted { Slotted (columns_of lines.now).arg slots.old pc }
+    requires alone { Alone (columns_of lines.now).arg pc }
     ensures { view_of (columns_of lines.now).arg slots.new ≡ put_back pc back (view_of (columns_of lines.now).arg slots.old) }
 {
     let j = arg_at(lines, pc);

@@ -12,14 +12,15 @@ ghost use Rattle.value_equality.specs.Levels.{ended_of, outcome_of, level_of, on
 
 use matchers::{matcher_end, width_at};
 use tables::place::Places;
-use value_places::places::{count_at, element, number_at, whole};
+use value_places::places::{Units, count_at, element, number_at, whole};
 use words::marks::{full, lowest, rest, without};
 use words::{is_total, tag_at};
 
 // Whether the integer whose tag stands at a, plus c, is the integer at b.
+#[tactic(auto, using(crate::proofs::Comparing::word_rules))]
 pub fn is_sum(s: &[i32], a: usize, c: i32, b: usize) -> bool
-    requires fact_1 { a + 1 < length s.now }
-    requires fact_2 { b + 1 < length s.now }
+    requires number_a { a + 1 < length s.now }
+    requires number_b { b + 1 < length s.now }
     ensures { result ≡ is_sum s.now a c b }
 {
     let x = s[a + 1];
@@ -28,6 +29,7 @@ pub fn is_sum(s: &[i32], a: usize, c: i32, b: usize) -> bool
 }
 
 // Two integers.
+#[tactic(auto, using(crate::proofs::Comparing::word_rules))]
 fn same_number(s: &[i32], a: usize, b: usize) -> bool
     requires { (a + 1 < length s.now) × (b + 1 < length s.now) }
     ensures { result ≡ same (get_or s.now (a + 1) (pos 0)) (get_or s.now (b + 1) (pos 0)) }
@@ -50,6 +52,7 @@ pub struct Level {
 }
 
 // Whether nothing is left to ask, and then the answer.
+#[tactic(auto, using(crate::proofs::Asking::answer_rules))]
 fn ended(x: u64, z: u64) -> bool
     ensures { result ≡ ended_of x z }
 {
@@ -59,6 +62,7 @@ fn ended(x: u64, z: u64) -> bool
     z == 0
 }
 
+#[tactic(auto, using(crate::proofs::Asking::answer_rules))]
 fn outcome(x: u64, y: u64) -> bool
     ensures { result ≡ outcome_of x y }
 {
@@ -84,6 +88,7 @@ fn begun(kind: u32, at: usize, a: usize, x: u64, b: usize, y: u64) -> Level
 }
 
 // A level that has its answer.
+#[tactic(auto, using(crate::proofs::Asking::answer_rules))]
 fn settled(a: usize, b: usize, yes: bool) -> Level
     ensures { result ≡ settled_of a b yes }
 {
@@ -94,16 +99,16 @@ fn settled(a: usize, b: usize, yes: bool) -> Level
 }
 
 // Two tuples; the width of their matcher stands at i.
-fn tuples(mt: &[i32], i: usize, s: &[i32], a: usize, b: usize) -> Level
-    requires fact_1 { Target s.now }
-    requires fact_2 { Tag s.now a }
-    requires fact_3 { Tag s.now b }
-    requires fact_4 { i ≤ length mt.now }
-    ensures { Opens mt.now s.now a result (tuples_equal mt.now i s.now a b) }
+#[tactic(auto, using(crate::proofs::Parts::tuples_rules))]
+fn tuples(mt: &[i32], i: usize, units: Units, a: usize, b: usize) -> Level
+    requires tag_a { Tag units.words.now a }
+    requires tag_b { Tag units.words.now b }
+    requires matcher { i ≤ length mt.now }
+    ensures { Opens mt.now units.entry.words.now a result (tuples_equal mt.now i units.entry.words.now a b) }
 {
     let w = width_at(mt, i);
-    let n = count_at(s, a);
-    let m = count_at(s, b);
+    let n = count_at(units, a);
+    let m = count_at(units, b);
     if n != m {
         return settled(a, b, false);
     }
@@ -115,11 +120,11 @@ fn tuples(mt: &[i32], i: usize, s: &[i32], a: usize, b: usize) -> Level
 }
 
 // The question whether two held values are equal under the matcher whose words start at i.
-fn opened(mt: &[i32], i: usize, s: &[i32], a: usize, am: u64, b: usize, bm: u64) -> Level
-    requires fact_1 { Target s.now }
-    requires fact_2 { Held s.now a am }
-    requires fact_3 { Held s.now b bm }
-    ensures { Opens mt.now s.now a result (equal_at mt.now i s.now a am b bm) }
+#[tactic(auto, using(crate::proofs::ByTag::opened_rules, crate::proofs::ByTag::tuples_call))]
+fn opened(mt: &[i32], i: usize, units: Units, a: usize, am: u64, b: usize, bm: u64) -> Level
+    requires held_a { Held units.words.now a am }
+    requires held_b { Held units.words.now b bm }
+    ensures { Opens mt.now units.entry.words.now a result (equal_at mt.now i units.entry.words.now a am b bm) }
 {
     let k = tag_at(mt, i);
     if k == 0 {
@@ -128,8 +133,8 @@ fn opened(mt: &[i32], i: usize, s: &[i32], a: usize, am: u64, b: usize, bm: u64)
     if 4 < k {
         return settled(a, b, false);
     }
-    let ta = number_at(s, a);
-    let tb = number_at(s, b);
+    let ta = number_at(units.words, a);
+    let tb = number_at(units.words, b);
     if k == 1 {
         if ta != 0 {
             return settled(a, b, false);
@@ -137,7 +142,7 @@ fn opened(mt: &[i32], i: usize, s: &[i32], a: usize, am: u64, b: usize, bm: u64)
         if tb != 0 {
             return settled(a, b, false);
         }
-        let same = same_number(s, a, b);
+        let same = same_number(units.words, a, b);
         return settled(a, b, same);
     }
     if k == 4 {
@@ -147,7 +152,7 @@ fn opened(mt: &[i32], i: usize, s: &[i32], a: usize, am: u64, b: usize, bm: u64)
         if tb != 2 {
             return settled(a, b, false);
         }
-        return tuples(mt, i + 1, s, a, b);
+        return tuples(mt, i + 1, units, a, b);
     }
     if ta != 1 {
         return settled(a, b, false);
@@ -159,6 +164,7 @@ fn opened(mt: &[i32], i: usize, s: &[i32], a: usize, am: u64, b: usize, bm: u64)
 }
 
 // The matcher of what is compared next: the same, or that of the next part.
+#[tactic(auto, using(crate::proofs::Asking::taken_rules))]
 fn onward(mt: &[i32], kind: u32, at: usize) -> usize
     ensures { result ≡ onward_of mt.now kind at }
 {
@@ -169,6 +175,7 @@ fn onward(mt: &[i32], kind: u32, at: usize) -> usize
 }
 
 // The level with the answer to its question: the two are taken away; or, where they are unlike, there may be others to try.
+#[tactic(auto, using(crate::proofs::Asking::taken_rules))]
 fn taken(mt: &[i32], l: Level, yes: bool) -> Level
     requires { (0 < l.x) × (0 < l.z) × (l.z < 2 ^ 64) }
     ensures { result ≡ taken_of mt.now l yes }
@@ -200,64 +207,64 @@ fn taken(mt: &[i32], l: Level, yes: bool) -> Level
 }
 
 // The level's question.
-fn asked(mt: &[i32], s: &[i32], places: &Places, l: Level) -> Level
-    requires fact_1 { Target s.now }
-    requires fact_2 { Placed s.now places.now }
-    requires fact_3 { Open s.now l }
-    requires fact_4 { (0 < l.x) × (0 < l.z) }
-    ensures { Opens mt.now s.now (first_of s.now l) result (question_of mt.now s.now l) }
+#[tactic(auto, using(crate::proofs::Asking::asked_rules))]
+fn asked(mt: &[i32], units: Units, places: &Places, l: Level) -> Level
+    requires placed { Placed units.words.now places.now }
+    requires opened { Open units.words.now l }
+    requires asks { (0 < l.x) × (0 < l.z) }
+    ensures { Opens mt.now units.entry.words.now (first_of units.entry.words.now l) result (question_of mt.now units.entry.words.now l) }
 {
     let j = lowest(l.x);
     let k = lowest(l.z);
-    let e = element(s, places, l.a, j);
-    let f = element(s, places, l.b, k);
-    let x = whole(s, e);
-    let y = whole(s, f);
-    opened(mt, l.at, s, e, x, f, y)
+    let e = element(units, places, l.a, j);
+    let f = element(units, places, l.b, k);
+    let x = whole(units, e);
+    let y = whole(units, f);
+    opened(mt, l.at, units, e, x, f, y)
 }
 
 // Two whole values, where integers are compared.
-pub fn same_integers(s: &[i32], a: usize, b: usize) -> bool
-    requires fact_1 { Target s.now }
-    requires fact_2 { Tag s.now a }
-    requires fact_3 { Tag s.now b }
-    ensures { result ≡ integers_equal s.now a b }
+#[tactic(auto, using(crate::proofs::Integers::same_rules))]
+pub fn same_integers(units: Units, a: usize, b: usize) -> bool
+    requires tag_a { Tag units.words.now a }
+    requires tag_b { Tag units.words.now b }
+    ensures { result ≡ integers_equal units.entry.words.now a b }
 {
-    if number_at(s, a) != 0 {
+    if number_at(units.words, a) != 0 {
         return false;
     }
-    if number_at(s, b) != 0 {
+    if number_at(units.words, b) != 0 {
         return false;
     }
-    same_number(s, a, b)
+    same_number(units.words, a, b)
 }
 
 // The level's question, where it is of two integers.
-fn asked_integers(s: &[i32], places: &Places, l: Level) -> bool
-    requires fact_1 { Target s.now }
-    requires fact_2 { Placed s.now places.now }
-    requires fact_3 { Open s.now l }
-    requires fact_4 { (0 < l.x) × (0 < l.z) }
-    ensures { result ≡ integers_equal s.now (first_of s.now l) (second_of s.now l) }
+#[tactic(auto, using(crate::proofs::Integers::integer_rules))]
+fn asked_integers(units: Units, places: &Places, l: Level) -> bool
+    requires placed { Placed units.words.now places.now }
+    requires opened { Open units.words.now l }
+    requires asks { (0 < l.x) × (0 < l.z) }
+    ensures { result ≡ integers_equal units.entry.words.now (first_of units.entry.words.now l) (second_of units.entry.words.now l) }
 {
-    let e = element(s, places, l.a, lowest(l.x));
-    let f = element(s, places, l.b, lowest(l.z));
-    same_integers(s, e, f)
+    let e = element(units, places, l.a, lowest(l.x));
+    let f = element(units, places, l.b, lowest(l.z));
+    same_integers(units, e, f)
 }
 
 // The first of the marked elements of b that is the integer at e; 64 where none is.
-fn first_integer(s: &[i32], places: &Places, e: usize, b: usize, y: u64) -> u32
-    requires fact_1 { Target s.now }
-    requires fact_2 { Placed s.now places.now }
-    requires fact_3 { Tag s.now e }
-    requires fact_4 { Marks s.now b y }
-    ensures { result ≡ first_integer s.now e b y }
+#[tactic(auto, using(crate::proofs::Integers::first_rules))]
+fn first_integer(units: Units, places: &Places, e: usize, b: usize, y: u64) -> u32
+    requires placed { Placed units.words.now places.now }
+    requires tag { Tag units.words.now e }
+    requires marks { Marks units.words.now b y }
+    ensures { result ≡ first_integer units.entry.words.now e b y }
 {
     let mut z = y;
     while 0 < z {
         let k = lowest(z);
-        let f = element(s, places, b, k);
-        if same_integers(s, e, f) {
+        let f = element(units, places, b, k);
+        if same_integers(units, e, f) {
             return k;
         }
         z = rest(z);
@@ -266,17 +273,17 @@ fn first_integer(s: &[i32], places: &Places, e: usize, b: usize, y: u64) -> u32
 }
 
 // Two multisets of integers: each of x with the first equal one of y that is left.
-fn paired_integers(s: &[i32], places: &Places, a: usize, am: u64, b: usize, bm: u64) -> bool
-    requires fact_1 { Target s.now }
-    requires fact_2 { Placed s.now places.now }
-    requires fact_3 { Both s.now a am b bm }
-    ensures { result ≡ integers_paired s.now a am b bm }
+#[tactic(auto, using(crate::proofs::Integers::paired_rules))]
+fn paired_integers(units: Units, places: &Places, a: usize, am: u64, b: usize, bm: u64) -> bool
+    requires placed { Placed units.words.now places.now }
+    requires both { Both units.words.now a am b bm }
+    ensures { result ≡ integers_paired units.entry.words.now a am b bm }
 {
     let mut x = am;
     let mut y = bm;
     while 0 < x {
-        let e = element(s, places, a, lowest(x));
-        let k = first_integer(s, places, e, b, y);
+        let e = element(units, places, a, lowest(x));
+        let k = first_integer(units, places, e, b, y);
         if k == 64 {
             return false;
         }
@@ -287,9 +294,10 @@ fn paired_integers(s: &[i32], places: &Places, a: usize, am: u64, b: usize, bm: 
 }
 
 // Two collections or two tuples, of which the elements or parts marked x and y are to be compared, as a level has them.
+#[tactic(auto, using(crate::proofs::Integers::compared_rules, crate::proofs::Asking::table_rules))]
 fn compared(
     mt: &[i32],
-    s: &[i32],
+    units: Units,
     places: &Places,
     kind: u32,
     at: usize,
@@ -298,16 +306,15 @@ fn compared(
     b: usize,
     y: u64,
 ) -> bool
-    requires fact_1 { Target s.now }
-    requires fact_2 { Placed s.now places.now }
-    requires fact_3 { Tag s.now a }
-    requires fact_4 { (0 < x → Open s.now (level_of kind at a x b y)) }
-    ensures { result ≡ comes_to mt.now s.now (level_of kind at a x b y) }
+    requires placed { Placed units.words.now places.now }
+    requires tag_a { Tag units.words.now a }
+    requires opened { (0 < x → Open units.words.now (level_of kind at a x b y)) }
+    ensures { result ≡ comes_to mt.now units.entry.words.now (level_of kind at a x b y) }
 {
     let of = tag_at(mt, at);
     if kind == 3 {
         if of == 1 {
-            return paired_integers(s, places, a, x, b, y);
+            return paired_integers(units, places, a, x, b, y);
         }
     }
     let mut l = begun(kind, at, a, x, b, y);
@@ -325,12 +332,12 @@ fn compared(
         } else {
             let of = tag_at(mt, l.at);
             if of == 1 {
-                let yes = asked_integers(s, places, l);
+                let yes = asked_integers(units, places, l);
                 l = taken(mt, l, yes);
             } else {
                 levels[depth] = l;
                 depth += 1;
-                l = asked(mt, s, places, l);
+                l = asked(mt, units, places, l);
             }
         }
     }
@@ -338,25 +345,25 @@ fn compared(
 
 // Two held values under the matcher whose words start at i. Of two tuples the same parts are marked; a call of its own for them keeps the comparison a
 // function apart from the search's loop.
+#[tactic(auto, using(crate::proofs::Asking::equal_rules))]
 pub fn equal(
     mt: &[i32],
     i: usize,
-    s: &[i32],
+    units: Units,
     places: &Places,
     a: usize,
     am: u64,
     b: usize,
     bm: u64,
 ) -> bool
-    requires fact_1 { Target s.now }
-    requires fact_2 { Placed s.now places.now }
-    requires fact_3 { Held s.now a am }
-    requires fact_4 { Held s.now b bm }
-    ensures { result ≡ equal_at mt.now i s.now a am b bm }
+    requires placed { Placed units.words.now places.now }
+    requires held_a { Held units.words.now a am }
+    requires held_b { Held units.words.now b bm }
+    ensures { result ≡ equal_at mt.now i units.entry.words.now a am b bm }
 {
-    let l = opened(mt, i, s, a, am, b, bm);
+    let l = opened(mt, i, units, a, am, b, bm);
     if l.kind == 4 {
-        return compared(mt, s, places, 4, l.at, l.a, l.x, l.b, l.x);
+        return compared(mt, units, places, 4, l.at, l.a, l.x, l.b, l.x);
     }
-    compared(mt, s, places, l.kind, l.at, l.a, l.x, l.b, l.y)
+    compared(mt, units, places, l.kind, l.at, l.a, l.x, l.b, l.y)
 }

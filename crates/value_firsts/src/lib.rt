@@ -13,11 +13,12 @@ ghost use Rattle.value_firsts.specs.Firsts.{firsts_at, before_at, kept_with, Low
 
 use tables::place::Places;
 use value_equality::{equal, same_integers};
-use value_places::places::{element, whole};
+use value_places::places::{Units, element, whole};
 use words::marks::{lowest, one, rest, without};
 use words::{matcher, tag_at};
 
 // The highest place marked.
+#[tactic(auto, using(crate::proofs::Laws::highest_rules))]
 fn highest(m: u64) -> u32
     requires { 0 < m }
     ensures { result ≡ 63 - count_leading_zeros 64 m }
@@ -26,33 +27,33 @@ fn highest(m: u64) -> u32
 }
 
 // Two whole values under the matcher at an index; integers without a call of the comparison of nested values.
-fn same_values(mt: &[i32], i: usize, s: &[i32], places: &Places, a: usize, b: usize) -> bool
-    requires fact_1 { Target s.now }
-    requires fact_2 { Placed s.now places.now }
-    requires fact_3 { Tag s.now a }
-    requires fact_4 { Tag s.now b }
-    ensures { result ≡ wholes_equal mt.now i s.now a b }
+#[tactic(auto, using(crate::proofs::Laws::value_rules))]
+fn same_values(mt: &[i32], i: usize, units: Units, places: &Places, a: usize, b: usize) -> bool
+    requires placed { Placed units.words.now places.now }
+    requires tag_a { Tag units.words.now a }
+    requires tag_b { Tag units.words.now b }
+    ensures { result ≡ wholes_equal mt.now i units.entry.words.now a b }
 {
     if tag_at(mt, i) == matcher::INTEGER {
-        return same_integers(s, a, b);
+        return same_integers(units, a, b);
     }
-    equal(mt, i, s, places, a, whole(s, a), b, whole(s, b))
+    equal(mt, i, units, places, a, whole(units, a), b, whole(units, b))
 }
 
 // Whether one of the marked elements of the collection is equal to its element k.
-fn is_before(mt: &[i32], i: usize, s: &[i32], places: &Places, at: usize, m: u64, k: u32) -> bool
-    requires fact_1 { Target s.now }
-    requires fact_2 { Placed s.now places.now }
-    requires fact_3 { Held s.now at m }
-    requires fact_4 { k < count_at s.now at }
-    ensures { result ≡ before_at mt.now i s.now at m k }
+#[tactic(auto, using(crate::proofs::Laws::before_rules))]
+fn is_before(mt: &[i32], i: usize, units: Units, places: &Places, at: usize, m: u64, k: u32) -> bool
+    requires placed { Placed units.words.now places.now }
+    requires held { Held units.words.now at m }
+    requires element { k < count_at units.words.now at }
+    ensures { result ≡ before_at mt.now i units.entry.words.now at m k }
 {
-    let e = element(s, places, at, k);
+    let e = element(units, places, at, k);
     let mut z = m;
     while 0 < z {
         let j = lowest(z);
-        let f = element(s, places, at, j);
-        if same_values(mt, i, s, places, f, e) {
+        let f = element(units, places, at, j);
+        if same_values(mt, i, units, places, f, e) {
             return true;
         }
         z = rest(z);
@@ -61,9 +62,10 @@ fn is_before(mt: &[i32], i: usize, s: &[i32], places: &Places, at: usize, m: u64
 }
 
 // The marks with place k, unless it was seen.
+#[tactic(auto, using(crate::proofs::Laws::kept_rules))]
 pub fn kept(out: u64, k: u32, seen: bool) -> u64
-    requires fact_1 { k < 64 }
-    requires fact_2 { out + 2 ^ k < 2 ^ 64 }
+    requires place { k < 64 }
+    requires new_mark { out + 2 ^ k < 2 ^ 64 }
     ensures { result ≡ kept_with out k seen }
 {
     if seen {
@@ -85,40 +87,46 @@ fn is_seen(
     fresh: u64,
     mt: &[i32],
     i: usize,
-    s: &[i32],
+    units: Units,
     places: &Places,
     at: usize,
     m: u64,
     k: u32,
 ) -> bool
-    requires fact_1 { Target s.now }
-    requires fact_2 { Placed s.now places.now }
-    requires fact_3 { Held s.now at m }
-    requires fact_4 { (k < count_at s.now at) × (k < 64) × (m < 2 ^ k) }
-    requires fact_5 { Fresh mt.now i s.now at fresh }
-    ensures { result ≡ before_at mt.now i s.now at m k }
+    requires placed { Placed units.words.now places.now }
+    requires held { Held units.words.now at m }
+    requires element { (k < count_at units.words.now at) × (k < 64) × (m < 2 ^ k) }
+    requires fresh { Fresh mt.now i units.words.now at fresh }
+    ensures { result ≡ before_at mt.now i units.entry.words.now at m k }
 {
     if without(fresh, k) < fresh {
         return false;
     }
-    is_before(mt, i, s, places, at, m, k)
+    is_before(mt, i, units, places, at, m, k)
 }
 
 // The first places among the marks of a span; from the last mark on, since then what is left is what stands before.
-pub fn firsts_above(mt: &[i32], i: usize, s: &[i32], places: &Places, at: usize, span: Span) -> u64
-    requires fact_1 { Target s.now }
-    requires fact_2 { Placed s.now places.now }
-    requires fact_3 { Held s.now at span.marks }
-    requires fact_4 { Lower span.marks span.stop }
-    requires fact_5 { Fresh mt.now i s.now at span.fresh }
-    ensures { result + firsts_at mt.now i s.now at span.stop ≡ firsts_at mt.now i s.now at span.marks }
+#[tactic(auto, using(crate::proofs::Laws::above_rules))]
+pub fn firsts_above(
+    mt: &[i32],
+    i: usize,
+    units: Units,
+    places: &Places,
+    at: usize,
+    span: Span,
+) -> u64
+    requires placed { Placed units.words.now places.now }
+    requires held { Held units.words.now at span.marks }
+    requires lower { Lower span.marks span.stop }
+    requires fresh { Fresh mt.now i units.words.now at span.fresh }
+    ensures { result + firsts_at mt.now i units.entry.words.now at span.stop ≡ firsts_at mt.now i units.entry.words.now at span.marks }
 {
     let mut left = span.marks;
     let mut out: u64 = 0;
     while span.stop < left {
         let k = highest(left);
         left = left - one(k);
-        let seen = is_seen(span.fresh, mt, i, s, places, at, left, k);
+        let seen = is_seen(span.fresh, mt, i, units, places, at, left, k);
         out = kept(out, k, seen);
     }
     out

@@ -15,7 +15,7 @@ ghost use Rattle.value_rows.specs.Row.{form_by, told_at, bound, Bound};
 
 use origins::put_origin;
 use tables::place::{Places, end_at};
-use value_places::places::{element, number_at};
+use value_places::places::{Units, element, number_at};
 use words::marks::{count, lowest, rest};
 
 // The most variables of a rule.
@@ -33,35 +33,34 @@ pub type Bindings = [Binding; VARIABLES];
 
 // How many words the value at an index has.
 #[tactic(auto, unfolding(value_places::specs::Places::value_at, value_places::specs::Places::forest))]
-fn size_at(s: &[i32], places: &Places, at: usize) -> usize
-    requires fact_1 { Target s.now }
-    requires fact_2 { Placed s.now places.now }
-    requires fact_3 { Tag s.now at }
-    ensures { result ≡ size (value_at s.now at) }
+fn size_at(units: Units, places: &Places, at: usize) -> usize
+    requires placed { Placed units.words.now places.now }
+    requires tag { Tag units.words.now at }
+    ensures { result ≡ size (value_at units.entry.words.now at) }
 {
     let end = end_at(places, at);
     end - at
 }
 
 // How many words a held value has. A tuple is held whole.
-fn size_of(s: &[i32], places: &Places, at: usize, m: u64) -> usize
-    requires fact_1 { Target s.now }
-    requires fact_2 { Placed s.now places.now }
-    requires fact_3 { Held s.now at m }
-    ensures { result ≡ size (held_at s.now at m) }
+#[tactic(auto, using(crate::proofs::Row::size_rules))]
+fn size_of(units: Units, places: &Places, at: usize, m: u64) -> usize
+    requires placed { Placed units.words.now places.now }
+    requires held { Held units.words.now at m }
+    ensures { result ≡ size (held_at units.entry.words.now at m) }
 {
-    let tag = number_at(s, at);
+    let tag = number_at(units.words, at);
     if tag == 0 {
         return 2;
     }
     if tag == 2 {
-        return size_at(s, places, at);
+        return size_at(units, places, at);
     }
     let mut n: usize = 2;
     let mut left = m;
     while 0 < left {
         let k = lowest(left);
-        let e = element(s, places, at, k);
+        let e = element(units, places, at, k);
         let end = end_at(places, e);
         n += end - e;
         left = rest(left);
@@ -84,29 +83,29 @@ pub fn put_words(room: &mut [i32], from: usize, words: &[i32]) -> usize
 
 // The words from an index up to another, once more at an index of the room.
 pub fn copy(s: &[i32], from: usize, to: usize, room: &mut [i32], at: usize) -> usize
-    requires fact_1 { from ≤ to }
-    requires fact_2 { to ≤ length s.now }
-    requires fact_3 { at + (to - from) ≤ length room.old }
+    requires ordered { from ≤ to }
+    requires within { to ≤ length s.now }
+    requires room { at + (to - from) ≤ length room.old }
     ensures { (result ≡ at + (to - from)) × (room.new ≡ put room.old at (part from to s.now)) }
 {
     put_words(room, at, &s[from..to])
 }
 
 // The words of a whole value, an integer's at once.
-fn put_whole(s: &[i32], places: &Places, at: usize, room: &mut [i32], from: usize) -> usize
-    requires fact_1 { Target s.now }
-    requires fact_2 { Placed s.now places.now }
-    requires fact_3 { Tag s.now at }
-    requires fact_4 { from + size (value_at s.now at) ≤ length room.old }
-    ensures { (result ≡ from + size (value_at s.now at)) × (room.new ≡ put room.old from (words (value_at s.now at))) }
+#[tactic(auto, using(crate::proofs::Row::put_whole_rules))]
+fn put_whole(units: Units, places: &Places, at: usize, room: &mut [i32], from: usize) -> usize
+    requires placed { Placed units.words.now places.now }
+    requires tag { Tag units.words.now at }
+    requires room { from + size (value_at units.words.now at) ≤ length room.old }
+    ensures { (result ≡ from + size (value_at units.entry.words.now at)) × (room.new ≡ put room.old from (words (value_at units.entry.words.now at))) }
 {
-    let tag = number_at(s, at);
+    let tag = number_at(units.words, at);
     if tag == 0 {
-        let x = s[at + 1];
+        let x = units.words[at + 1];
         return put_words(room, from, &[0, x]);
     }
     let end = end_at(places, at);
-    copy(s, at, end, room, from)
+    copy(units.words, at, end, room, from)
 }
 
 // The number of marks as a word.
@@ -117,96 +116,101 @@ fn count_word(m: u64) -> i32
 }
 
 // The words of the elements marked.
-fn put_left(s: &[i32], places: &Places, at: usize, m: u64, room: &mut [i32], from: usize) -> usize
-    requires fact_1 { Target s.now }
-    requires fact_2 { Placed s.now places.now }
-    requires fact_3 { Held s.now at m }
-    requires fact_4 { from + size_left s.now at m ≤ length room.old }
-    ensures { (result ≡ from + size_left s.now at m) × (room.new ≡ put room.old from (words_left s.now at m)) }
+#[tactic(auto, using(crate::proofs::Row::left_rules))]
+fn put_left(
+    units: Units,
+    places: &Places,
+    at: usize,
+    m: u64,
+    room: &mut [i32],
+    from: usize,
+) -> usize
+    requires placed { Placed units.words.now places.now }
+    requires held { Held units.words.now at m }
+    requires room { from + size_left units.words.now at m ≤ length room.old }
+    ensures { (result ≡ from + size_left units.entry.words.now at m) × (room.new ≡ put room.old from (words_left units.entry.words.now at m)) }
 {
     let mut o = from;
     let mut left = m;
     while 0 < left {
         let k = lowest(left);
-        let e = element(s, places, at, k);
-        o = put_whole(s, places, e, room, o);
+        let e = element(units, places, at, k);
+        o = put_whole(units, places, e, room, o);
         left = rest(left);
     }
     o
 }
 
 // A held value's words, written into the room from an index on.
+#[tactic(auto, using(crate::proofs::Row::put_rules))]
 pub fn put_value(
-    s: &[i32],
+    units: Units,
     places: &Places,
     at: usize,
     m: u64,
     room: &mut [i32],
     from: usize,
 ) -> usize
-    requires fact_1 { Target s.now }
-    requires fact_2 { Placed s.now places.now }
-    requires fact_3 { Held s.now at m }
-    requires fact_4 { from + size (held_at s.now at m) ≤ length room.old }
-    ensures { (result ≡ from + size (held_at s.now at m)) × (room.new ≡ put room.old from (words (held_at s.now at m))) }
+    requires placed { Placed units.words.now places.now }
+    requires held { Held units.words.now at m }
+    requires room { from + size (held_at units.words.now at m) ≤ length room.old }
+    ensures { (result ≡ from + size (held_at units.entry.words.now at m)) × (room.new ≡ put room.old from (words (held_at units.entry.words.now at m))) }
 {
-    let tag = number_at(s, at);
+    let tag = number_at(units.words, at);
     if tag != 1 {
-        return put_whole(s, places, at, room, from);
+        return put_whole(units, places, at, room, from);
     }
     let n = count_word(m);
     let elements = put_words(room, from, &[1, n]);
-    put_left(s, places, at, m, room, elements)
+    put_left(units, places, at, m, room, elements)
 }
 
 // What a row tells of a held value, written into the room from an index on: its words, or its origin.
+#[tactic(auto, using(crate::proofs::Row::entry_rules))]
 pub fn put_entry(
     origins: bool,
-    s: &[i32],
+    units: Units,
     places: &Places,
     at: usize,
     m: u64,
     room: &mut [i32],
     from: usize,
 ) -> usize
-    requires fact_1 { Target s.now }
-    requires fact_2 { Placed s.now places.now }
-    requires fact_3 { Held s.now at m }
-    requires fact_4 { from + length (told_at (form_by origins) s.now at m) ≤ length room.old }
-    ensures { (result ≡ from + length (told_at (form_by origins) s.now at m)) × (room.new ≡ put room.old from (told_at (form_by origins) s.now at m)) }
+    requires placed { Placed units.words.now places.now }
+    requires held { Held units.words.now at m }
+    requires room { from + length (told_at (form_by origins) units.words.now at m) ≤ length room.old }
+    ensures { (result ≡ from + length (told_at (form_by origins) units.entry.words.now at m)) × (room.new ≡ put room.old from (told_at (form_by origins) units.entry.words.now at m)) }
 {
     if origins {
         return put_origin(at, m, room, from);
     }
-    put_value(s, places, at, m, room, from)
+    put_value(units, places, at, m, room, from)
 }
 
 // How many words the row has in form 1, of which n variables are bound.
-#[tactic(auto, unfolding(rules::specs::Rows::row, rules::specs::Rows::told, crate::specs::Row::bound, crate::specs::Row::origin_of))]
-fn words_size(s: &[i32], places: &Places, b: Bindings, n: usize) -> usize
-    requires fact_1 { Target s.now }
-    requires fact_2 { Placed s.now places.now }
-    requires fact_3 { Bound s.now b n }
-    ensures { result ≡ length (row as_words (bound s.now b n)) }
+#[tactic(auto, using(crate::proofs::Row::sum_rules), unfolding(rules::specs::Rows::row, rules::specs::Rows::told, crate::specs::Row::bound, crate::specs::Row::origin_of))]
+fn words_size(units: Units, places: &Places, b: Bindings, n: usize) -> usize
+    requires placed { Placed units.words.now places.now }
+    requires bound { Bound units.words.now b n }
+    ensures { result ≡ length (row as_words (bound units.entry.words.now b n)) }
 {
     let mut size: usize = 0;
     for v in 0..n {
         let x = b[v];
-        size += size_of(s, places, x.at, x.marks);
+        size += size_of(units, places, x.at, x.marks);
     }
     size
 }
 
 // How many words the row has of which n variables are bound; in form 2 three for each.
-#[tactic(auto, unfolding(rules::specs::Rows::row, rules::specs::Rows::told, crate::specs::Row::form_by, crate::specs::Row::bound, crate::specs::Row::origin_of))]
-pub fn row_size(origins: bool, s: &[i32], places: &Places, b: Bindings, n: usize) -> usize
-    requires fact_1 { Target s.now }
-    requires fact_2 { Placed s.now places.now }
-    requires fact_3 { Bound s.now b n }
-    ensures { result ≡ length (row (form_by origins) (bound s.now b n)) }
+#[tactic(auto, using(crate::proofs::Row::form_size_rules), unfolding(rules::specs::Rows::row, rules::specs::Rows::told, crate::specs::Row::form_by, crate::specs::Row::bound, crate::specs::Row::origin_of))]
+pub fn row_size(origins: bool, units: Units, places: &Places, b: Bindings, n: usize) -> usize
+    requires placed { Placed units.words.now places.now }
+    requires bound { Bound units.words.now b n }
+    ensures { result ≡ length (row (form_by origins) (bound units.entry.words.now b n)) }
 {
     if origins {
         return 3 * n;
     }
-    words_size(s, places, b, n)
+    words_size(units, places, b, n)
 }

@@ -32,8 +32,8 @@ fn index_word(at: usize) -> i32
 // The origin of the value that is held at an index by marks, written into the room from an index on.
 #[tactic(auto, unfolding(rules::specs::Rows::bits, value_places::specs::Held::put))]
 pub fn put_origin(at: usize, m: u64, room: &mut [i32], from: usize) -> usize
-    requires fact_1 { at < 1024 }
-    requires fact_2 { from + 3 ≤ length room.old }
+    requires index { at < 1024 }
+    requires room { from + 3 ≤ length room.old }
     ensures { (result ≡ from + 3) × (room.new ≡ put room.old from (pos at ∷ bits (m % 2 ^ 32) ∷ bits (m / 2 ^ 32) ∷ [])) }
 {
     let index = index_word(at);

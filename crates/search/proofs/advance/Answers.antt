@@ -30,7 +30,7 @@ use Rattle.search.proofs.advance.Goals.{then-o-gt-DROP+then-o-eq-SUM, then-o-gt-
 
 -- The program and the run at the loop's head.
 abbrev program : goal.In-loop-terms → Env
-program c = env_by (columns_of c.args.lines.now) c.args.mt.now c.args.s.now c.args.terms
+program c = env_by (columns_of c.args.lines.now) c.args.mt.now c.args.units.words.now c.args.terms
 
 abbrev current : goal.In-loop-terms → Run
 current c = run c.loop-terms.x (view_of (columns_of c.args.lines.now).arg c.loop-terms.slots) c.loop-terms.b c.loop-terms.room
@@ -39,7 +39,7 @@ current c = run c.loop-terms.x (view_of (columns_of c.args.lines.now).arg c.loop
 stands : (c : goal.In-loop-terms) → Ready (program c) (current c)
 stands c =
     let k : Fits w64 c.args.terms.budget = search rules in
-    ready _ _ _ _ _ c.loop-terms.invariant c.requires.fact_2 c.requires.fact_1.target (goes_live _ _ _ c.goes_on.ensures c.loop-terms-test.true)
+    ready _ _ _ _ _ c.loop-terms.invariant c.requires.fine c.requires.given.target (goes_live _ _ _ c.goes_on.ensures c.loop-terms-test.true)
     (goes_less _ _ _ c.goes_on.ensures c.loop-terms-test.true) (omega (arith, k.fits))
 
 -- The budget is not used up.
@@ -81,7 +81,7 @@ joined_both c =
     ]
 
 -- At a state with no atom left: its row can be written.
-rows : (c : goal.After-take_end-arg-1) → Rows c.args.s.now c.if-o-gt-DROP.b c.args.terms.vars c.loop-terms.x c.loop-terms.room
+rows : (c : goal.After-take_end-arg-1) → Rows c.args.units.words.now c.if-o-gt-DROP.b c.args.terms.vars c.loop-terms.x c.loop-terms.room
 rows c = let h = stands c.before.before.before.before in turn_row _ _ _ _ _ _ _ (joined_row c) h.fine h.target h.valid h.count (sym c.op_at-o.ensures ∙ c.if-o-eq-END.true)
 
 -- A step is taken, by a line that is no cons under a multiset; and by one that is, narrowed. The line's instruction is o.
@@ -107,7 +107,7 @@ sought c =
     let h = stands c.before.before.before.before.before.before.before.before.before.before.before in
     let m = chosen c.before.before.before in
     elim c.if-a-gt0.branch [
-      | then-a-gt0 w ↦ swept_at _ _ _ _ _ _ _ _ _ _ w.x-is (ap (view_of _) w.slots-is) refl (swept_pass _ _ _ _ _ c.loop-terms.invariant h.fine h.target h.live _ _ _ _ m _ c.asked_at-a.ensures w.if-a-gt0.true _ _ w.arg_at.ensures w.arg_at-then-a-gt0.ensures _ _ w.pass.ensures.fact_1 w.pass.ensures.fact_2)
+      | then-a-gt0 w ↦ swept_at _ _ _ _ _ _ _ _ _ _ w.x-is (ap (view_of _) w.slots-is) refl (swept_pass _ _ _ _ _ c.loop-terms.invariant h.fine h.target h.live _ _ _ _ m _ c.asked_at-a.ensures w.if-a-gt0.true _ _ w.arg_at.ensures w.arg_at-then-a-gt0.ensures _ _ w.pass.ensures.integers w.pass.ensures.pairs)
       | else-a-gt0 w ↦ swept_at _ _ _ _ _ _ _ _ _ _ w.x-is (ap (view_of _) w.slots-is) refl m
     ]
 
@@ -124,7 +124,7 @@ met c =
       | else-o-eq-END+then-o-eq-MULTISET_CONS+then-i-gt0 w ↦
           let m = narrows _ _ _ _ a h _ c.op_at-o.ensures w.if-o-eq-END.false _ _ w.step-x.ensures _ l _ w.if-o-eq-MULTISET_CONS.true w.narrow.ensures in
           let q : Swept (program c.before.before.before.before) (current c.before.before.before.before) c.args.terms.budget w.if-a-gt0.x (view_of (columns_of c.args.lines.now).arg w.if-a-gt0.slots) c.if-o-gt-DROP.b c.loop-terms.room = elim w.if-a-gt0.branch [
-            | then-a-gt0 v ↦ swept_at _ _ _ _ _ _ _ _ _ _ v.x-is (ap (view_of _) v.slots-is) refl (swept_pass _ _ _ _ _ c.loop-terms.invariant h.fine h.target h.live _ _ _ _ m _ w.asked_at-a.ensures v.if-a-gt0.true _ _ v.arg_at.ensures v.arg_at-then-a-gt0.ensures _ _ v.pass.ensures.fact_1 v.pass.ensures.fact_2)
+            | then-a-gt0 v ↦ swept_at _ _ _ _ _ _ _ _ _ _ v.x-is (ap (view_of _) v.slots-is) refl (swept_pass _ _ _ _ _ c.loop-terms.invariant h.fine h.target h.live _ _ _ _ m _ w.asked_at-a.ensures v.if-a-gt0.true _ _ v.arg_at.ensures v.arg_at-then-a-gt0.ensures _ _ v.pass.ensures.integers v.pass.ensures.pairs)
             | else-a-gt0 v ↦ swept_at _ _ _ _ _ _ _ _ _ _ v.x-is (ap (view_of _) v.slots-is) refl m
           ] in
           swept_as _ _ _ _ _ _ _ _ _ _ _ w.x-is (ap (view_of _) w.slots-is) (w.b-is ∙ ap (set c.if-o-gt-DROP.b w.arg_at-then-i-gt0.result) w.last_of.ensures) w.room-is
@@ -132,7 +132,7 @@ met c =
       | else-o-eq-END+then-o-eq-MULTISET_CONS+else-i-gt0 w ↦
           let m = narrows _ _ _ _ a h _ c.op_at-o.ensures w.if-o-eq-END.false _ _ w.step-x.ensures _ l _ w.if-o-eq-MULTISET_CONS.true w.narrow.ensures in
           let q : Swept (program c.before.before.before.before) (current c.before.before.before.before) c.args.terms.budget w.if-a-gt0.x (view_of (columns_of c.args.lines.now).arg w.if-a-gt0.slots) c.if-o-gt-DROP.b c.loop-terms.room = elim w.if-a-gt0.branch [
-            | then-a-gt0 v ↦ swept_at _ _ _ _ _ _ _ _ _ _ v.x-is (ap (view_of _) v.slots-is) refl (swept_pass _ _ _ _ _ c.loop-terms.invariant h.fine h.target h.live _ _ _ _ m _ w.asked_at-a.ensures v.if-a-gt0.true _ _ v.arg_at.ensures v.arg_at-then-a-gt0.ensures _ _ v.pass.ensures.fact_1 v.pass.ensures.fact_2)
+            | then-a-gt0 v ↦ swept_at _ _ _ _ _ _ _ _ _ _ v.x-is (ap (view_of _) v.slots-is) refl (swept_pass _ _ _ _ _ c.loop-terms.invariant h.fine h.target h.live _ _ _ _ m _ w.asked_at-a.ensures v.if-a-gt0.true _ _ v.arg_at.ensures v.arg_at-then-a-gt0.ensures _ _ v.pass.ensures.integers v.pass.ensures.pairs)
             | else-a-gt0 v ↦ swept_at _ _ _ _ _ _ _ _ _ _ v.x-is (ap (view_of _) v.slots-is) refl m
           ] in
           swept_as _ _ _ _ _ _ _ _ _ _ _ w.x-is (ap (view_of _) w.slots-is) w.b-is w.room-is q
@@ -140,7 +140,7 @@ met c =
     ]
 
 pub loop-terms-init : goal.loop-terms-init
-loop-terms-init c = here_start _ _ _ c.requires.fact_3
+loop-terms-init c = here_start _ _ _ c.requires.valid
 
 pub op_at-o-requires : goal.op_at-o-requires
 op_at-o-requires c = ready_place _ _ _ _ _ (stands c)
@@ -156,7 +156,7 @@ bounds-b-v c = ready_number _ _ _ _ _ (stands c.before.before.before.before) _ c
 
 pub is_sum_at-same-requires : goal.is_sum_at-same-requires
 is_sum_at-same-requires c = let h = stands c.before.before.before.before.before in
-    let k = ready_sum _ _ _ _ _ h _ c.op_at-o.ensures (omega (arith, c.if-o-eq-SUM.true)) (omega (arith, c.if-o-eq-SUM.true)) _ c.arg_at-v.ensures in record { fact_1 = k.0; fact_2 = k.1; fact_3 = ready_place _ _ _ _ _ h; fact_4 = ready_constant _ _ _ _ _ h }
+    let k = ready_sum _ _ _ _ _ h _ c.op_at-o.ensures (omega (arith, c.if-o-eq-SUM.true)) (omega (arith, c.if-o-eq-SUM.true)) _ c.arg_at-v.ensures in record { number_y = k.0; number_x = k.1; line = ready_place _ _ _ _ _ h; constant = ready_constant _ _ _ _ _ h }
 
 pub offset_bounds-b-v-then-o-eq-BIND : goal.offset_bounds-b-v-then-o-eq-BIND
 offset_bounds-b-v-then-o-eq-BIND c = ready_number_mul _ _ _ _ _ (stands c.before.before.before.before.before.before.before) _ c.op_at-o.ensures (omega (arith, c.if-o-eq-BIND.true)) (omega (arith, c.if-o-eq-BIND.true)) _ c.arg_at-v.ensures
@@ -171,22 +171,22 @@ pub bounds-b-v-then-o-lt-NIL : goal.bounds-b-v-then-o-lt-NIL
 bounds-b-v-then-o-lt-NIL c = ready_number _ _ _ _ _ (stands c.before.before.before.before.before.before) _ c.op_at-o.ensures c.if-o-gt-DROP.true c.if-o-lt-NIL.true _ c.arg_at-v.ensures
 
 pub is_equal_at-same-requires : goal.is_equal_at-same-requires
-is_equal_at-same-requires c = let h = stands c.before.before.before.before.before.before.before in record { fact_1 = c.requires.fact_1; fact_2 = ready_bound _ _ _ _ _ h _ c.op_at-o.ensures c.if-o-gt-DROP.true c.if-o-lt-NIL.true _ c.arg_at-v.ensures; fact_3 = h.valid.held; fact_4 = ready_place _ _ _ _ _ h }
+is_equal_at-same-requires c = let h = stands c.before.before.before.before.before.before.before in record { given = c.requires.given; held_y = ready_bound _ _ _ _ _ h _ c.op_at-o.ensures c.if-o-gt-DROP.true c.if-o-lt-NIL.true _ c.arg_at-v.ensures; held_x = h.valid.held; line = ready_place _ _ _ _ _ h }
 
 pub take_end-x-requires : goal.take_end-x-requires
-take_end-x-requires c = let h = stands c.before.before.before.before in record { fact_1 = c.requires.fact_1; fact_2 = omega (arith, h.valid.held.tag.inside); fact_3 = rows c }
+take_end-x-requires c = let h = stands c.before.before.before.before in record { given = c.requires.given; some_words = omega (arith, h.valid.held.tag.inside); rows = rows c }
 
 pub step-x-requires : goal.step-x-requires
-step-x-requires c = let h = stands c.before.before.before.before in record { fact_1 = h.target; fact_2 = c.requires.fact_1.placed; fact_3 = turn_steps _ _ _ _ _ _ _ (joined c) h.fine h.target h.valid h.count _ refl }
+step-x-requires c = let h = stands c.before.before.before.before in record { fact_1 = h.target; fact_2 = c.requires.given.placed; fact_3 = turn_steps _ _ _ _ _ _ _ (joined c) h.fine h.target h.valid h.count _ refl }
 
 pub narrow-requires : goal.narrow-requires
 narrow-requires c = let h = stands c.before.before.before.before.before.before.before in
     let o : c.op_at-o.result ≡ 9 = c.if-o-eq-MULTISET_CONS.true in
     let z = sym c.op_at-o.ensures ∙ o in record {
-      fact_1 = c.requires.fact_1;
-      fact_2 = narrow_asks _ _ _ (columns_of c.args.lines.now).mat _ _ c.args.mt.now _ _ _ _ z h.valid.long h.valid.place _ _ c.step-x.ensures h.valid.held _ refl
+      given = c.requires.given;
+      opened = narrow_asks _ _ _ (columns_of c.args.lines.now).mat _ _ c.args.mt.now _ _ _ _ z h.valid.long h.valid.place _ _ c.step-x.ensures h.valid.held _ refl
           (h.fine.slot _) (h.fine.alone _ h.valid.place (omega (arith, z)) (omega (arith, z)));
-      fact_3 = c.requires.fact_4;
+      fresh = c.requires.fresh;
     }
 
 pub asked_at-a-requires : goal.asked_at-a-requires
@@ -211,7 +211,7 @@ pub offset_bounds-b-arg_at-then-a-gt0 : goal.offset_bounds-b-arg_at-then-a-gt0
 offset_bounds-b-arg_at-then-a-gt0 c = let l = bounds-b-arg_at-then-a-gt0 c in record { fits = omega (arith, l) }
 
 pub pass-requires : goal.pass-requires
-pass-requires c = let h = stands c.before.before.before.before.before.before.before.before.before.before.before.before.before.before in record { fact_1 = h.target; fact_2 = c.requires.fact_1.placed; fact_3 = sought_seeking _ _ _ _ _ c.loop-terms.invariant h.fine h.target h.live _ _ _ _ (chosen c.before.before.before.before.before.before) _ c.asked_at-a.ensures c.if-a-gt0.true _ _ c.arg_at.ensures c.arg_at-then-a-gt0.ensures _ refl }
+pass-requires c = let h = stands c.before.before.before.before.before.before.before.before.before.before.before.before.before.before in record { placed = c.requires.given.placed; seeking = sought_seeking _ _ _ _ _ c.loop-terms.invariant h.fine h.target h.live _ _ _ _ (chosen c.before.before.before.before.before.before) _ c.asked_at-a.ensures c.if-a-gt0.true _ _ c.arg_at.ensures c.arg_at-then-a-gt0.ensures _ refl }
 
 pub leaf_at-i-requires : goal.leaf_at-i-requires
 leaf_at-i-requires c = let h = stands c.before.before.before.before.before.before.before.before.before.before.before in leaf_looks _ _ _ _ _ c.loop-terms.invariant h.fine h.target h.live _ _ _ _ (sought c) _ refl
@@ -219,7 +219,7 @@ leaf_at-i-requires c = let h = stands c.before.before.before.before.before.befor
 pub take-r-requires : goal.take-r-requires
 take-r-requires c = let h = stands c.before.before.before.before.before.before.before.before.before.before.before.before.before.before.before.before in
     let q = sought c.before.before.before.before.before in
-    let i = c.leaf_at-i.ensures c.if-i-gt0.true in record { fact_1 = h.target; fact_2 = c.requires.fact_1.placed; fact_3 = leaf_takes _ _ _ _ _ c.loop-terms.invariant h.fine h.target h.live _ _ _ _ q _ i _ _ c.bounds_of.ensures.0 c.bounds_of.ensures.1.0; fact_4 = leaf_slotted _ _ _ _ _ c.loop-terms.invariant h.fine h.target h.live _ _ _ _ q _ i _ refl; fact_5 = leaf_alone _ _ _ _ _ c.loop-terms.invariant h.fine h.target h.live _ _ _ _ q _ i }
+    let i = c.leaf_at-i.ensures c.if-i-gt0.true in record { placed = c.requires.given.placed; takes = leaf_takes _ _ _ _ _ c.loop-terms.invariant h.fine h.target h.live _ _ _ _ q _ i _ _ c.bounds_of.ensures.0 c.bounds_of.ensures.1.0; slotted = leaf_slotted _ _ _ _ _ c.loop-terms.invariant h.fine h.target h.live _ _ _ _ q _ i _ refl; alone = leaf_alone _ _ _ _ _ c.loop-terms.invariant h.fine h.target h.live _ _ _ _ q _ i }
 
 pub arg_at-requires-then-i-gt0 : goal.arg_at-requires-then-i-gt0
 arg_at-requires-then-i-gt0 c = (c.leaf_at-i.ensures c.if-i-gt0.true).tested.place
@@ -232,7 +232,7 @@ offset_bounds-b-arg_at-then-i-gt0 c = let l = bounds-b-arg_at-then-i-gt0 c in re
 
 pub settle-x-requires : goal.settle-x-requires
 settle-x-requires c = let h = stands c.before.before.before.before in
-    let m = met c in record { fact_1 = h.target; fact_2 = c.requires.fact_1.placed; fact_3 = fine_named _ h.fine _ m.long; fact_4 = m.picks }
+    let m = met c in record { placed = c.requires.given.placed; named = fine_named _ h.fine _ m.long; picks_if = m.picks }
 
 pub loop-terms-smaller : goal.loop-terms-smaller
 loop-terms-smaller c = let h = stands c.before.before.before.before.before in

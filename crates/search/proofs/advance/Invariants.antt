@@ -7,7 +7,7 @@ use Rattle.search.proofs.Laws.{Here}
 use Rattle.search.proofs.advance.Given as goal
 
 abbrev pub invariant-loop-terms : goal.invariant-loop-terms
-invariant-loop-terms l = Here (env_by (columns_of l.lines) l.mt l.s l.terms) (run_of (env_by (columns_of l.lines) l.mt l.s l.terms) (l.terms.budget - l.initial.x.steps) (run l.initial.x (view_of (columns_of l.lines).arg l.initial.slots) l.initial.b l.initial.room)) l.terms.budget l.initial.room
+invariant-loop-terms l = Here (env_by (columns_of l.lines) l.mt l.units.words.now l.terms) (run_of (env_by (columns_of l.lines) l.mt l.units.words.now l.terms) (l.terms.budget - l.initial.x.steps) (run l.initial.x (view_of (columns_of l.lines).arg l.initial.slots) l.initial.b l.initial.room)) l.terms.budget l.initial.room
     (run l.x (view_of (columns_of l.lines).arg l.slots) l.b l.room)
 
 abbrev pub decreases-loop-terms : goal.decreases-loop-terms

@@ -4,10 +4,6 @@ use Rattle.search.specs.Run.{opening}
 use Rattle.search.specs.Searched.{unbound}
 use Rattle.search.proofs.open.Goals as goal
 
-pub whole-requires : goal.whole-requires
-unfolding opening unbound
-whole-requires c = search rules
-
 pub returns : goal.returns
 unfolding opening unbound
-returns c = record { fact_1 = ap (opening 0) c.whole.ensures; fact_2 = refl }
+returns c = record { state = ap (opening 0) c.whole.ensures; binds = refl }

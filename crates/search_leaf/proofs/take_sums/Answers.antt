@@ -13,35 +13,35 @@ use Rattle.search_leaf.proofs.take_sums.Goals as goal
 use Rattle.search_leaf.proofs.take_sums.Goals.{then-found+else-room-words, else-found}
 
 -- Where the lowest choice stands, and that its number is there.
-found_at : (c : goal.After-place_at-e) → c.place_at-e.result ≡ element_at c.args.s.now c.args.part.at c.lowest-k.result
-found_at c = let i = c.loop-more.invariant in find_is _ _ _ _ _ _ c.requires.fact_1 c.requires.fact_2 i.held.tag (next_in _ _ _ _ c.requires.fact_1 i.held c.lowest-k.ensures i.some) c.base_at-base.ensures refl _ c.place_at-e.ensures
+found_at : (c : goal.After-place_at-e) → c.place_at-e.result ≡ element_at c.args.units.words.now c.args.part.at c.lowest-k.result
+found_at c = let i = c.loop-more.invariant in find_is _ _ _ _ _ _ c.args.units.target c.requires.placed i.held.tag (next_in _ _ _ _ c.args.units.target i.held c.lowest-k.ensures i.some) c.base_at-base.ensures refl _ c.place_at-e.ensures
 
-in_words : (c : goal.After-place_at-e) → c.place_at-e.result + 1 < length c.args.s.now
-in_words c = lowest_word _ _ _ _ _ _ _ _ _ _ _ _ _ c.loop-more.invariant c.loop-more-test.true c.requires.fact_1 _ _ c.lowest-k.ensures (found_at c)
+in_words : (c : goal.After-place_at-e) → c.place_at-e.result + 1 < length c.args.units.words.now
+in_words c = lowest_word _ _ _ _ _ _ _ _ _ _ _ _ _ c.loop-more.invariant c.loop-more-test.true c.args.units.target _ _ c.lowest-k.ensures (found_at c)
 
 -- src/lib.rt:85:9
 pub returns-then-budget-lt4 : goal.returns-then-budget-lt4
-returns-then-budget-lt4 c = going_told _ _ _ _ _ _ _ _ _ _ _ _ _ (going_start _ _ _ _ _ _ _ _ c.requires.fact_3 c.requires.fact_4 c.requires.fact_5.2 _ refl)
+returns-then-budget-lt4 c = going_told _ _ _ _ _ _ _ _ _ _ _ _ _ (going_start _ _ _ _ _ _ _ _ c.requires.parts c.requires.counts c.requires.leaf.2 _ refl)
 
 -- src/lib.rt:88:9
 pub row_words-size-requires : goal.row_words-size-requires
-row_words-size-requires c = c.requires.fact_5.1
+row_words-size-requires c = c.requires.leaf.1
 
 -- src/lib.rt:89:9
 pub base_at-base-requires : goal.base_at-base-requires
-base_at-base-requires c = find_half _ _ c.requires.fact_1 c.requires.fact_3.held.tag
+base_at-base-requires c = find_half _ _ c.args.units.target c.requires.parts.held.tag
 
 -- src/lib.rt:91:18
 pub bounds-s-g : goal.bounds-s-g
-bounds-s-g c = c.requires.fact_3.number
+bounds-s-g c = c.requires.parts.number
 
 -- src/lib.rt:96:9
 pub rest-more-requires : goal.rest-more-requires
-rest-more-requires c = c.requires.fact_3.choice
+rest-more-requires c = c.requires.parts.choice
 
 -- src/lib.rt:97:5
 pub loop-more-init : goal.loop-more-init
-loop-more-init c = going_start _ _ _ _ _ _ _ _ c.requires.fact_3 c.requires.fact_4 c.requires.fact_5.2 _ c.rest-more.ensures
+loop-more-init c = going_start _ _ _ _ _ _ _ _ c.requires.parts c.requires.counts c.requires.leaf.2 _ c.rest-more.ensures
 
 -- src/lib.rt:99:13
 pub shape_of-room-then-end-steps : goal.shape_of-room-then-end-steps
@@ -53,11 +53,11 @@ returns-then-end-steps c = going_out _ _ _ _ _ _ _ _ _ _ _ _ _ _ _ c.loop-more.i
 
 -- src/lib.rt:102:34
 pub overflow_add-base : goal.overflow_add-base
-overflow_add-base c = let i = c.loop-more.invariant in find_fits _ _ _ _ _ _ c.requires.fact_1 c.requires.fact_2 i.held.tag (next_in _ _ _ _ c.requires.fact_1 i.held c.lowest-k.ensures i.some) c.base_at-base.ensures refl
+overflow_add-base c = let i = c.loop-more.invariant in find_fits _ _ _ _ _ _ c.args.units.target c.requires.placed i.held.tag (next_in _ _ _ _ c.args.units.target i.held c.lowest-k.ensures i.some) c.base_at-base.ensures refl
 
 -- src/lib.rt:102:13
 pub place_at-e-requires : goal.place_at-e-requires
-place_at-e-requires c = let i = c.loop-more.invariant in find_in _ _ _ _ _ _ c.requires.fact_1 c.requires.fact_2 i.held.tag (next_in _ _ _ _ c.requires.fact_1 i.held c.lowest-k.ensures i.some) c.base_at-base.ensures refl
+place_at-e-requires c = let i = c.loop-more.invariant in find_in _ _ _ _ _ _ c.args.units.target c.requires.placed i.held.tag (next_in _ _ _ _ c.args.units.target i.held c.lowest-k.ensures i.some) c.base_at-base.ensures refl
 
 -- src/lib.rt:103:51
 pub overflow_add-e : goal.overflow_add-e
@@ -87,8 +87,8 @@ returns-then-room-words c = going_out _ _ _ _ _ _ _ _ _ _ _ _ _ _ _ c.loop-more.
 pub put_row-words-requires : goal.put_row-words-requires
 put_row-words-requires c = let i = c.loop-more.invariant in
     let f = c.if-room-words.false in
-    let l : c.args.shape.vars ≤ length c.args.told.now = omega (arith, c.requires.fact_5.1, c.requires.fact_5.2) in
-    (c.requires.fact_5.1, c.requires.fact_5.2, omega (arith, i.counts.words, f, c.row_words-size.ensures, row_size c.args.shape.origins c.args.told.now c.args.shape.vars l))
+    let l : c.args.shape.vars ≤ length c.args.told.now = omega (arith, c.requires.leaf.1, c.requires.leaf.2) in
+    (c.requires.leaf.1, c.requires.leaf.2, omega (arith, i.counts.words, f, c.row_words-size.ensures, row_size c.args.shape.origins c.args.told.now c.args.shape.vars l))
 
 -- src/lib.rt:109:13
 pub overflow_add-rows : goal.overflow_add-rows
@@ -108,7 +108,7 @@ rest-more-requires-in-loop-more c = c.loop-more-test.true
 
 -- src/lib.rt:97:5
 pub loop-more-smaller : goal.loop-more-smaller
-loop-more-smaller c = going_less _ _ _ _ _ _ _ _ _ _ _ _ _ c.loop-more.invariant c.loop-more-test.true c.requires.fact_1
+loop-more-smaller c = going_less _ _ _ _ _ _ _ _ _ _ _ _ _ c.loop-more.invariant c.loop-more-test.true c.args.units.target
 
 -- src/lib.rt:97:5
 pub loop-more-preserved : goal.loop-more-preserved
@@ -117,13 +117,13 @@ loop-more-preserved c = let i = c.loop-more.invariant in
     let few = c.if-end-steps.false in
     let enough = c.if-budget-lt4.false in
     let b : 4 ≤ c.args.budget - c.loop-more.steps = omega (arith, few, enough) in
-    let e : c.place_at-e.result ≡ element_at c.args.s.now c.args.part.at c.lowest-k.result = find_is _ _ _ _ _ _ c.requires.fact_1 c.requires.fact_2 i.held.tag (next_in _ _ _ _ c.requires.fact_1 i.held c.lowest-k.ensures i.some) c.base_at-base.ensures refl _ c.place_at-e.ensures in
+    let e : c.place_at-e.result ≡ element_at c.args.units.words.now c.args.part.at c.lowest-k.result = find_is _ _ _ _ _ _ c.args.units.target c.requires.placed i.held.tag (next_in _ _ _ _ c.args.units.target i.held c.lowest-k.ensures i.some) c.base_at-base.ensures refl _ c.place_at-e.ensures in
     elim c.if-found.branch [
       | then-found+else-room-words w ↦ going_at _ _ _ _ _ _ _ _ _ _ _ _ _ _ _ _ _ _ _ _ w.steps-is w.rows-is w.words-is w.room-is
-          (going_sums _ _ _ _ _ _ _ _ _ _ _ _ _ i h c.requires.fact_1 _ _ c.lowest-k.ensures e _ (search rules) _ (search rules) _ (search rules) _ c.is_total-found.ensures c.requires.fact_5.0 b _ c.rest-more-in-loop-more.ensures w.if-found.true
-          _ c.row_words-size.ensures c.requires.fact_5.1 w.if-room-words.false _ _ w.put_row-words.ensures.0 w.put_row-words.ensures.1)
+          (going_sums _ _ _ _ _ _ _ _ _ _ _ _ _ i h c.args.units.target _ _ c.lowest-k.ensures e _ (search rules) _ (search rules) _ (search rules) _ c.is_total-found.ensures c.requires.leaf.0 b _ c.rest-more-in-loop-more.ensures w.if-found.true
+          _ c.row_words-size.ensures c.requires.leaf.1 w.if-room-words.false _ _ w.put_row-words.ensures.0 w.put_row-words.ensures.1)
       | else-found w ↦ going_at _ _ _ _ _ _ _ _ _ _ _ _ _ _ _ _ _ _ _ _ w.steps-is w.rows-is w.words-is w.room-is
-          (going_fails _ _ _ _ _ _ _ _ _ _ _ _ _ i h c.requires.fact_1 _ _ c.lowest-k.ensures e _ (search rules) _ (search rules) _ (search rules) _ c.is_total-found.ensures c.requires.fact_5.0 b _ c.rest-more-in-loop-more.ensures w.if-found.false)
+          (going_fails _ _ _ _ _ _ _ _ _ _ _ _ _ i h c.args.units.target _ _ c.lowest-k.ensures e _ (search rules) _ (search rules) _ (search rules) _ c.is_total-found.ensures c.requires.leaf.0 b _ c.rest-more-in-loop-more.ensures w.if-found.false)
     ]
 
 -- src/lib.rt:71:1

@@ -7,7 +7,7 @@ use Rattle.search_seek.proofs.Laws.{frame_held, frame_some, over_is}
 use Rattle.search_seek.proofs.pass_over.Goals as goal
 
 pub seek-last-requires : goal.seek-last-requires
-seek-last-requires c = let h = c.requires.fact_3 in record { fact_1 = c.requires.fact_1; fact_2 = c.requires.fact_2; fact_3 = frame_held _ _ _ _ c.frame_at-f.ensures h.held; fact_4 = (frame_some c.args.s.now _ _ _ c.frame_at-f.ensures h.choice, h.number, h.steps) }
+seek-last-requires c = let h = c.requires.seeks in record { placed = c.requires.placed; held = frame_held _ _ _ _ c.frame_at-f.ensures h.held; counted = (frame_some c.args.units.words.now _ _ _ c.frame_at-f.ensures h.choice, h.number, h.steps) }
 
 pub returns : goal.returns
 returns c = let k : SFits w32 c.con_at-c.result = search rules in

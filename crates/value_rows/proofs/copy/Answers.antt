@@ -6,5 +6,5 @@ use Rattle.value_rows.proofs.copy.Goals as goal
 pub returns : goal.returns
 returns c = (
   omega (arith, c.put_words.ensures.behind, length-take {A = ℤ}, length-drop {A = ℤ}),
-  c.put_words.ensures.written ∙ ap (put c.args.room.now c.args.at) (part_is c.args.from c.args.to c.args.s.now c.requires.fact_1),
+  c.put_words.ensures.written ∙ ap (put c.args.room.now c.args.at) (part_is c.args.from c.args.to c.args.s.now c.requires.ordered),
 )

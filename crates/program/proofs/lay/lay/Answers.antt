@@ -12,10 +12,10 @@ loop-c-init c = let t = columns_of c.args.lines.now in
     (start _ _ _ _ _ _ refl refl refl (λ j. get_d_same 257 j 0) (λ j. get_d_same 257 j 0))
 
 pub lay_next-c-requires-clause-low : goal.lay_next-c-requires-clause-low
-lay_next-c-requires-clause-low c = lines_low c.loop-c.invariant c.requires.fact_2
+lay_next-c-requires-clause-low c = lines_low c.loop-c.invariant c.requires.short
 
 pub put-requires : goal.put-requires
-put-requires c = end_low c.loop-c.invariant c.requires.fact_2 c.loop-c-test.false
+put-requires c = end_low c.loop-c.invariant c.requires.short c.loop-c-test.false
 
 pub returns : goal.returns
-returns c = let r = end_returns c.loop-c.invariant c.requires.fact_2 c.loop-c-test.false _ c.put.ensures in record { fact_1 = r.0; fact_2 = r.1 }
+returns c = let r = end_returns c.loop-c.invariant c.requires.short c.loop-c-test.false _ c.put.ensures in record { last = r.0; lines = r.1 }

@@ -3,10 +3,6 @@ use Rattle.program_rules.specs.Pile.{land_at}
 use Rattle.program.proofs.link.Pass.{place_rules}
 use Rattle.program.proofs.link.land_by.Goals as goal
 
-pub overflow_cast-result : goal.overflow_cast-result
-unfolding land_at
-overflow_cast-result c = search place_rules
-
 pub returns-in-18 : goal.returns-in-18
 unfolding land_at
 returns-in-18 c = rw c.in-18.is

@@ -5,13 +5,13 @@ use Rattle.round_run.proofs.Courses.{gone_none, gone_room, gone_begins, gone_spe
 use Rattle.round_run.proofs.rounds.rounds.Goals as goal
 
 pub loop-r-init : goal.loop-r-init
-loop-r-init c = gone_none c.requires.fact_2
+loop-r-init c = gone_none c.requires.starts
 
 pub shape_of-table-then-terms-x : goal.shape_of-table-then-terms-x
 shape_of-table-then-terms-x c = c.loop-r.invariant.long
 
 pub shape_of-room-then-terms-x : goal.shape_of-room-then-terms-x
-shape_of-room-then-terms-x c = gone_room c.loop-r.invariant c.requires.fact_2
+shape_of-room-then-terms-x c = gone_room c.loop-r.invariant c.requires.starts
 
 pub returns-then-terms-x : goal.returns-then-terms-x
 returns-then-terms-x c = gone_spent c.loop-r.invariant c.loop-r-test.true c.if-terms-x.true _ c.halt.ensures
@@ -20,19 +20,19 @@ pub shape_of-table-then-limit-r : goal.shape_of-table-then-limit-r
 shape_of-table-then-limit-r c = c.loop-r.invariant.long
 
 pub shape_of-room-then-limit-r : goal.shape_of-room-then-limit-r
-shape_of-room-then-limit-r c = gone_room c.loop-r.invariant c.requires.fact_2
+shape_of-room-then-limit-r c = gone_room c.loop-r.invariant c.requires.starts
 
 pub returns-then-limit-r : goal.returns-then-limit-r
 returns-then-limit-r c = gone_table c.loop-r.invariant c.loop-r-test.true c.if-terms-x.false c.if-limit-r.true _ c.halt-then-limit-r.ensures
 
 pub take_round-q-requires : goal.take_round-q-requires
-take_round-q-requires c = record { fact_1 = c.requires.fact_1; fact_2 = gone_begins c.loop-r.invariant c.requires.fact_2 c.loop-r-test.true c.if-terms-x.false c.if-limit-r.false; fact_3 = c.requires.fact_3 }
+take_round-q-requires c = record { given = c.requires.given; begins = gone_begins c.loop-r.invariant c.requires.starts c.loop-r-test.true c.if-terms-x.false c.if-limit-r.false; budget_fits = c.requires.budget_fits }
 
 pub shape_of-table-then-q-ne0 : goal.shape_of-table-then-q-ne0
 shape_of-table-then-q-ne0 c = c.take_round-q.ensures.long ∙ c.loop-r.invariant.long
 
 pub shape_of-room-then-q-ne0 : goal.shape_of-room-then-q-ne0
-shape_of-room-then-q-ne0 c = gone_more c.loop-r.invariant c.if-limit-r.false _ _ _ _ c.take_round-q.ensures c.requires.fact_2
+shape_of-room-then-q-ne0 c = gone_more c.loop-r.invariant c.if-limit-r.false _ _ _ _ c.take_round-q.ensures c.requires.starts
 
 pub returns-then-q-ne0 : goal.returns-then-q-ne0
 returns-then-q-ne0 c = gone_stopped c.loop-r.invariant c.if-limit-r.false _ _ _ _ c.take_round-q.ensures c.if-q-ne0.true
@@ -47,7 +47,7 @@ pub shape_of-table : goal.shape_of-table
 shape_of-table c = c.loop-r.invariant.long
 
 pub shape_of-room : goal.shape_of-room
-shape_of-room c = gone_room c.loop-r.invariant c.requires.fact_2
+shape_of-room c = gone_room c.loop-r.invariant c.requires.starts
 
 pub returns : goal.returns
 returns c = gone_done c.loop-r.invariant c.loop-r-test.false

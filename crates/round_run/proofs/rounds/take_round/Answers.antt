@@ -4,22 +4,22 @@ use Rattle.round_run.proofs.Courses.{begins_sweeps, begins_fresh, begins_there, 
 use Rattle.round_run.proofs.rounds.take_round.Goals as goal
 
 pub sweep-w-requires : goal.sweep-w-requires
-sweep-w-requires c = record { fact_1 = c.requires.fact_1; fact_2 = begins_sweeps c.requires.fact_2; fact_3 = c.requires.fact_3 }
+sweep-w-requires c = record { given = c.requires.given; sweeps = begins_sweeps c.requires.begins; budget_fits = c.requires.budget_fits }
 
 pub shape_of-table-then-w-ne0 : goal.shape_of-table-then-w-ne0
 shape_of-table-then-w-ne0 c = c.sweep-w.ensures.long
 
 pub shape_of-room-then-w-ne0 : goal.shape_of-room-then-w-ne0
-shape_of-room-then-w-ne0 c = begins_room c.requires.fact_2 c.sweep-w.ensures
+shape_of-room-then-w-ne0 c = begins_room c.requires.begins c.sweep-w.ensures
 
 pub returns-then-w-ne0 : goal.returns-then-w-ne0
-returns-then-w-ne0 c = let P = c.requires.fact_2 in round_halts P.going P.some P.steps c.sweep-w.ensures c.if-w-ne0.true _ c.halt.ensures
+returns-then-w-ne0 c = let P = c.requires.begins in round_halts P.going P.some P.steps c.sweep-w.ensures c.if-w-ne0.true _ c.halt.ensures
 
 pub pull-requires : goal.pull-requires
-pull-requires c = let P = c.requires.fact_2 in record { fact_1 = begins_fresh P c.sweep-w.ensures c.if-w-ne0.false; fact_2 = P.journey.uses.most; fact_3 = begins_there P c.sweep-w.ensures c.if-w-ne0.false }
+pull-requires c = let P = c.requires.begins in record { fresh = begins_fresh P c.sweep-w.ensures c.if-w-ne0.false; few_slots = P.journey.uses.most; table_long = begins_there P c.sweep-w.ensures c.if-w-ne0.false }
 
 pub overflow_add-result : goal.overflow_add-result
-overflow_add-result c = let P = c.requires.fact_2 in
+overflow_add-result c = let P = c.requires.begins in
     let a = begins_fresh P c.sweep-w.ensures c.if-w-ne0.false in
     let b = begins_few P c.sweep-w.ensures c.if-w-ne0.false in
     omega arith
@@ -28,8 +28,8 @@ pub shape_of-table : goal.shape_of-table
 shape_of-table c = c.pull.ensures.long ∙ c.sweep-w.ensures.long
 
 pub shape_of-room : goal.shape_of-room
-shape_of-room c = begins_room c.requires.fact_2 c.sweep-w.ensures
+shape_of-room c = begins_room c.requires.begins c.sweep-w.ensures
 
 pub returns : goal.returns
-returns c = let P = c.requires.fact_2 in
+returns c = let P = c.requires.begins in
     round_goes P.going P.some P.steps P.journey P.onward P.waits c.sweep-w.ensures c.if-w-ne0.false _ c.pull.ensures

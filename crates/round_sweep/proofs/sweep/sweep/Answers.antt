@@ -10,13 +10,13 @@ pub shape_of-table-then-w-ne0 : goal.shape_of-table-then-w-ne0
 shape_of-table-then-w-ne0 c = c.loop-i.invariant.long
 
 pub shape_of-room-then-w-ne0 : goal.shape_of-room-then-w-ne0
-shape_of-room-then-w-ne0 c = swept_room c.loop-i.invariant c.requires.fact_2
+shape_of-room-then-w-ne0 c = swept_room c.loop-i.invariant c.requires.sweeps
 
 pub returns-then-w-ne0 : goal.returns-then-w-ne0
 returns-then-w-ne0 c = swept_stopped c.loop-i.invariant c.if-w-ne0.true
 
 pub turn-w-requires : goal.turn-w-requires
-turn-w-requires c = record { fact_1 = c.requires.fact_1; fact_2 = swept_turning c.loop-i.invariant c.requires.fact_2 c.if-w-ne0.false c.loop-i-test.true; fact_3 = c.requires.fact_3 }
+turn-w-requires c = record { given = c.requires.given; turning = swept_turning c.loop-i.invariant c.requires.sweeps c.if-w-ne0.false c.loop-i-test.true; budget_fits = c.requires.budget_fits }
 
 pub loop-i-preserved : goal.loop-i-preserved
 loop-i-preserved c = swept_next c.loop-i.invariant c.loop-i-test.true _ _ _ _ c.turn-w.ensures
@@ -25,7 +25,7 @@ pub shape_of-table : goal.shape_of-table
 shape_of-table c = c.loop-i.invariant.long
 
 pub shape_of-room : goal.shape_of-room
-shape_of-room c = swept_room c.loop-i.invariant c.requires.fact_2
+shape_of-room c = swept_room c.loop-i.invariant c.requires.sweeps
 
 pub returns : goal.returns
 returns c = swept_all c.loop-i.invariant c.loop-i-test.false

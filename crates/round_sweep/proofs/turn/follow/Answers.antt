@@ -12,7 +12,7 @@ pub returns-then-x-eq-ENDED : goal.returns-then-x-eq-ENDED
 returns-then-x-eq-ENDED c = follow_none c.if-t.false c.if-x-eq-ENDED.true
 
 pub keep-requires : goal.keep-requires
-keep-requires c = record { fact_1 = follow_framed c.if-t.false c.if-x-eq-FULL.false c.if-x-eq-ENDED.false c.requires; fact_2 = c.requires.course.ruled.fine.few; fact_3 = c.requires.course.uses.variables; fact_4 = c.requires.course.uses.most; fact_5 = c.requires.mid.place }
+keep-requires c = record { framed = follow_framed c.if-t.false c.if-x-eq-FULL.false c.if-x-eq-ENDED.false c.requires; few_variables = c.requires.course.ruled.fine.few; all_bindings = c.requires.course.uses.variables; few_slots = c.requires.course.uses.most; table_long = c.requires.mid.place }
 
 pub choices_left-more-requires : goal.choices_left-more-requires
 choices_left-more-requires c = follow_framing c.if-t.false c.if-x-eq-FULL.false c.if-x-eq-ENDED.false c.requires
@@ -21,7 +21,7 @@ pub overflow_add-result : goal.overflow_add-result
 overflow_add-result c = let a = c.requires.mid.early in let b = c.requires.index in omega arith
 
 pub overflow_add-result-2 : goal.overflow_add-result-2
-overflow_add-result-2 c = let a = c.requires.mid.few in let b = c.requires.index in let d = c.requires.small in let f = c.choices_left-more.ensures.fact_2 in omega arith
+overflow_add-result-2 c = let a = c.requires.mid.few in let b = c.requires.index in let d = c.requires.small in let f = c.choices_left-more.ensures.few in omega arith
 
 pub returns : goal.returns
-returns c = follow_some c.if-t.false c.if-x-eq-FULL.false c.if-x-eq-ENDED.false _ _ c.keep.ensures c.choices_left-more.ensures.fact_1 c.choices_left-more.ensures.fact_2
+returns c = follow_some c.if-t.false c.if-x-eq-FULL.false c.if-x-eq-ENDED.false _ _ c.keep.ensures c.choices_left-more.ensures.value c.choices_left-more.ensures.few

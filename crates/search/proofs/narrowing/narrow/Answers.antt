@@ -10,11 +10,11 @@ pub returns-then-m-eq0 : goal.returns-then-m-eq0
 returns-then-m-eq0 c = narrow_empty _ _ _ _ _ _ c.if-not-terms.false c.if-m-eq0.true
 
 pub narrow_above-requires : goal.narrow_above-requires
-narrow_above-requires c = let p = some_marks _ c.if-m-eq0.false in record { fact_1 = c.requires.fact_1; fact_2 = opened_lower _ (columns_of c.args.lines.now).mat _ _ c.requires.fact_1.target _ _ p (c.requires.fact_2 p); fact_3 = c.requires.fact_3 }
+narrow_above-requires c = let p = some_marks _ c.if-m-eq0.false in record { given = c.requires.given; above = opened_lower _ (columns_of c.args.lines.now).mat _ _ c.requires.given.target _ _ p (c.requires.opened p); fresh = c.requires.fresh }
 
 pub narrow_above-requires-2 : goal.narrow_above-requires-2
-narrow_above-requires-2 c = let p = some_marks _ c.if-m-eq0.false in record { fact_1 = c.requires.fact_1; fact_2 = opened_upper _ (columns_of c.args.lines.now).mat _ _ c.requires.fact_1.target _ _ p (c.requires.fact_2 p) _ c.narrow_above.ensures; fact_3 = c.requires.fact_3 }
+narrow_above-requires-2 c = let p = some_marks _ c.if-m-eq0.false in record { given = c.requires.given; above = opened_upper _ (columns_of c.args.lines.now).mat _ _ c.requires.given.target _ _ p (c.requires.opened p) _ c.narrow_above.ensures; fresh = c.requires.fresh }
 
 pub returns : goal.returns
 returns c = let p = some_marks _ c.if-m-eq0.false in
-    narrow_both _ c.if-not-terms.false _ (columns_of c.args.lines.now).mat _ _ c.requires.fact_1.target _ _ p (c.requires.fact_2 p) _ c.narrow_above.ensures _ c.narrow_above-2.ensures
+    narrow_both _ c.if-not-terms.false _ (columns_of c.args.lines.now).mat _ _ c.requires.given.target _ _ p (c.requires.opened p) _ c.narrow_above.ensures _ c.narrow_above-2.ensures

@@ -3,10 +3,6 @@ use Rattle.search_step.specs.Steps.{counted, lived}
 use Rattle.search.specs.Run.{filled}
 use Rattle.search.proofs.taking.filled.Goals as goal
 
-pub ended-requires : goal.ended-requires
-unfolding counted lived filled
-ended-requires c = search rules
-
 pub returns : goal.returns
 unfolding counted lived filled
 returns c = c.ended.ensures

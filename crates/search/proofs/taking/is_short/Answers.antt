@@ -4,7 +4,7 @@ use Rattle.search.proofs.Laws.{short_asked, short_ample}
 use Rattle.search.proofs.taking.is_short.Goals as goal
 
 pub overflow_mul-n : goal.overflow_mul-n
-overflow_mul-n c = targets_fit _ _ c.requires.fact_1.target c.requires.fact_2.most
+overflow_mul-n c = targets_fit _ _ c.requires.given.target c.requires.bound.most
 
 pub returns-then-free-n : goal.returns-then-free-n
 returns-then-free-n c = search (short_asked, rules)

@@ -1,11 +1,5 @@
 use Rattle.search_seek.proofs.Lines.{second_line, asked_rules}
 use Rattle.search_seek.proofs.asked.asked_at.Goals as goal
 
-pub first_at-i-requires : goal.first_at-i-requires
-first_at-i-requires c = search asked_rules
-
 pub second_at-requires : goal.second_at-requires
 second_at-requires c = second_line _ _ _ _ c.requires c.first_at-i.ensures
-
-pub returns : goal.returns
-returns c = search asked_rules

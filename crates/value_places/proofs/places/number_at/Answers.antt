@@ -4,12 +4,6 @@ use Rattle.value_places.proofs.Counting.{number_rules, number_at_is}
 use mir.Syntax.{w32}
 use Rattle.value_places.proofs.places.number_at.Goals as goal
 
-pub offset_bounds-s-at : goal.offset_bounds-s-at
-offset_bounds-s-at c = search number_rules
-
-pub bounds-s-at : goal.bounds-s-at
-bounds-s-at c = search number_rules
-
 pub overflow_cast-result : goal.overflow_cast-result
 overflow_cast-result c = (number_at_is _ _ _ (to_z-of_z {w = w32} (sfits_of c.result-1.given)) c.requires).0
 

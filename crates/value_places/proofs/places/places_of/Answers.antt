@@ -4,49 +4,13 @@ use Rattle.value_places.proofs.Ends.{ends_turn, ends_fill, ends_base}
 use Rattle.value_places.proofs.Filling.{from_rules, fill_whole, from_end, from_some}
 use Rattle.value_places.proofs.places.places_of.Goals as goal
 
-pub loop-at-init : goal.loop-at-init
-loop-at-init c = search from_rules
-
-pub overflow_sub-at : goal.overflow_sub-at
-overflow_sub-at c = search from_rules
-
-pub count_at-n-requires : goal.count_at-n-requires
-count_at-n-requires c = search from_rules
-
-pub overflow_add-at : goal.overflow_add-at
-overflow_add-at c = search from_rules
-
-pub put_end-requires : goal.put_end-requires
-put_end-requires c = search from_rules
-
-pub loop-at-smaller-then-n-eq0 : goal.loop-at-smaller-then-n-eq0
-loop-at-smaller-then-n-eq0 c = search from_rules
-
-pub loop-at-preserved-then-n-eq0 : goal.loop-at-preserved-then-n-eq0
-loop-at-preserved-then-n-eq0 c = (search from_rules, search from_rules, search from_rules, search from_rules, search from_rules, search from_rules)
-
-pub put_base-requires : goal.put_base-requires
-put_base-requires c = search from_rules
-
-pub overflow_add-at-else-n-eq0 : goal.overflow_add-at-else-n-eq0
-overflow_add-at-else-n-eq0 c = search from_rules
-
 pub fill-e-requires : goal.fill-e-requires
 fill-e-requires c = let l = c.loop-at.invariant in
-    let b = c.put_base.ensures in record { fact_1 = search from_rules; fact_2 = search from_rules; fact_3 = search from_rules; fact_4 = (search from_rules, base_whole _ _ _ _ b l.2) }
-
-pub put_end-requires-else-n-eq0 : goal.put_end-requires-else-n-eq0
-put_end-requires-else-n-eq0 c = search from_rules
-
-pub overflow_add-used : goal.overflow_add-used
-overflow_add-used c = search from_rules
-
-pub loop-at-smaller : goal.loop-at-smaller
-loop-at-smaller c = search from_rules
+    let b = c.put_base.ensures in record { ends_from = search from_rules; standing = search from_rules; places_left = (search from_rules, base_whole _ _ _ _ b l.2) }
 
 pub loop-at-preserved : goal.loop-at-preserved
 loop-at-preserved c = let l = c.loop-at.invariant in
-    let g = c.requires.fact_1 in
+    let g = c.args.units.target in
     let h = c.loop-at-test.true in
     let n = c.count_at-n.ensures in
     let b = c.put_base.ensures in
@@ -61,6 +25,3 @@ loop-at-preserved c = let l = c.loop-at.invariant in
       from_end _ _ _ _ _ _ _ p (from_some _ _ _ _ g l.0 l.1 h n l.5 _ _ _ b f.1 _ refl l.2 l.4),
       search from_rules,
     )
-
-pub returns : goal.returns
-returns c = search from_rules
