@@ -6,6 +6,9 @@ use Rattle.round_run.proofs.search_rounds.Goals as goal
 pub returns-then-limit-eq0 : goal.returns-then-limit-eq0
 returns-then-limit-eq0 c = no_table_lem _ _ _ _ _ c.most_states-limit.ensures c.if-limit-eq0.true _ c.without_table.ensures
 
+pub invariant_of-units : goal.invariant_of-units
+invariant_of-units c = record { target = c.requires.ruled.target_is }
+
 pub places_of-requires : goal.places_of-requires
 places_of-requires c = no_places_lem _ c.no_places-places.ensures
 

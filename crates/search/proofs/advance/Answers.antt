@@ -155,7 +155,7 @@ pub bounds-b-v : goal.bounds-b-v
 bounds-b-v c = ready_number _ _ _ _ _ (stands c.before.before.before.before) _ c.op_at-o.ensures (omega (arith, c.if-o-eq-SUM.true)) (omega (arith, c.if-o-eq-SUM.true)) _ c.arg_at-v.ensures
 
 pub is_sum_at-same-requires : goal.is_sum_at-same-requires
-is_sum_at-same-requires c = let h = stands c.before.before.before.before.before in
+is_sum_at-same-requires c = let h = stands c.before.before.before.before.before.before in
     let k = ready_sum _ _ _ _ _ h _ c.op_at-o.ensures (omega (arith, c.if-o-eq-SUM.true)) (omega (arith, c.if-o-eq-SUM.true)) _ c.arg_at-v.ensures in record { number_y = k.0; number_x = k.1; line = ready_place _ _ _ _ _ h; constant = ready_constant _ _ _ _ _ h }
 
 pub offset_bounds-b-v-then-o-eq-BIND : goal.offset_bounds-b-v-then-o-eq-BIND
@@ -177,7 +177,7 @@ pub take_end-x-requires : goal.take_end-x-requires
 take_end-x-requires c = let h = stands c.before.before.before.before in record { given = c.requires.given; some_words = omega (arith, h.valid.held.tag.inside); rows = rows c }
 
 pub step-x-requires : goal.step-x-requires
-step-x-requires c = let h = stands c.before.before.before.before in record { fact_1 = h.target; fact_2 = c.requires.given.placed; fact_3 = turn_steps _ _ _ _ _ _ _ (joined c) h.fine h.target h.valid h.count _ refl }
+step-x-requires c = let h = stands c.before.before.before.before in record { placed = c.requires.given.placed; steps = turn_steps _ _ _ _ _ _ _ (joined c) h.fine h.target h.valid h.count _ refl }
 
 pub narrow-requires : goal.narrow-requires
 narrow-requires c = let h = stands c.before.before.before.before.before.before.before in

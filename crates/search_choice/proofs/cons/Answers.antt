@@ -10,3 +10,11 @@ pub returns : goal.returns
 unfolding moved topped
 returns c = cons_is _ _ _ _ _ _ _ _ _ _ _ _ _ c.frame_at-f.ensures c.lowest-k.ensures c.element-e.ensures c.whole-a.ensures c.without-b.ensures
     c.put_back.ensures c.rest-more.ensures c.leave.ensures.value c.leave.ensures.slots
+
+pub element-e-requires : goal.element-e-requires
+unfolding moved topped
+element-e-requires c = search cons_rules
+
+pub whole-a-requires : goal.whole-a-requires
+unfolding moved topped
+whole-a-requires c = search cons_rules

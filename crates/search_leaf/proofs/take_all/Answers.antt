@@ -17,7 +17,7 @@ use Rattle.search_leaf.proofs.take_all.Goals as goal
 use Rattle.search_leaf.proofs.take_all.Goals.{then-part-eq-BIND+else-tag-ne0, else-part-eq-BIND}
 
 -- Where the lowest choice stands.
-found_at : (c : goal.After-place_at-e) → c.place_at-e.result ≡ element_at c.args.units.words.now c.args.part.at c.lowest-k.result
+found_at : (c : goal.After-number_at-arg-1) → c.place_at-e.result ≡ element_at c.args.units.words.now c.args.part.at c.lowest-k.result
 found_at c = let i = c.loop-next.invariant in find_is _ _ _ _ _ _ c.args.units.target c.requires.placed i.held.tag (next_in _ _ _ _ c.args.units.target i.held c.lowest-k.ensures i.some) c.base_at-base.ensures refl _ c.place_at-e.ensures
 
 -- src/lib.rt:149:9
@@ -82,7 +82,7 @@ returns-then-tag-ne0 c = going_out _ _ _ _ _ _ _ _ _ _ _ _ _ _ _ c.loop-next.inv
 
 -- src/lib.rt:172:23
 pub word_of-requires : goal.word_of-requires
-word_of-requires c = let w = lowest_word _ _ _ _ _ _ _ _ _ _ _ _ _ c.loop-next.invariant c.loop-next-test.true c.args.units.target _ _ c.lowest-k.ensures (found_at c.before.before) in (omega (arith, w, c.args.units.target.short), w)
+word_of-requires c = let w = lowest_word _ _ _ _ _ _ _ _ _ _ _ _ _ c.loop-next.invariant c.loop-next-test.true c.args.units.target _ _ c.lowest-k.ensures (found_at c.before.before.before) in (omega (arith, w, c.args.units.target.short), w)
 
 -- src/lib.rt:172:13
 pub offset_bounds-told-v : goal.offset_bounds-told-v

@@ -32,8 +32,8 @@ pub base_at-base-requires : goal.base_at-base-requires
 base_at-base-requires c = find_half _ _ c.args.units.target c.requires.parts.held.tag
 
 -- src/lib.rt:91:18
-pub bounds-s-g : goal.bounds-s-g
-bounds-s-g c = c.requires.parts.number
+pub bounds-units-g : goal.bounds-units-g
+bounds-units-g c = c.requires.parts.number
 
 -- src/lib.rt:96:9
 pub rest-more-requires : goal.rest-more-requires
@@ -64,12 +64,12 @@ pub overflow_add-e : goal.overflow_add-e
 overflow_add-e c = let l = in_words c in search rules
 
 -- src/lib.rt:103:49
-pub offset_bounds-s-e : goal.offset_bounds-s-e
-offset_bounds-s-e c = let l = in_words c in search rules
+pub offset_bounds-units-e : goal.offset_bounds-units-e
+offset_bounds-units-e c = let l = in_words c in search rules
 
 -- src/lib.rt:103:49
-pub bounds-s-e : goal.bounds-s-e
-bounds-s-e c = in_words c
+pub bounds-units-e : goal.bounds-units-e
+bounds-units-e c = in_words c
 
 -- src/lib.rt:105:16
 pub overflow_sub-room : goal.overflow_sub-room

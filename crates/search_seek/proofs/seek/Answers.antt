@@ -18,3 +18,9 @@ returns-then-budget-steps c = let k : SFits w32 c.args.c = search rules in (pass
 
 pub returns : goal.returns
 returns c = let k : SFits w32 c.args.c = search rules in (passed_by_lem (to_z-of_z k) c.loop-more.invariant.0, c.loop-more.invariant.4)
+
+pub element-e-requires : goal.element-e-requires
+element-e-requires c = record { placed = search seek_rules; tag = search seek_rules; element = search seek_rules }
+
+pub is_sum-found-requires : goal.is_sum-found-requires
+is_sum-found-requires c = record { number_a = search seek_rules; number_b = search seek_rules }

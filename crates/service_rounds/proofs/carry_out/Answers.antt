@@ -7,15 +7,15 @@ use Rattle.service_rounds.proofs.Matches.{ready_ruled, picked_rounds}
 use Rattle.service_rounds.proofs.carry_out.Goals as goal
 
 pub compile-vars-requires : goal.compile-vars-requires
-compile-vars-requires c = record { fact_1 = matcher_few _ _ _ c.requires.ready; fact_2 = pattern_few _ _ _ c.requires.ready }
+compile-vars-requires c = record { brief = matcher_few _ _ _ c.requires.ready; short = pattern_few _ _ _ c.requires.ready }
 
 pub search_rounds-requires : goal.search_rounds-requires
 search_rounds-requires c = record {
-  fact_1 = ready_ruled _ _ _ _ _ _ _ _ c.requires.ready c.no_lines-lines.ensures c.compile-vars.ensures.fact_1 c.compile-vars.ensures.fact_2;
-  fact_2 = search rules;
+  ruled = ready_ruled _ _ _ _ _ _ _ _ c.requires.ready c.no_lines-lines.ensures c.compile-vars.ensures.value c.compile-vars.ensures.lines;
+  budget_fits = search rules;
 }
 
 pub returns : goal.returns
 unfolding told reported matched
-returns c = picked_rounds _ _ _ _ _ _ _ _ c.requires.ready c.no_lines-lines.ensures c.compile-vars.ensures.fact_1 c.compile-vars.ensures.fact_2 _ _ c.takes_firsts.ensures c.tells_origins.ensures
+returns c = picked_rounds _ _ _ _ _ _ _ _ c.requires.ready c.no_lines-lines.ensures c.compile-vars.ensures.value c.compile-vars.ensures.lines _ _ c.takes_firsts.ensures c.tells_origins.ensures
     c.requires.rule_is_in _ _ _ _ _ c.from.ensures c.search_rounds.ensures

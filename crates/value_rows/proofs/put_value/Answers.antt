@@ -20,3 +20,12 @@ returns c =
       put_collection s c.args.at c.args.m c.args.from _ g h e z _ _ _ _ _ (to_z-of_z {w = w32} (sfits_of c.count_word-n.type_inv) ∙ c.count_word-n.ensures) o
           c.put_words-elements.ensures.written c.put_left.ensures.1,
     )
+
+pub put_whole-requires : goal.put_whole-requires
+put_whole-requires c = search put_rules
+
+pub returns-then-tag-ne1 : goal.returns-then-tag-ne1
+returns-then-tag-ne1 c = search put_rules
+
+pub put_words-elements-requires : goal.put_words-elements-requires
+put_words-elements-requires c = search put_rules

@@ -14,3 +14,9 @@ returns-then-tag-eq0 c =
       integer_end s c.args.at c.args.from _ g t e z _ c.put_words.ensures.behind,
       integer_words s c.args.at c.args.from _ g t e z _ _ _ (to_z-of_z {w = w32} (sfits_of c.x-1.given)) c.put_words.ensures.written,
     )
+
+pub put_words-requires : goal.put_words-requires
+put_words-requires c = search put_whole_rules
+
+pub returns : goal.returns
+returns c = search put_whole_rules

@@ -28,7 +28,7 @@ returns-then-not-many c = leafs_none _ _ _
 
 -- src/lines.rt:105:9
 pub tested_at-i-requires : goal.tested_at-i-requires
-tested_at-i-requires c = record { fact_1 = search frame_rules; fact_2 = search frame_rules }
+tested_at-i-requires c = record { line = search frame_rules; ends = search frame_rules }
 
 -- src/lines.rt:107:9
 pub returns-then-i-eq0 : goal.returns-then-i-eq0
@@ -36,7 +36,7 @@ returns-then-i-eq0 c = leafs_none _ _ _
 
 -- src/lines.rt:109:9
 pub is_last-last-requires : goal.is_last-last-requires
-is_last-last-requires c = record { fact_1 = tested_place _ _ _ c.tested_at-i.ensures c.if-i-eq0.false; fact_2 = search frame_rules }
+is_last-last-requires c = record { line = tested_place _ _ _ c.tested_at-i.ensures c.if-i-eq0.false; ends = search frame_rules }
 
 -- src/lines.rt:111:9
 pub returns-then-last : goal.returns-then-last

@@ -37,7 +37,7 @@ number_at-tag-requires c = tag_small _ _ c.args.units.target (c.requires.bound.a
 
 -- src/told.rt:70:17
 pub returns-then-tag-ne0 : goal.returns-then-tag-ne0
-returns-then-tag-ne0 c = record { fact_1 = refl; fact_2 = no_answer }
+returns-then-tag-ne0 c = record { value = refl; tells = no_answer }
 
 -- src/told.rt:75:24
 pub word_of-requires : goal.word_of-requires
@@ -62,4 +62,4 @@ loop-v-preserved c = let h = c.loop-v-test.true in
 
 -- src/told.rt:51:1
 pub returns : goal.returns
-returns c = record { fact_1 = refl; fact_2 = λ e. tells_all _ _ _ _ _ _ c.loop-v.invariant _ c.loop-v.auto.v-end c.loop-v-test.false }
+returns c = record { value = refl; tells = λ e. tells_all _ _ _ _ _ _ c.loop-v.invariant _ c.loop-v.auto.v-end c.loop-v-test.false }

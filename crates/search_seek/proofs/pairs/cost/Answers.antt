@@ -22,3 +22,6 @@ returns-then-second c = cost_fits _ _ _ _ c.is_wide-fits.ensures (not_false _ c.
 
 pub returns : goal.returns
 returns c = cost_second _ _ _ _ c.is_wide-fits.ensures (not_false _ c.if-not-fits.false-raw) _ (first_stands _ _) _ (to_z-of_z {w = w32} (search rules)) _ c.is_sum-first.ensures (not_false _ c.if-not-first.false-raw) (not_false _ c.if-not-w.false) _ c.element-b.ensures _ (to_z-of_z {w = w32} (search rules)) _ c.is_sum-second.ensures c.if-second.false
+
+pub element-b-requires : goal.element-b-requires
+element-b-requires c = record { placed = search cost_rules; tag = search cost_rules; element = search cost_rules }

@@ -5,3 +5,9 @@ use Rattle.search_seek.proofs.pairs.seek_pairs.Goals as goal
 
 pub loop-more-init : goal.loop-more-init
 loop-more-init c = (stays, search pair_rules, search pair_rules, search pair_rules, search pair_rules)
+
+pub element-e-requires : goal.element-e-requires
+element-e-requires c = record { placed = search pair_rules; tag = search pair_rules; element = search pair_rules }
+
+pub cost-n-requires : goal.cost-n-requires
+cost-n-requires c = record { placed = search pair_rules; tag = search pair_rules; integers = search pair_rules }

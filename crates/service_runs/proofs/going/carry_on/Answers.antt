@@ -5,18 +5,18 @@ use Rattle.service_runs.proofs.Steady.{lines_close, slots_numbered, carry_picked
 use Rattle.service_runs.proofs.going.carry_on.Goals as goal
 
 pub compile-vars-requires : goal.compile-vars-requires
-compile-vars-requires c = record { fact_1 = matcher_few _ _ _ c.requires.admitted.ready; fact_2 = pattern_few _ _ _ c.requires.admitted.ready }
+compile-vars-requires c = record { brief = matcher_few _ _ _ c.requires.admitted.ready; short = pattern_few _ _ _ c.requires.admitted.ready }
 
 pub try_on-requires : goal.try_on-requires
 try_on-requires c = record {
   target = ready_target _ _ _ c.requires.admitted.ready;
-  fine = ready_fine _ _ _ _ _ _ _ _ c.requires.admitted.ready c.no_lines-lines.ensures c.compile-vars.ensures.fact_1 c.compile-vars.ensures.fact_2;
-  numbered = slots_numbered _ _ _ _ _ _ c.requires.admitted.ready c.no_lines-lines.ensures c.compile-vars.ensures.fact_1 c.compile-vars.ensures.fact_2 _ c.requires.slots_long;
-  closes = lines_close _ _ _ _ _ _ c.requires.admitted.ready c.no_lines-lines.ensures c.compile-vars.ensures.fact_1 c.compile-vars.ensures.fact_2;
+  fine = ready_fine _ _ _ _ _ _ _ _ c.requires.admitted.ready c.no_lines-lines.ensures c.compile-vars.ensures.value c.compile-vars.ensures.lines;
+  numbered = slots_numbered _ _ _ _ _ _ c.requires.admitted.ready c.no_lines-lines.ensures c.compile-vars.ensures.value c.compile-vars.ensures.lines _ c.requires.slots_long;
+  closes = lines_close _ _ _ _ _ _ c.requires.admitted.ready c.no_lines-lines.ensures c.compile-vars.ensures.value c.compile-vars.ensures.lines;
   stands = c.requires.stands;
   fresh = fresh_zero _ _ _ _;
 }
 
 pub returns : goal.returns
-returns c = carry_picked _ _ _ _ _ _ c.requires.admitted.ready c.no_lines-lines.ensures c.compile-vars.ensures.fact_1 c.compile-vars.ensures.fact_2 _ _ _ c.tells_origins.ensures c.takes_firsts.ensures
+returns c = carry_picked _ _ _ _ _ _ c.requires.admitted.ready c.no_lines-lines.ensures c.compile-vars.ensures.value c.compile-vars.ensures.lines _ _ _ c.tells_origins.ensures c.takes_firsts.ensures
     _ _ _ _ _ _ _ _ _ c.budget_of.ensures c.try_on.ensures.tries c.try_on.ensures.still

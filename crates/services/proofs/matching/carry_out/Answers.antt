@@ -5,16 +5,18 @@ use Rattle.services.proofs.Matches.{matcher_few, pattern_few, ready_target, read
 use Rattle.services.proofs.matching.carry_out.Goals as goal
 
 pub compile-vars-requires : goal.compile-vars-requires
-compile-vars-requires c = record { fact_1 = matcher_few _ _ _ c.requires.ready; fact_2 = pattern_few _ _ _ c.requires.ready }
+compile-vars-requires c = record { brief = matcher_few _ _ _ c.requires.ready; short = pattern_few _ _ _ c.requires.ready }
+
+pub invariant_of-units : goal.invariant_of-units
+invariant_of-units c = record { target = ready_target _ _ _ c.requires.ready }
 
 pub search-requires : goal.search-requires
 search-requires c = record {
-  fact_1 = ready_target _ _ _ c.requires.ready;
-  fact_2 = ready_some _ _ _ c.requires.ready;
-  fact_3 = ready_fine _ _ _ _ _ _ _ _ c.requires.ready c.no_lines-lines.ensures c.compile-vars.ensures.fact_1 c.compile-vars.ensures.fact_2;
+  some_words = ready_some _ _ _ c.requires.ready;
+  fine = ready_fine _ _ _ _ _ _ _ _ c.requires.ready c.no_lines-lines.ensures c.compile-vars.ensures.value c.compile-vars.ensures.lines;
 }
 
 pub returns : goal.returns
 unfolding told reported matched
-returns c = ready_picked _ _ _ _ _ _ _ _ c.requires.ready c.no_lines-lines.ensures c.compile-vars.ensures.fact_1 c.compile-vars.ensures.fact_2 _ _ c.takes_firsts.ensures c.tells_origins.ensures
+returns c = ready_picked _ _ _ _ _ _ _ _ c.requires.ready c.no_lines-lines.ensures c.compile-vars.ensures.value c.compile-vars.ensures.lines _ _ c.takes_firsts.ensures c.tells_origins.ensures
     c.requires.rule_is_in _ _ _ _ c.from.ensures c.search.ensures

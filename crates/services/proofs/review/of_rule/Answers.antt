@@ -8,19 +8,19 @@ use Rattle.services.proofs.Rules.{matcher_few, pattern_few, always_given, always
 use Rattle.services.proofs.review.of_rule.Goals as goal
 
 pub compile-requires : goal.compile-requires
-compile-requires c = record { fact_1 = matcher_few _ _ c.requires; fact_2 = pattern_few _ _ c.requires }
+compile-requires c = record { brief = matcher_few _ _ c.requires; short = pattern_few _ _ c.requires }
 
 pub returns-then-always_true : goal.returns-then-always_true
 unfolding reviewed reviewed_by refused_numbers declined
 returns-then-always_true c = record {
-  result_value = always_given _ _ _ _ c.requires c.no_lines-lines.ensures c.compile.ensures.fact_2 _ _ c.always_true.ensures c.if-always_true.true;
-  rows_value = always_rows _ _ _ _ c.requires c.no_lines-lines.ensures c.compile.ensures.fact_2 _ _ c.always_true.ensures c.if-always_true.true;
+  result_value = always_given _ _ _ _ c.requires c.no_lines-lines.ensures c.compile.ensures.lines _ _ c.always_true.ensures c.if-always_true.true;
+  rows_value = always_rows _ _ _ _ c.requires c.no_lines-lines.ensures c.compile.ensures.lines _ _ c.always_true.ensures c.if-always_true.true;
 }
 
 pub returns : goal.returns
 returns c =
     let k = to_z-of_z {w = w32} c.ranges.cap in
     record {
-      result_value = counted_given _ _ _ _ c.requires c.no_lines-lines.ensures c.compile.ensures.fact_2 _ _ _ _ c.always_true.ensures c.if-always_true.false c.counted.ensures.result_value k;
-      rows_value = counted_rows _ _ _ _ c.requires c.no_lines-lines.ensures c.compile.ensures.fact_2 _ _ _ _ c.always_true.ensures c.if-always_true.false c.counted.ensures.rows_value k;
+      result_value = counted_given _ _ _ _ c.requires c.no_lines-lines.ensures c.compile.ensures.lines _ _ _ _ c.always_true.ensures c.if-always_true.false c.counted.ensures.result_value k;
+      rows_value = counted_rows _ _ _ _ c.requires c.no_lines-lines.ensures c.compile.ensures.lines _ _ _ _ c.always_true.ensures c.if-always_true.false c.counted.ensures.rows_value k;
     }

@@ -25,3 +25,6 @@ loop-at-preserved c = let l = c.loop-at.invariant in
       from_end _ _ _ _ _ _ _ p (from_some _ _ _ _ g l.0 l.1 h n l.5 _ _ _ b f.1 _ refl l.2 l.4),
       search from_rules,
     )
+
+pub loop-at-preserved-then-n-eq0 : goal.loop-at-preserved-then-n-eq0
+loop-at-preserved-then-n-eq0 c = (search from_rules, search from_rules, search from_rules, search from_rules, search from_rules, search from_rules)

@@ -1,0 +1,12 @@
+-- `value_firsts::is_before` meets its contract: what is left to try decides.
+use Rattle.value_firsts.proofs.Laws.{before_rules}
+use Rattle.value_firsts.proofs.is_before.Goals as goal
+
+pub element-f-requires : goal.element-f-requires
+element-f-requires c = search before_rules
+
+pub same_values-requires : goal.same_values-requires
+same_values-requires c = search before_rules
+
+pub loop-z-preserved : goal.loop-z-preserved
+loop-z-preserved c = search before_rules
