@@ -2,11 +2,11 @@
 use mathlib.Core.Path.{◌≡◌, refl, sym, ◌∙◌, ap}
 use mathlib.Core.Bool.{Bool, true, false}
 use mathlib.Core.List.{List}
-use Prim.Native.Nat.{ℕ, suc, ◌+◌, ◌-◌, ◌^◌, ◌<◌, ◌≤◌}
+use Prim.Native.Nat.{ℕ, ◌+◌, ◌^◌, ◌<◌, ◌≤◌}
 use native.Mathlib.Omega.{arith}
 use borrow.Author.Rules.{rules}
 use borrow.Author.Tests.{eq-eqb, ne_eqb, lt-ltb, le-ltb, eqb-false}
-use lib.ListN.{length, get_or, set, length-set}
+use lib.ListN.{length, get_or, length-set}
 use lib.Dec.{eqb, ltb}
 use lib.IntN.{ℤ}
 use lib.Count.{count_trailing_zeros}
@@ -21,7 +21,7 @@ use Rattle.value_places.specs.Places.{Target, Tag, count_at, element_at}
 use Rattle.value_places.specs.Held.{whole_at}
 use Rattle.value_places.proofs.Elements.{element_tag}
 use Rattle.tables.specs.declared.slot.Held.{Held}
-use Rattle.tables.specs.Slot.{slot_count, Tables, tables, view_of, Slotted, Alone, put_held, put_left}
+use Rattle.tables.specs.Slot.{Tables, view_of, Slotted, Alone, put_held, put_left}
 use Rattle.search_atom.specs.Leaves.{when, none_of, stored, is_wide, part_marks, part_held, parts_in, Parts, top_by, now_left, left_in, slot_by}
 
 -- ---- One or the other.

@@ -2,10 +2,10 @@
 use mathlib.Core.Path.{◌≡◌, refl, sym, ap, ◌∙◌}
 use mathlib.Core.Bool.{Bool, true, false}
 use mathlib.Core.List.{List}
-use Prim.Native.Nat.{ℕ, ◌+◌, ◌-◌, ◌*◌, ◌^◌, ◌<◌, ◌≤◌}
+use Prim.Native.Nat.{ℕ, ◌+◌, ◌-◌, ◌^◌, ◌<◌, ◌≤◌}
 use native.Mathlib.Omega.{arith}
 use borrow.Author.Rules.{rules}
-use lib.ListN.{length, get_or, set, length-set}
+use lib.ListN.{length, get_or, length-set}
 use lib.Dec.{eqb}
 use lib.IntN.{ℤ}
 use lib.Count.{count_trailing_zeros}
@@ -13,12 +13,12 @@ use Rattle.words.specs.Words.{entries}
 use Rattle.words.specs.Marks.{clear}
 use Rattle.tables.specs.declared.slot.Held.{Held}
 use Rattle.tables.specs.declared.slot.Frame.{Frame}
-use Rattle.tables.specs.Slot.{Tables, tables, view_of, Slotted, Alone, held_in, frame_in, put_back}
+use Rattle.tables.specs.Slot.{Tables, view_of, Slotted, Alone, held_in, frame_in, put_back}
 use Rattle.value_places.specs.Places.{Target, Tag, count_at, marks_at, element_at}
 use Rattle.value_places.specs.Held.{whole_at}
 use Rattle.value_places.proofs.Elements.{element_tag}
 use Rattle.value_places.proofs.Held.{marks_count, held_64}
-use Rattle.search_atom.specs.Leaves.{when, top_by, now_left, left_in, longer_of, slot_by}
+use Rattle.search_atom.specs.Leaves.{when, top_by, left_in, longer_of, slot_by}
 use Rattle.search_atom.proofs.Laws.{when_eq, when_ne, when_lt, when_le}
 use Rattle.search_step.specs.declared.State.{State}
 use Rattle.search_step.specs.Steps.{Turned, turned, moved, lived, topped}

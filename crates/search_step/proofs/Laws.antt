@@ -6,7 +6,7 @@ use Prim.Native.Nat.{ℕ, ◌+◌, ◌-◌, ◌^◌, ◌<◌, ◌≤◌}
 use native.Mathlib.Omega.{arith}
 use borrow.Author.Rules.{rules}
 use borrow.Author.Tests.{eqb-true}
-use lib.ListN.{length, get_or, set}
+use lib.ListN.{length, get_or}
 use lib.IntN.{ℤ, pos}
 use lib.Count.{count_trailing_zeros}
 use lib.Pow.{pow_mono}
@@ -15,7 +15,7 @@ use Rattle.words.specs.Marks.{clear}
 use Rattle.words.proofs.marks.Places.{low_digit, digit_below}
 use Rattle.tables.specs.declared.slot.Held as slots
 use Rattle.tables.specs.declared.slot.Frame.{Frame}
-use Rattle.tables.specs.Slot.{slot_count, Tables, tables, view_of, Slotted, Alone, held_in, put_held, put_frame, put_side, put_back}
+use Rattle.tables.specs.Slot.{Tables, view_of, Slotted, Alone, held_in, put_held, put_frame, put_side, put_back}
 use Rattle.value_places.specs.Places.{Target, Tag, count_at, marks_at, element_at}
 use Rattle.value_places.specs.Held.{Held, whole_at}
 use Rattle.value_places.proofs.Elements.{element_tag}

@@ -10,7 +10,7 @@ use Rattle.rules.specs.Search.{Halves, any_equal, differing}
 use Rattle.words.specs.Marks.{positions}
 use Rattle.words.specs.Marked.{nth}
 use Rattle.words.proofs.marks.Places.{by_digit_lem, half_lt, half_pos, double_half, double_digit, positions_none}
-use Rattle.value_firsts.specs.Firsts.{by_digit, firsts_from}
+use Rattle.value_firsts.specs.Firsts.{firsts_from}
 
 pub map_map : {A B C : Type 0} (f : B → C) (g : A → B) (l : List A) → map f (map g l) ≡ map (λ (x : A). f (g x)) l
 map_map f g [] = refl

@@ -1,6 +1,6 @@
 -- The last marked element is kept exactly if none before it is equal; the others are kept as if it were not there. Assumes nothing.
 use Prim.Native.Nat.{ℕ, zero, suc, ◌+◌, ◌*◌, ◌/◌, ◌%◌, ◌^◌, ◌<◌, ◌≤◌}
-use mathlib.Core.Path.{◌≡◌, refl, sym, ◌∙◌, ap}
+use mathlib.Core.Path.{◌≡◌, refl, ◌∙◌, ap}
 use mathlib.Core.Bool.{Bool, true, false, cond}
 use mathlib.Core.List.{List, [], ◌∷◌, ◌++◌, map, append-nil, append_assoc}
 use native.Mathlib.Omega.{arith}
@@ -10,7 +10,7 @@ use Rattle.rules.specs.Search.{any_equal}
 use Rattle.words.specs.Marks.{positions}
 use Rattle.words.specs.Marked.{nth}
 use Rattle.words.proofs.marks.Places.{by_digit_lem, positions_none}
-use Rattle.value_firsts.specs.Firsts.{by_digit, firsts_from, firsts_of, before_of}
+use Rattle.value_firsts.specs.Firsts.{firsts_from, firsts_of, before_of}
 use Rattle.value_firsts.proofs.Differing.{map_map, firsts_le}
 
 pub none_kept : (eq : Value → Value → Bool) (before : List Value) (vs : Values) → firsts_from eq before vs 0 ≡ 0

@@ -1,23 +1,19 @@
 -- The first places as the code asks for them. Assumes nothing.
-use Prim.Native.Nat.{ℕ, zero, suc, ◌+◌, ◌-◌, ◌*◌, ◌%◌, ◌^◌, ◌<◌, ◌≤◌}
-use mathlib.Core.Path.{◌≡◌, refl, sym, ◌∙◌, ap, subst}
+use Prim.Native.Nat.{ℕ, suc, ◌+◌, ◌-◌, ◌*◌, ◌%◌, ◌^◌, ◌<◌, ◌≤◌}
+use mathlib.Core.Path.{◌≡◌, sym, ◌∙◌, ap, subst}
 use mathlib.Core.Bool.{Bool, true, false, cond, ◌||◌}
-use mathlib.Core.List.{List, [], ◌∷◌, map}
+use mathlib.Core.List.{List, []}
 use native.Mathlib.Omega.{arith}
 use borrow.Author.Rules.{rules}
 use native.Mathlib.Nat.{pow-suc, mod-eq_of_lt, mod-le, add-mul-mod_self_left}
-use mir.Syntax.{w64}
-use mir.Val.{Fits}
 use native.Mathlib.Decide.{dec_le}
 use lib.Pow.{pow_pos, pow_mono, pow-add}
 use lib.Count.{count_leading_zeros, count_trailing_zeros, leading_top}
 use lib.IntN.{ℤ}
-use Rattle.rules.specs.Forms.{count}
 use Rattle.rules.specs.Search.{any_equal}
 use Rattle.rules.specs.Equality.{equal}
 use Rattle.words.specs.Words.{tag_at}
-use Rattle.words.specs.Marks.{clear, positions}
-use Rattle.words.specs.Marked.{nth}
+use Rattle.words.specs.Marks.{clear}
 use Rattle.words.proofs.marks.Places.{positions_low}
 use Rattle.matchers.specs.Places.{matcher_at}
 use Rattle.matchers.proofs.Matchers.{matcher_1}
@@ -29,7 +25,7 @@ use Rattle.value_equality.specs.Equality.{equal_at, wholes_equal, integers_equal
 use Rattle.value_equality.proofs.Integers.{as_equal}
 use Rattle.value_firsts.specs.Firsts.{firsts_of, firsts_at, before_of, before_at, kept_with, Lower}
 use Rattle.value_firsts.proofs.Differing.{firsts_le}
-use Rattle.value_firsts.proofs.Last.{none_kept, last_is}
+use Rattle.value_firsts.proofs.Last.{last_is}
 
 -- ---- The highest mark.
 

@@ -1,4 +1,4 @@
-use Rattle.program_parts.proofs.Laws.{under_rules, under_fits}
+use Rattle.program_parts.proofs.Laws.{under_fits}
 use Rattle.program_parts.proofs.first_under.Goals as goal
 
 pub overflow_add-result-2 : goal.overflow_add-result-2

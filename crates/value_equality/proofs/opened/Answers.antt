@@ -1,4 +1,4 @@
-use Rattle.value_equality.proofs.ByTag.{opened_rules, tuples_call}
+use Rattle.value_equality.proofs.ByTag.{opened_rules}
 use Rattle.value_equality.proofs.opened.Goals as goal
 
 pub returns-then-k-eq0 : goal.returns-then-k-eq0

@@ -1,6 +1,5 @@
 use borrow.Author.Tests.{ne_eqb}
 use Rattle.program_rules.specs.Pile.{land_at}
-use Rattle.program.proofs.link.Pass.{place_rules}
 use Rattle.program.proofs.link.land_by.Goals as goal
 
 pub returns-in-18 : goal.returns-in-18

@@ -1,4 +1,3 @@
-use Prim.Native.Nat.{◌-◌, ◌≤◌}
 use Rattle.search_leaf.specs.Told.{Tells}
 use Rattle.search_leaf.proofs.told.told_of.Given as goal
 

@@ -1,4 +1,4 @@
-use Rattle.search_seek.proofs.Lines.{second_line, asked_rules}
+use Rattle.search_seek.proofs.Lines.{second_line}
 use Rattle.search_seek.proofs.asked.asked_at.Goals as goal
 
 pub second_at-requires : goal.second_at-requires

@@ -1,5 +1,5 @@
 use Rattle.tables.specs.Line.{columns_of}
-use Rattle.search_seek.proofs.Lines.{second_there, second_rules}
+use Rattle.search_seek.proofs.Lines.{second_there}
 use Rattle.search_seek.proofs.asked.second_at.Goals as goal
 
 pub from_at-f-requires : goal.from_at-f-requires

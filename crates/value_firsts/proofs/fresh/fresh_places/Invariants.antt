@@ -1,4 +1,4 @@
-use Prim.Native.Nat.{◌-◌, ◌^◌, ◌<◌, ◌≤◌}
+use Prim.Native.Nat.{◌^◌, ◌<◌}
 use Rattle.value_firsts.specs.Firsts.{Fresh}
 use Rattle.value_firsts.proofs.fresh.fresh_places.Given as goal
 

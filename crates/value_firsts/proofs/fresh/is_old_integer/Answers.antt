@@ -1,5 +1,4 @@
 -- `value_firsts::fresh::is_old_integer` meets its contract: none of those tried is equal.
-use Prim.Native.Nat.{◌-◌}
 use Rattle.value_firsts.proofs.Freshly.{number_rules}
 use Rattle.value_firsts.proofs.fresh.is_old_integer.Goals as goal
 

@@ -1,4 +1,3 @@
-use Prim.Native.Nat.{◌-◌, ◌≤◌}
 use Rattle.value_firsts.specs.Firsts.{New}
 use Rattle.value_firsts.proofs.fresh.is_old_integer.Given as goal
 

@@ -1,6 +1,6 @@
 use borrow.Author.Rules.{sfits_of}
 use mir.Facts.{to_z-of_z}
-use Rattle.value_places.proofs.Counting.{number_rules, number_at_is}
+use Rattle.value_places.proofs.Counting.{number_at_is}
 use mir.Syntax.{w32}
 use Rattle.value_places.proofs.places.number_at.Goals as goal
 
