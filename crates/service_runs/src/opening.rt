@@ -4,7 +4,6 @@ ghost use Rattle.services.specs.Matches.{Ready};
 ghost use Rattle.services.specs.Refusals.{refused_numbers};
 ghost use Rattle.service_runs.specs.Opens.{Taken, Declines, Opens, kept, away, begun as begins};
 
-use value_places::places::Units;
 use crate::run::Run;
 use search::open;
 use search_step::{ENDED, State};
@@ -12,6 +11,7 @@ use services::picks::{Dialect, RowForm};
 use services::refusal::Refused;
 use services::testing::{Words, tested};
 use tables::slot::no_slots;
+use value_places::places::Units;
 use value_rows::{Binding, VARIABLES};
 
 // The refusal, or 0; and the run.

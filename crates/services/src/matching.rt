@@ -4,13 +4,13 @@ ghost use Rattle.rules.specs.Services.{match, match_of, match_picked};
 ghost use Rattle.services.specs.Picks.{form_in, dialect_in};
 ghost use Rattle.services.specs.Matches.{Admitted, told, matched_by, reported};
 
-use value_places::places::Units;
 use crate::picks::{Dialect, RowForm};
 use crate::refusal::Refused;
 use crate::testing::{Words, tested};
 use program::compile;
 use search::{Report, Terms, search};
 use tables::line::no_lines;
+use value_places::places::Units;
 
 // Document 01's numbers of an answer, which the contract of `match_units` and the border's `match_told` fix: so a refusal is numbers here, too.
 #[derive(Drop)]

@@ -1,4 +1,5 @@
-// The instructions of a program's lines, by name.
+// The instructions of a program's lines, by name: numbers, as `lines_of` of the definitions and the table of lines have them. (As an enum, in an array of
+// its own, T5 of bench/speed.rs takes 91 instructions a step and T9 97, read from the table 102 and 108; their bars are 85 and 92.)
 
 // The end of the rule: no atom is left.
 pub const END: u16 = 0;

@@ -9,7 +9,8 @@ ghost use Rattle.value_places.specs.Held.{whole_at};
 use tables::place::{Places, base_at, end_at, place_at, put_base, put_end, put_place};
 use words::marks::full;
 
-// The words of a target, as test 5 takes them.
+// The words of a target, as test 5 takes them. (The table of its places stands beside them: in one struct with it, by value or lent, T10 of bench/speed.rs
+// takes over 260 instructions a step; its bar is 235.)
 #[derive(Clone, Copy)]
 pub struct Units<'a> {
     pub words: &'a [i32],
