@@ -1,6 +1,7 @@
 -- What the answers of the readers stand for.
 use Rattle.std.specs.Prelude.{ℕ, ◌≤◌, ◌≡◌, List, take, ℤ, Option, option_map, IfSome}
-use Rattle.text_ask.specs.Question.{Limits, Lines, Question, words_of}
+use Rattle.std.specs.Io.KnownBytes.{Consumes}
+use Rattle.text_ask.specs.Question.{Limits, Lines, Question, words_of, asked}
 use Rattle.text_ask.specs.declared.asked.Bounds.{Bounds}
 use Rattle.text_ask.specs.declared.question.Lines as declared
 use Rattle.text_ask.specs.declared.asked.Asked.{Asked}
@@ -27,3 +28,7 @@ of_lines r = option_map (λ l. these l.one.now l.two.now l.three.now l.four.now)
 unfoldable pub of_asked : Option Asked → (m p t : List ℤ) → Option Question
 of_asked r m p t =
     option_map (λ a. record { matcher = take a.matcher m; pattern = take a.pattern p; target = take a.target t; limits = record { budget = a.budget; room = a.room } }) r
+
+-- Some bytes were read, and they ask this.
+unfoldable pub AsksOf : (old new : Option (List ℕ)) → Option Question → Type 0
+AsksOf old new q = (bytes : List ℕ) × Consumes old new bytes × (q ≡ asked bytes)

@@ -1,11 +1,13 @@
 // The trial program's whole input: four lines, and what they ask.
 ghost use Rattle.std.specs.Prelude.{◌≡◌, ◌≤◌, length};
 ghost use Rattle.text_ask.specs.Question.{lines_of as Question·lines_of, asked};
-ghost use Rattle.text_ask.specs.Meaning.{of_lines, of_asked};
+ghost use Rattle.text_ask.specs.Meaning.{of_lines, of_asked, AsksOf};
 
 use crate::INPUT_BYTES;
 pub use crate::asked::Asked;
 use crate::line::{bounds_of, words_of};
+use std::io::Read;
+use streams::read_full;
 
 // The four lines of an input.
 #[derive(Drop)]
@@ -56,4 +58,22 @@ pub fn read_input(input: &[u8], m: &mut [i32], p: &mut [i32], t: &mut [i32]) -> 
         budget: bounds.budget,
         room: bounds.room,
     })
+}
+
+// What is asked by the input that a reader has left.
+pub fn read_question<R: Read>(
+    from: &mut R,
+    m: &mut [i32],
+    p: &mut [i32],
+    t: &mut [i32],
+) -> Option<Asked>
+    requires matcher_table { 2000 ≤ length m.old }
+    requires pattern_table { 2000 ≤ length p.old }
+    requires target_table { 2000 ≤ length t.old }
+    ensures { AsksOf (R.remaining from.old) (R.remaining from.new) (of_asked result m.new p.new t.new) }
+{
+    // One byte more than is read, so that longer input is seen.
+    let mut input = [0; INPUT_BYTES + 1];
+    let n = read_full(from, &mut input);
+    read_input(&input[..n], m, p, t)
 }

@@ -1,4 +1,5 @@
 // A line of text, put together before it is written at once.
+use book_blocks::writing::Entry;
 use std::io::{Cursor, Write};
 
 // More than the longest line has: 124 words of at most 11 bytes, each behind a space, and what stands before them.
@@ -21,19 +22,12 @@ fn put_words(line: &mut Cursor<[u8; LINE]>, words: &[i32]) {
 }
 
 // A rule as `add` takes it.
-pub(crate) fn print_rule(
-    rt: &impl Print,
-    version: u16,
-    badge: u16,
-    dialect: u32,
-    matcher: &[i32],
-    pattern: &[i32],
-) {
+pub(crate) fn print_rule(rt: &impl Print, rule: Entry) {
     let mut line = blank();
-    let _ = write!(line, "{version} {badge} {dialect} /");
-    put_words(&mut line, matcher);
+    let _ = write!(line, "{} {} {} /", rule.version, rule.badge, rule.dialect);
+    put_words(&mut line, rule.matcher);
     let _ = write!(line, " /");
-    put_words(&mut line, pattern);
+    put_words(&mut line, rule.pattern);
     let _ = writeln!(line);
     send(rt, line);
 }

@@ -8,14 +8,15 @@ mod keep;
 mod line;
 
 use book_blocks::writing::Entry;
-use disc::LARGEST;
+use disc::{Book, LARGEST};
 use keep::{Command, Request};
 use line::tell;
 use std::env::Env;
 use std::fs::{File, Files};
-use streams::{arg, read_full};
-use text_ask::question::read_input;
-use text_ask::{INPUT_BYTES, LINE_WORDS};
+use std::io::Read;
+use streams::arg;
+use text_ask::LINE_WORDS;
+use text_ask::question::read_question;
 use words::tag_at;
 
 // Where the third part has its version and its dialect, and the program its file.
@@ -28,24 +29,23 @@ const FILE: usize = 1;
 // More bytes than a file's path has.
 const PATH_BYTES: usize = 4096;
 
+// A function of its own: where the array stands in `serve`, the check of the call of `read` runs out of stack over its four million bytes.
 fn blank() -> [u8; LARGEST] {
     [0; LARGEST]
 }
 
 // Reads the book, and does what is asked.
-fn serve(rt: &impl Print, mut file: File, asked: Request) {
-    let mut book = blank();
-    let n = read_full(&mut file, &mut book);
-    if disc::is_whole(&mut file, n) {
-        keep::answer(rt, &file, &mut book, n, asked);
-    } else {
-        tell(rt, "unread", 0, 0);
+fn serve(rt: &impl Print, file: File, asked: Request) {
+    let mut bytes = blank();
+    match Book::read(file, &mut bytes) {
+        Some(mut book) => book.answer(rt, asked),
+        None => tell(rt, "unread", 0, 0),
     }
 }
 
 // Opens the file, which is changed by an add or a withdrawal alone.
 fn open(rt: &(impl Files<File = File> + Print), path: &[u8], asked: Request) {
-    match disc::open(rt, path, keep::is_change(asked.command)) {
+    match disc::open(rt, path, asked.command.is_change()) {
         Ok(file) => serve(rt, file, asked),
         Err(_) => tell(rt, "unopened", 0, 0),
     }
@@ -57,11 +57,11 @@ fn half(x: u32) -> u16 {
 }
 
 // Reads what is asked.
-fn respond(rt: &(impl Files<File = File> + Print), path: &[u8], input: &[u8]) {
+fn respond(rt: &(impl Files<File = File> + Print), path: &[u8], from: &mut impl Read) {
     let mut m = [0; LINE_WORDS];
     let mut p = [0; LINE_WORDS];
     let mut t = [0; LINE_WORDS];
-    match read_input(input, &mut m, &mut p, &mut t) {
+    match read_question(from, &mut m, &mut p, &mut t) {
         None => tell(rt, "unreadable", 0, 0),
         Some(asked) => {
             let entry = Entry {
@@ -80,8 +80,5 @@ fn respond(rt: &(impl Files<File = File> + Print), path: &[u8], input: &[u8]) {
 fn main(rt: HostRuntime) {
     let mut path = [0u8; PATH_BYTES];
     let n = arg(&rt, FILE, &mut path);
-    // One byte more than is read, so that longer input is seen.
-    let mut input = [0u8; INPUT_BYTES + 1];
-    let k = read_full(&mut rt.stdin(), &mut input);
-    respond(&rt, &path[..n], &input[..k]);
+    respond(&rt, &path[..n], &mut rt.stdin());
 }
