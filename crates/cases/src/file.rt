@@ -1,4 +1,4 @@
-// Case files read, and what differs told.
+// Case files read, and cases counted.
 ghost use Rattle.std.specs.Prelude.{◌≤◌, length};
 
 use std::fs::Files;
@@ -12,7 +12,7 @@ const MOST: u64 = 1000000;
 // More bytes than the system says why in.
 const REASON: usize = 128;
 
-#[derive(Drop)]
+#[derive(Clone, Copy)]
 pub struct Tally {
     pub cases: u64,
     pub differ: u64,
@@ -21,24 +21,12 @@ pub struct Tally {
 impl Tally {
     // One case more; `good` if it does not differ.
     pub(crate) fn seen(self, good: bool) -> Self {
-        let cases = self.cases;
-        let differ = self.differ;
-        if MOST < cases {
-            return Tally { cases, differ };
+        if MOST < self.cases.max(self.differ) {
+            return self;
         }
-        if MOST < differ {
-            return Tally { cases, differ };
-        }
-        if good {
-            Tally {
-                cases: cases + 1,
-                differ,
-            }
-        } else {
-            Tally {
-                cases: cases + 1,
-                differ: differ + 1,
-            }
+        Tally {
+            cases: self.cases + 1,
+            differ: self.differ + u64::from(!good),
         }
     }
 }
@@ -71,16 +59,4 @@ fn fail(rt: &impl Eprint, name: &str, e: Error) {
         .split_once(" (os error ")
         .map_or(words, |(reason, _)| reason);
     let _ = eprintln!(rt; "{name}: {reason}");
-}
-
-// Tells a case that differs: what was asked, what must be printed, what was printed.
-pub(crate) fn tell(rt: &impl Print, path: &[u8], input: &[u8], wanted: &[u8], got: &[u8]) {
-    let _ = rt.write_all(path);
-    let _ = rt.write_all(b": a case differs\n");
-    let _ = rt.write_all(input);
-    let _ = rt.write_all(b"= wanted\n");
-    let _ = rt.write_all(wanted);
-    let _ = rt.write_all(b"= printed\n");
-    let _ = rt.write_all(got);
-    let _ = rt.write_all(b"--\n");
 }

@@ -3,33 +3,29 @@ ghost use Rattle.std.specs.Prelude.{◌<◌, ◌≤◌, length};
 
 // Where the next line starts, or the end.
 pub(crate) fn next_line(s: &[u8], from: usize) -> usize
+    requires { from ≤ length s.now }
     ensures upper_bound { result ≤ length s.now }
+    ensures no_less { from ≤ result }
     ensures lower_bound { from < length s.now → from < result }
 {
-    for i in from..s.len() {
-        if s[i] == b'\n' {
-            return i + 1;
-        }
+    match s[from..].split_inclusive(|byte| *byte == b'\n').next() {
+        Some(line) => from + line.len(),
+        None => from,
     }
-    s.len()
-}
-
-// Whether t stands in s at an index.
-pub(crate) fn stands_at(s: &[u8], at: usize, t: &[u8]) -> bool {
-    at <= s.len() && s[at..].starts_with(t)
 }
 
 // Where the next line starts that is t, newline included; or the end.
 pub(crate) fn seek(s: &[u8], from: usize, t: &[u8]) -> usize
-    ensures { result ≤ length s.now }
+    requires { from ≤ length s.now }
+    ensures upper_bound { result ≤ length s.now }
+    ensures no_less { from ≤ result }
 {
     let mut at = from;
-    // Each step is as long as the line that it passes.
-    while at < s.len() {
-        if stands_at(s, at, t) {
+    for line in s[from..].split_inclusive(|byte| *byte == b'\n') {
+        if line == t {
             return at;
         }
-        at = next_line(s, at);
+        at += line.len();
     }
-    s.len()
+    at
 }

@@ -32,8 +32,5 @@ fn play_named(rt: &(impl Env + Files + Print + Eprint)) -> Tally {
 
 fn main(rt: HostRuntime) {
     let all = play_named(&rt);
-    let _ = rt.print(all.cases);
-    let _ = rt.write_all(b" cases, ");
-    let _ = rt.print(all.differ);
-    let _ = rt.write_all(b" differ\n");
+    let _ = println!(rt; "{} cases, {} differ", all.cases, all.differ);
 }

@@ -23,7 +23,8 @@ const TARGET_WORDS: u64 = 1024;
 
 const ORIGIN_WORDS: u64 = 3;
 
-fn variables_in(pattern: &[i32]) -> u32
+// How many variables a pattern has: a row has a value for each. A pattern at fault has none.
+pub fn variables_in(pattern: &[i32]) -> u32
     ensures { result ≡ variables_in pattern.now }
 {
     count_variables(pattern).unwrap_or(0)

@@ -1,4 +1,5 @@
 -- From the input to what is printed, as the code asks. Assumes nothing.
+use mathlib.Core.Bool.{true}
 use mathlib.Core.Path.{◌≡◌, refl, sym, ◌∙◌, ap}
 use Rattle.std.specs.Prelude.{Some, None}
 use mathlib.Core.List.{List, [], ◌∷◌, ◌++◌}
@@ -10,6 +11,9 @@ use lib.ListN.{length, take, drop, replicate, length-append, length-drop, length
 use Rattle.rules.specs.Search.{run, start}
 use lib.Seq.{length-take-le}
 use Rattle.rules.specs.Forms.{Value}
+use Rattle.rules.specs.Reading.{Verdict, ok, fault, ◌then◌, read_pattern}
+use Rattle.rules.specs.Variables.{variables}
+use Rattle.room_rules.specs.Rooms.{or_none, variables_in}
 use Rattle.rules.specs.Services.{Judged, accepted, refused, Rule, turned_away, carried_out, target_of, rule_of, match_target, match_rule, match_in, match, match_of, match_rule_in, match_target_in}
 use Rattle.rules.specs.Rows.{as_words}
 use Rattle.rules.specs.Services as paper
@@ -18,7 +22,7 @@ use Rattle.services.specs.declared.matching.Matched.{Matched}
 use Rattle.text_print.specs.Decimal.{line_of}
 use Rattle.text_print.specs.Rows.{cut_rows, empty_rows, lines}
 use Rattle.text_ask.specs.Question.{asked}
-use Rattle.text.specs.Printed.{variables_of, first_line, report, matched, answer_to, printed, empty_report, empty_to, empty_lines}
+use Rattle.text.specs.Printed.{or_zero, variables_of, first_line, report, matched, answer_to, printed, empty_report, empty_to, empty_lines}
 use Rattle.text_print.specs.Meaning.{unreadable, Text, six_line}
 use Rattle.text.specs.Meaning.{Answer}
 use Rattle.text_print.specs.declared.rows.Rest.{Rest}
@@ -45,6 +49,16 @@ words_in : (ms ps ts : List ℤ) (budget : ℕ) (room : List ℤ) → WordsIn ro
 unfolding match match_of
 words_in ms ps ts budget room = words_rule budget room ts (rule_of ms ps)
 
+-- The rooms' word for a pattern's variables and the text's say the same.
+same_count : (v : Verdict ℕ) → or_none v ≡ or_zero v
+unfolding or_none or_zero
+same_count (ok n) = refl
+same_count (fault i) = refl
+
+same_variables : (ps : List ℤ) → variables_in ps ≡ variables_of ps
+unfolding variables_in variables_of
+same_variables ps = same_count (read_pattern ps then λ p. variables p true 0 0)
+
 empty_is : (r : Matched) (new : List ℤ) (values : ℕ) → empty_report values (told r new) ≡ empty_rows values r.rows (take r.words new)
 unfolding empty_report told
 empty_is r new values = refl
@@ -70,13 +84,17 @@ module _ (ms ps ts : List ℤ) (budget : ℕ) (room new : List ℤ) (r : Matched
   few_words e h = let a = so_many e in let b = counted e in omega arith
 
   pub as_report : (old out : List ℕ) (rest : Rest) (values a b c d e f : ℕ) → a ≡ r.answer → b ≡ r.place → c ≡ r.rows → d ≡ r.steps → e ≡ r.words → f ≡ r.cause
-      → values ≡ variables_of ps → Text old out rest (six_line a b c d e f ++ lines (cut_rows values c (take r.words new)))
+      → values ≡ variables_in ps → Text old out rest (six_line a b c d e f ++ lines (cut_rows values c (take r.words new)))
       → Text old out rest (report (variables_of ps) (match ms ps ts budget room))
-  as_report old out rest values a b c d e f ha hb hc hd he hf hv t = rw (← q, report_is r new (variables_of ps)) (rw (ha, hb, hc, hd, he, hf, hv) at t)
+  as_report old out rest values a b c d e f ha hb hc hd he hf hv t =
+      let v = hv ∙ same_variables ps in
+      rw (← q, report_is r new (variables_of ps)) (rw (ha, hb, hc, hd, he, hf, v) at t)
 
-  pub as_empty : (values n : ℕ) → values ≡ variables_of ps → n ≡ empty_rows values r.rows (take r.words new)
+  pub as_empty : (values n : ℕ) → values ≡ variables_in ps → n ≡ empty_rows values r.rows (take r.words new)
       → n ≡ empty_report (variables_of ps) (match ms ps ts budget room)
-  as_empty values n hv h = rw (← q, empty_is r new (variables_of ps)) (rw hv at h)
+  as_empty values n hv h =
+      let v = hv ∙ same_variables ps in
+      rw (← q, empty_is r new (variables_of ps)) (rw v at h)
 
 pub ruleset answered_rules = (so_many, counted, few_words, as_report, as_empty, rules)
 

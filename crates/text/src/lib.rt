@@ -7,8 +7,8 @@ ghost use Rattle.text.specs.Printed.{variables_of, report, empty_report};
 ghost use Rattle.text_print.specs.Meaning.{Text};
 ghost use Rattle.text.specs.Meaning.{Answer};
 
+use service_room::variables_in;
 use services::matching::match_units;
-use test_variables::count_variables;
 use text_ask::question::read_input;
 use text_ask::{LINE_WORDS, ROOM_WORDS};
 use text_print::report::{Numbers, put_report, put_unreadable};
@@ -16,13 +16,6 @@ use text_print::rows::Rest;
 
 // The bytes that every text fits into.
 pub const TEXT_BYTES: usize = 98304;
-
-// How many values a row of a pattern has.
-fn values_of(p: &[i32]) -> u32
-    ensures { result ≡ variables_of p.now }
-{
-    count_variables(p).unwrap_or(0)
-}
 
 // One question to match, printed.
 fn answered(m: &[i32], p: &[i32], t: &[i32], budget: u32, room: &mut [i32], out: &mut [u8]) -> Rest
@@ -40,7 +33,7 @@ fn answered(m: &[i32], p: &[i32], t: &[i32], budget: u32, room: &mut [i32], out:
         words: r.words as u64,
         cause: u64::from(r.cause),
     };
-    put_report(out, numbers, &room[..r.words], values_of(p))
+    put_report(out, numbers, &room[..r.words], variables_in(p))
 }
 
 // What the trial program prints for an input; nothing where there are too few bytes for it.

@@ -1,6 +1,7 @@
--- The next line starts further on.
-use Rattle.std.proofs.Common.{◌-◌, length}
+-- The lines that are left stand from the index on.
+use Rattle.std.proofs.Common.{◌≡◌, ◌+◌, ◌≤◌, length}
+use Rattle.std.specs.Slice.Iter.{split_inclusive_rest}
 use Rattle.cases.proofs.lines.seek.Given as goal
 
-abbrev pub decreases-loop-at : goal.decreases-loop-at
-decreases-loop-at l = length l.s - l.at
+abbrev pub invariant-loop-line : goal.invariant-loop-line
+invariant-loop-line l = (l.from ≤ l.at) × (l.at + length (split_inclusive_rest l.line-iterator) ≡ length l.s)
