@@ -24,6 +24,7 @@ const TARGET_WORDS: u64 = 1024;
 const ORIGIN_WORDS: u64 = 3;
 
 // How many variables a pattern has: a row has a value for each. A pattern at fault has none.
+#[tactic(auto, using(crate::proofs::Laws::own_rules))]
 pub fn variables_in(pattern: &[i32]) -> u32
     ensures { result ≡ variables_in pattern.now }
 {

@@ -18,6 +18,7 @@ use text_print::rows::Rest;
 pub const TEXT_BYTES: usize = 98304;
 
 // One question to match, printed.
+#[tactic(auto, using(crate::proofs::Answering::answered_rules))]
 fn answered(m: &[i32], p: &[i32], t: &[i32], budget: u32, room: &mut [i32], out: &mut [u8]) -> Rest
     requires room_len_bound { length room.old ≤ 4096 }
     requires in_bounds { 98304 ≤ length out.old }

@@ -3,25 +3,17 @@ ghost use Rattle.std.specs.Prelude.{◌≡◌, ◌+◌, ◌*◌, ◌<◌, ◌≤
 ghost use Rattle.text_print.specs.Decimal.{decimal, numeral, further_of, line_of};
 ghost use Rattle.text_print.specs.Meaning.{Wrote};
 
-// The byte of a digit.
-fn digit(d: u64) -> u8
-    requires { d < 10 }
-    ensures { result ≡ 48 + d }
-{
-    b'0' + d as u8
-}
-
 // By hand: std prints a number to a writer that may fail, where here the room is known and no write does.
 pub(crate) fn put_decimal(out: &mut [u8], at: usize, n: u64) -> usize
     requires { at + length (decimal n) ≤ length out.old }
     ensures { Wrote out.old out.new at result (decimal n) }
 {
     if n < 10 {
-        out[at] = digit(n);
+        out[at] = b'0' + n as u8;
         return at + 1;
     }
     let e = put_decimal(out, at, n / 10);
-    out[e] = digit(n % 10);
+    out[e] = b'0' + (n % 10) as u8;
     e + 1
 }
 
@@ -38,6 +30,7 @@ pub(crate) trait Number: Copy {
 impl Number for u64 {
     ghost number = { pos };
 
+    #[tactic(auto, unfolding(crate::specs::Decimal::numeral))]
     fn put(self, out: &mut [u8], at: usize) -> usize {
         put_decimal(out, at, self)
     }

@@ -14,6 +14,7 @@ pub struct Rest {
 }
 
 // How many values come in a value's own words: none in an integer.
+#[tactic(auto, using(crate::proofs::rows::Laws::none_inside, crate::proofs::rows::Laws::so_many))]
 fn inside(tag: i32, count: i32) -> u32
     ensures { result ≡ Rows·inside tag count }
 {

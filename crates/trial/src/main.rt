@@ -23,11 +23,11 @@ fn send(rt: &impl Print, out: &[u8], rest: Rest) -> Option<Rest>
 {
     rt.write_all(&out[..rest.at]).ok()?;
     let full = [b'\n'; LINES];
-    let mut sent: u64 = 0;
-    // The empty lines that were sent are counted: each step is one write.
-    while FULL < rest.lines - sent {
+    let mut sent = 0;
+    // The empty lines that were sent are counted.
+    for i in 0..rest.lines / FULL {
         rt.write_all(&full).ok()?;
-        sent += FULL;
+        sent = (i + 1) * FULL;
     }
     let last = rest.lines - sent;
     rt.write_all(&full[..last as usize]).ok()?;
@@ -41,7 +41,6 @@ fn send(rt: &impl Print, out: &[u8], rest: Rest) -> Option<Rest>
 fn respond(rt: &impl Print, read: &[u8], n: usize, out: &mut [u8]) -> Option<Rest>
     requires longer_is_seen { 32768 < length read.now }
     requires n_in_bounds { n ≤ length read.now }
-    requires text_fits { 98304 ≤ length out.old }
     ensures { Whole (printed (take n read.now)) out.new result }
 {
     let rest = text::answer(&read[..n], out)?;

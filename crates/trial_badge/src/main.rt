@@ -13,18 +13,13 @@ use services::refusal::ALWAYS_TRUE;
 use services::review::review;
 use std::io;
 use streams::read_full;
+use tests::{MISFIT, TARGET as TARGET_REFUSED, UNFIT};
 use words::dialect::EVERY_PLACE;
 use words::tag_at;
 use words::target::COLLECTION;
 
-// The answers that are told in words of their own; the refusals of a rule are those from 1 to MISFIT.
+// The answers that refuse nothing and are told in words of their own; the refusals of a rule are those from 1 to MISFIT.
 const DONE: u32 = 0;
-
-const MISFIT: u32 = 4;
-
-const TARGET_REFUSED: u32 = 5;
-
-const UNFIT: u32 = 6;
 
 const FULL: u32 = 8;
 
@@ -237,6 +232,18 @@ fn say_found(rt: &impl Print, found: &Matched) -> io::Result<()> {
     println!(rt; ", and there is more")
 }
 
+// So many rows, one behind the other; the units that their variables took stand in `origins` likewise.
+fn say_rows(rt: &impl Print, rows: Rows<'_>, count: u64, origins: &[i32]) -> io::Result<()> {
+    let width = rows.names.count().saturating_mul(ORIGIN_WORDS);
+    let mut at = 0;
+    let mut taken = origins;
+    for _ in 0..count {
+        at = say_row(rt, rows, at, taken)?;
+        taken = taken.get(width..).unwrap_or(&[]);
+    }
+    Ok(())
+}
+
 // Plays the units.
 fn play(rt: &impl Print, rule: Rule<'_>) -> io::Result<()> {
     let Rule {
@@ -245,8 +252,8 @@ fn play(rt: &impl Print, rule: Rule<'_>) -> io::Result<()> {
         pattern,
         units,
     } = rule;
-    let mut rows = [0; ROOM];
-    let found = match_units(matcher, pattern, units, BUDGET, &mut rows);
+    let mut words = [0; ROOM];
+    let found = match_units(matcher, pattern, units, BUDGET, &mut words);
     if let TARGET_REFUSED | UNFIT = found.answer {
         return println!(rt;
             "the units are refused, answer {}, place {}",
@@ -269,19 +276,12 @@ fn play(rt: &impl Print, rule: Rule<'_>) -> io::Result<()> {
         at: 0,
         left: text.len(),
     };
-    let told = Rows {
+    let rows = Rows {
         names,
         units,
-        words: &rows,
+        words: &words,
     };
-    let width = names.count().saturating_mul(ORIGIN_WORDS);
-    let mut at = 0;
-    let mut taken: &[i32] = &origins;
-    for _ in 0..found.rows.min(traced.rows) {
-        at = say_row(rt, told, at, taken)?;
-        taken = taken.get(width..).unwrap_or(&[]);
-    }
-    Ok(())
+    say_rows(rt, rows, found.rows.min(traced.rows), &origins)
 }
 
 fn tell(rt: &impl Print, rule: Rule<'_>) -> io::Result<()> {
