@@ -108,11 +108,7 @@ pub(crate) fn play(rt: &(impl Files + Print + Eprint), path: &[u8], tally: Tally
         at: 0,
     };
     for case in cases {
-        let good = match case {
-            Some(case) => case.is_met(rt, path),
-            None => false,
-        };
-        tally = tally.seen(good);
+        tally = tally.seen(case.is_some_and(|case| case.is_met(rt, path)));
     }
     tally
 }

@@ -8,7 +8,7 @@ use crate::rows::{Rest, put_rows};
 
 const UNREADABLE: &[u8] = b"unreadable\n";
 
-// The numbers of an answer, in the order of its line.
+// The numbers of an answer, in the order of its line. Numbers, since `six_line` in the contract of `put_report` takes them as such.
 #[derive(Clone, Copy)]
 pub struct Numbers {
     pub answer: u64,

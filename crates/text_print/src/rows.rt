@@ -32,6 +32,7 @@ fn extent_of(ws: &[i32], values: u32) -> usize
 {
     let mut left = u64::from(values);
     let mut rest = ws;
+    // No plainer over `chunks_exact(2)`: what is left would have to be counted beside it, and here it tells the extent.
     while let [tag, count, behind @ ..] = rest {
         if left == 0 {
             break;
