@@ -31,6 +31,7 @@ pub fn put_unreadable(out: &mut [u8]) -> Rest
 }
 
 // The six numbers, and the rows that `ws` holds.
+// The bounds of both slices stay clauses: no plainer as types, which would be built for the one call in `text` and taken apart in the next.
 pub fn put_report(out: &mut [u8], numbers: Numbers, ws: &[i32], values: u32) -> Rest
     requires in_bounds { 98304 ≤ length out.old }
     requires ws_len_bound { length ws.now ≤ 4096 }
