@@ -17,9 +17,9 @@ use Rattle.notation_rules.specs.Places.{Spot, ◌from◌, put, spots, bare, left
 use Rattle.notation_rules.specs.Rules.{Rule, rule}
 use Rattle.notation_scan.specs.Scanned.{scanned}
 use Rattle.notation_scan.specs.declared.Token.{Token as Token'}
-use Rattle.notation_step.specs.Stepped.{nothing, View, view}
+use Rattle.notation_step.specs.Stepped.{nothing, first, View, view}
 use Rattle.notation_step.specs.declared.Waiting.{Waiting}
-use Rattle.notation_read.specs.Read.{nowhere, no_names, resolved, ran_to, Stopped, stopped, ended, going, taken, added, ran_from, first, ran}
+use Rattle.notation_read.specs.Read.{nowhere, no_names, resolved, ran_to, Stopped, stopped, ended, going, taken, added, ran_from, ran}
 use Rattle.notation_read.specs.declared.Span.{Span}
 use Rattle.notation_read.specs.declared.Names.{Names}
 use Rattle.notation_read.specs.declared.Parts.{Parts}

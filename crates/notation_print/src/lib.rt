@@ -98,14 +98,6 @@ fn mark_of(kind: u32) -> &'static [u8]
     MARKS[kind as usize % MARKS.len()]
 }
 
-// The byte of a digit.
-fn digit(d: u64) -> u8
-    requires { d < 10 }
-    ensures { result ≡ 48 + d }
-{
-    b'0' + d as u8
-}
-
 // A variable's letter.
 #[tactic(auto, unfolding(crate::specs::Inks::name_of))]
 fn name(v: u32) -> u8
@@ -184,10 +176,10 @@ impl<'a> Pen<'a> {
         ensures { Writes self.old self.new (decimal n []) }
     {
         if n < 10 {
-            self.letter(digit(n));
+            self.letter(b'0' + n as u8);
         } else {
             self.digits(n / 10);
-            self.letter(digit(n % 10));
+            self.letter(b'0' + (n % 10) as u8);
         }
     }
 

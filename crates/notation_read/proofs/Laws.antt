@@ -2,17 +2,21 @@
 use Rattle.std.proofs.lemmas.Grind.{common_steps}
 use Rattle.std.proofs.lemmas.List.{length-take}
 use borrow.Author.Tests.{leb-true, leb-false}
-use Rattle.std.proofs.Common.{◌≡◌, ℕ, ◌+◌, ◌-◌, ◌<◌, ◌≤◌, List, [], ◌∷◌, length, get_or, take, refl, sym, ap, subst, ◌∙◌, arith, add-one, lt-ltb, le-ltb, eq-eqb, ne_eqb}
-use Rattle.std.specs.Prelude.{zero, suc, Bool, true, false, cond, eqb, leb, min, replicate, ℤ, pos, Result, Ok, Err}
+use Rattle.std.proofs.Common.{◌≡◌, ℕ, ◌+◌, ◌-◌, ◌*◌, ◌<◌, ◌≤◌, List, [], ◌∷◌, length, get_or, take, refl, sym, ap, subst, ◌∙◌, arith, add-one, lt-ltb, le-ltb, eq-eqb, ne_eqb}
+use Rattle.std.specs.Prelude.{zero, suc, Bool, true, false, cond, eqb, leb, min, replicate, ℤ, pos, Option, Some, None, Result, Ok, Err}
+use Rattle.std.specs.Cmp.Lexicographic.{pointwise}
+use Rattle.notation_rules.specs.Letters.{same_word}
+use Rattle.notation_scan.proofs.Laws.{same_is}
+use Rattle.notation_read.specs.declared.Span.{Span}
 use Rattle.notation_rules.specs.Places.{line, column_from, column}
 use Rattle.notation_scan.specs.Scanned.{scanned}
 use Rattle.notation_scan.specs.declared.Token.{Token}
-use Rattle.notation_step.specs.Stepped.{nothing, view, stepped, end_of}
+use Rattle.notation_step.specs.Stepped.{nothing, first, view, stepped, end_of}
 use Rattle.notation_step.specs.Bounds.{stepped_near}
 use Rattle.notation_step.proofs.Laws.{stepped_kept}
 use Rattle.notation_step.specs.declared.Stand.{Stand}
 use Rattle.notation_step.specs.declared.Waiting.{Waiting}
-use Rattle.notation_read.specs.Read.{bound_by, bound_later, resolved, adding, ran_to, Stopped, stopped, ended, going, taken, added, ran_from, first, no_names, ran, told, unreadable, judged, reading}
+use Rattle.notation_read.specs.Read.{name_of, found, bound_by, bound_later, resolved, adding, ran_to, Stopped, stopped, ended, going, taken, added, ran_from, no_names, ran, told, unreadable, judged, reading}
 use Rattle.notation_read.specs.declared.Names.{Names}
 use Rattle.notation_read.specs.declared.Named.{Named}
 use Rattle.notation_read.specs.declared.Parts.{Parts}
@@ -158,6 +162,11 @@ module _ (cs : List ℕ) (i m at : ℕ) (q : m ≡ min at (length cs)) where
       go false e n = let l : length cs < at = leb-false at (length cs) e in sym (column_end cs i at (omega arith) (omega arith))
 
 -- ---- Names.
+pub find_next : (text : List ℕ) (spans : List Span) (k j : ℕ) (w name : List ℕ) → k ≡ suc j → name ≡ name_of text spans j → pointwise eqb name w ≡ false → found text spans k w ≡ found text spans j w
+unfolding found
+find_next text spans k j w name q e h =
+    ap (λ x. found text spans x w) q ∙ ap (λ b. cond b (Some j) (found text spans j w)) (ap (λ x. same_word x w) (sym e) ∙ sym (same_is name w) ∙ h)
+
 module _ (text w : List ℕ) (at n m : ℕ) (t : Token) (v : Bool) (h : bound_later text w n at ≡ v) (q : n ≡ suc m) (e : t ≡ scanned text at) where
   pub later_next : (t.kind ≡ 24 → ⊥) → bound_by text w t ≡ false → bound_later text w m t.to ≡ v
   unfolding bound_later
@@ -208,10 +217,14 @@ module _ (text : List ℕ) (stack : List Waiting) (words : List ℤ) (v : Stoppe
     run_next c =
         ap (λ b. cond b (ran_from text m t.to ns' (view s' stack' words')) (stopped (Err (record { cause = s'.cause; at = t.from })) words')) (sym (eq-eqb s'.cause 0 c)) ∙ goes
 
-pub run_start : (text : List ℕ) (stack : List Waiting) (words : List ℤ) (ns : Names) → stack ≡ replicate 16384 nothing → ns ≡ no_names
-    → ran_from text (length text - 0) 0 ns (view (record { place = 0; top = 0; len = 0; start = 0; matcher = 0; pattern = 0; cause = 0 }) stack words) ≡ ran text words
-unfolding ran first
-run_start text stack words ns e f = let q : length text - 0 ≡ length text = omega arith in rw (q, e, f)
+pub run_start : (text : List ℕ) (s : Stand) (stack : List Waiting) (words : List ℤ) (ns : Names) → s ≡ first → stack ≡ replicate 16384 nothing → ns ≡ no_names
+    → ran_from text (length text - 0) 0 ns (view s stack words) ≡ ran text words
+unfolding ran
+run_start text s stack words ns d e f = let q : length text - 0 ≡ length text = omega arith in rw (q, d, e, f)
+
+pub none_first : (s : Stand) → s ≡ first → (s.len ≤ 3 * 0) × (s.top ≤ 0)
+unfolding first
+none_first s e = rw e (omega arith, omega arith)
 
 module _ (stack stack' : List Waiting) (ws ws' : List ℤ) (s s' : Stand) (kind value : ℕ) (e : view s' stack' ws' ≡ stepped stack ws s kind value) where
   pub run_len : s'.len ≤ s.len + 3

@@ -5,7 +5,7 @@ use Rattle.notation_rules.specs.Letters.{same_word}
 use Rattle.notation_rules.specs.Places.{line, column}
 use Rattle.notation_scan.specs.Scanned.{scanned}
 use Rattle.notation_scan.specs.declared.Token.{Token}
-use Rattle.notation_step.specs.Stepped.{nothing, View, view, stepped, end_of}
+use Rattle.notation_step.specs.Stepped.{nothing, first, View, view, stepped, end_of}
 use Rattle.notation_step.specs.declared.Stand.{Stand}
 use Rattle.notation_read.specs.declared.Span.{Span}
 use Rattle.notation_read.specs.declared.Names.{Names}
@@ -108,9 +108,6 @@ unfolding ended going taken added scanned
 ran_from text zero at ns v = ended text v
 ran_from text (suc left) at ns v = cond (eqb (scanned text at).kind 24) (ended text v)
     (going (ran_from text left (scanned text at).to) (scanned text at) (added text (scanned text at) ns) (taken text (scanned text at) ns v))
-
-unfoldable pub first : Stand
-first = record { place = 0; top = 0; len = 0; start = 0; matcher = 0; pattern = 0; cause = 0 }
 
 unfoldable pub ran : List ℕ → List ℤ → Stopped
 unfolding ran_from no_names view first

@@ -1,13 +1,12 @@
 // A rule in Egison's notation, read: its words, or the line, the column and the cause of what cannot be read.
 #![tactic(auto)]
 
-ghost use Rattle.std.specs.Prelude.{◌≡◌, ◌≤◌, ◌<◌, ◌^◌, length, replicate};
+ghost use Rattle.std.specs.Prelude.{◌≡◌, ◌≤◌, ◌<◌, ◌^◌, length};
 ghost use Rattle.notation_rules.specs.Places.{line, column};
-ghost use Rattle.notation_step.specs.Stepped.{nothing};
 ghost use Rattle.notation_read.specs.Read.{span_of, name_of, found, bound_by, bound_later, binding_of, using_of, resolved, no_names, adding, ran_to, stopped, ran, numbered, unreadable, told, reading};
 
-use notation_scan::{BINDS, END, Token, USES, part, same, scan};
-use notation_step::{FRAMES, NOTHING, START, Stack, Stand, finish, step};
+use notation_scan::{BINDS, END, Token, USES, part, scan};
+use notation_step::{Automaton, FRAMES, Stand};
 
 // Kinds of a token that no name gives, each more than its cause by the 24 kinds that there are: numbers, since the table of notation_step's specs, `actions`,
 // has a column for each kind.
@@ -84,12 +83,12 @@ impl Names {
     }
 
     // The variable that has this name.
-    #[tactic(auto, unfolding(crate::specs::Read::found))]
+    #[tactic(auto, using(notation_scan::proofs::Laws::same_is), unfolding(crate::specs::Read::found))]
     fn find(&self, text: &[u8], w: &[u8]) -> Option<usize>
         ensures { result ≡ found text.now self.now.spans self.now.count w.now }
     {
         for k in (0..self.count).rev() {
-            if same(self.name(text, k), w) {
+            if self.name(text, k) == w {
                 return Some(k);
             }
         }
@@ -157,11 +156,11 @@ impl Names {
 }
 
 // Whether a token binds a name.
-#[tactic(auto, unfolding(crate::specs::Read::bound_by))]
+#[tactic(auto, using(notation_scan::proofs::Laws::same_is), unfolding(crate::specs::Read::bound_by))]
 fn bound_by(text: &[u8], t: Token, w: &[u8]) -> bool
     ensures { result ≡ bound_by text.now w.now t }
 {
-    t.kind == BINDS && same(part(text, t.name, t.to), w)
+    t.kind == BINDS && part(text, t.name, t.to) == w
 }
 
 // Whether a name is bound from an index on. A text has no more tokens than characters.
@@ -215,29 +214,13 @@ fn ran_to(s: Stand, cause: u32, at: usize) -> Result<Parts, Fault>
     })
 }
 
-// Nothing waits.
-fn empty_stack() -> Stack
-    ensures { result ≡ replicate 16384 nothing }
-{
-    [NOTHING; FRAMES]
-}
-
 // Reads a text token by token; the words go to the slice as far as it reaches.
 fn run(text: &[u8], words: &mut [i32]) -> Result<Parts, Fault>
     requires { length text.now ≤ 16384 }
     ensures { stopped result words.new ≡ ran text.now words.old }
 {
-    let mut stack = empty_stack();
+    let mut automaton = Automaton::new();
     let mut names = Names::none();
-    let mut s = Stand {
-        place: START,
-        top: 0,
-        len: 0,
-        start: 0,
-        matcher: 0,
-        pattern: 0,
-        cause: 0,
-    };
     let mut at: usize = 0;
     for turn in 0..text.len() {
         let t = scan(text, at);
@@ -246,16 +229,14 @@ fn run(text: &[u8], words: &mut [i32]) -> Result<Parts, Fault>
         }
         let n = names.resolve(text, t);
         names.add(n.kind, t);
-        s = step(&mut stack, words, s, n.kind, n.value);
-        if s.cause != 0 {
-            return Err(Fault {
-                cause: s.cause,
-                at: t.from,
-            });
+        automaton.step(words, n.kind, n.value);
+        let cause = automaton.stand.cause;
+        if cause != 0 {
+            return Err(Fault { cause, at: t.from });
         }
         at = t.to;
     }
-    ran_to(s, finish(&stack, s), text.len())
+    ran_to(automaton.stand, automaton.finish(), text.len())
 }
 
 // What the text does that cannot be read.

@@ -1,5 +1,5 @@
 -- What the code of the scanner computes: the first token from an index on.
-use Rattle.std.specs.Prelude.{ℕ, zero, suc, ◌+◌, ◌*◌, ◌/◌, ◌%◌, Bool, true, false, cond, Option, Some, None, unwrap_or, is_some, option_map, position, List, [], ◌∷◌, length, get_or, drop, eqb, ltb, leb}
+use Rattle.std.specs.Prelude.{ℕ, ◌+◌, ◌*◌, ◌/◌, ◌%◌, Bool, false, cond, Option, unwrap_or, is_some, option_map, position, List, [], ◌∷◌, get_or, drop, eqb, ltb, leb}
 use Rattle.std.proofs.Math.Seq.{slice}
 use Rattle.notation_rules.specs.Letters.{same_word, spell_mark}
 use Rattle.notation_rules.specs.Tokens.{anything, integers, list_of, multiset_of, matching, by, with'}

@@ -141,14 +141,6 @@ fn more(value: u64, c: u8) -> u64
     value * 10 + u64::from(c % b'0')
 }
 
-// Whether two words have the same letters.
-#[tactic(auto, using(crate::proofs::Laws::same_is))]
-pub fn same(a: &[u8], b: &[u8]) -> bool
-    ensures { result ≡ same_word a.now b.now }
-{
-    a == b
-}
-
 // A part of a text; nothing where it has none.
 pub fn part(s: &[u8], a: usize, e: usize) -> &[u8]
     ensures { result.now ≡ slice a e s.now }
@@ -175,7 +167,7 @@ const SOMETHING: u32 = 10;
 fn place_of(w: &[u8]) -> Option<usize>
     ensures { result ≡ position (λ x. same_word x w.now) words }
 {
-    WORDS.iter().position(|word| same(word, w))
+    WORDS.iter().position(|word| *word == w)
 }
 
 // The mark that a word is, where it is no name.

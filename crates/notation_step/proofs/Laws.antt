@@ -2,7 +2,7 @@
 use mathlib.Core.Path.{◌≡◌, refl, sym, ◌∙◌, ap}
 use mathlib.Core.Bool.{Bool, true, false, cond}
 use mathlib.Core.List.{List, [], ◌∷◌, ◌++◌, append_assoc}
-use Prim.Native.Nat.{ℕ, zero, suc, ◌+◌, ◌-◌, ◌/◌, ◌%◌, ◌^◌, ◌<◌, ◌≤◌}
+use Prim.Native.Nat.{ℕ, zero, suc, ◌+◌, ◌-◌, ◌/◌, ◌%◌, ◌<◌, ◌≤◌}
 use native.Mathlib.Omega.{arith}
 use native.Mathlib.Numerals.{add-one}
 use borrow.Author.Tests.{lt-ltb, le-ltb}
@@ -14,7 +14,6 @@ use mir.Syntax.{w32}
 use mir.Val.{to_z, of_z, SFits}
 use mir.Facts.{to_z-of_z}
 use Rattle.notation_step.specs.Stepped.{shifted, inserted, Puts, puts, putting_some, heading, bits_of, waiting_at, reach_of, settled, refused, bare_by, View, view, tag_bits, mode_bits, tag_word, appended, appending, too_large, signing, closing, comma_stand, comma_stack, sectioned, taking, action_at, stepped}
-use Rattle.notation_step.specs.Bounds.{settling_len, settling_top}
 use Rattle.notation_step.specs.declared.Stand.{Stand}
 use Rattle.notation_step.specs.declared.Waiting.{Waiting}
 
@@ -129,21 +128,7 @@ taking_kept stack ws s a value =
     (kept (eqb (a % 8) 5) (closing stack ws s a 0) _ (length ws) (closing_kept stack ws s a 0)
     (kept (eqb (a % 8) 6) (view (sectioned s a) stack ws) (view (refused s 2) stack ws) (length ws) refl refl)))))
 
--- ---- The step, and the end.
-pub settled_len : (stack : List Waiting) (s t : Stand) (reach : ℕ) → t ≡ settled stack s reach → t.len ≡ s.len
-unfolding settled
-settled_len stack s t reach e = ap (λ x. x.len) e ∙ settling_len stack s reach s.top s.start
-
-pub settled_top : (stack : List Waiting) (s t : Stand) (reach : ℕ) → t ≡ settled stack s reach → t.top ≤ s.top
-unfolding settled
-settled_top stack s t reach e = rw e (settling_top stack s reach s.top s.start)
-
-pub settled_len_small : (stack : List Waiting) (s t : Stand) (reach : ℕ) → s.len < 2 ^ 32 → t ≡ settled stack s reach → t.len < 2 ^ 32
-settled_len_small stack s t reach h e = let a : t.len ≡ s.len = settled_len stack s t reach e in omega arith
-
-pub settled_top_small : (stack : List Waiting) (s t : Stand) (reach : ℕ) → s.top < 2 ^ 32 → t ≡ settled stack s reach → t.top < 2 ^ 32
-settled_top_small stack s t reach h e = let a : t.top ≤ s.top = settled_top stack s t reach e in omega arith
-
+-- ---- The step.
 pub stepped_kept : (stack : List Waiting) (ws : List ℤ) (s : Stand) (kind value : ℕ) → length (stepped stack ws s kind value).words ≡ length ws
 unfolding stepped view
 stepped_kept stack ws s kind value =

@@ -86,6 +86,10 @@ unfoldable pub action_of : (row kind : ℕ) → ℕ
 action_of row kind = get_or actions ((row % 22 * 24 + kind % 24) % 528) 0
 
 -- ---- Where the automaton stands.
+-- Before the first token.
+unfoldable pub first : Stand
+first = record { place = 0; top = 0; len = 0; start = 0; matcher = 0; pattern = 0; cause = 0 }
+
 unfoldable pub placed : Stand → (top start : ℕ) → Stand
 placed s top start = record { place = s.place; top = top; len = s.len; start = start; matcher = s.matcher; pattern = s.pattern; cause = s.cause }
 

@@ -2,10 +2,10 @@
 // part once its sign or its bracket's end is read. What each place does with each token stands in one table.
 #![tactic(auto)]
 
-ghost use Rattle.std.specs.Prelude.{◌≡◌, ◌<◌, ◌≤◌, ◌^◌, ◌-◌, ◌/◌, ◌%◌};
+ghost use Rattle.std.specs.Prelude.{◌≡◌, ◌<◌, ◌≤◌, ◌^◌, ◌-◌, ◌/◌, ◌%◌, replicate};
 ghost use Rattle.std.specs.Int.{w32};
 ghost use Rattle.std.proofs.Common.{to_z};
-ghost use Rattle.notation_step.specs.Stepped.{inserted, puts, putting_some, bits_of, waiting_at, put_at, reach_of, shade_of, row_of, action_of, settled, refused as Stepped·refused, start_of, piled, pushed, view, appending, too_large, signing, heading, bare_by, next_place, tag_bits, tag_word, mode_bits, crowded_by, closing, comma_stand, comma_stack, sectioned, taking, stepped, end_of};
+ghost use Rattle.notation_step.specs.Stepped.{nothing, first, inserted, puts, putting_some, bits_of, waiting_at, put_at, reach_of, shade_of, row_of, action_of, settled, refused as Stepped·refused, start_of, piled, pushed, view, appending, too_large, signing, heading, bare_by, next_place, tag_bits, tag_word, mode_bits, crowded_by, closing, comma_stand, comma_stack, sectioned, taking, stepped, end_of};
 
 use std::mem;
 
@@ -34,13 +34,20 @@ pub struct Waiting {
     pub parts: usize,
 }
 
-pub const NOTHING: Waiting = Waiting {
+const NOTHING: Waiting = Waiting {
     tight: 0,
     start: 0,
     parts: 0,
 };
 
-pub type Stack = [Waiting; 16384];
+type Stack = [Waiting; 16384];
+
+// The automaton: what waits, and where it stands.
+#[derive(Drop)]
+pub struct Automaton {
+    pub stack: Stack,
+    pub stand: Stand,
+}
 
 const ROUND: usize = 0;
 
@@ -48,11 +55,22 @@ const SQUARE: usize = 8;
 
 // The places. Three more rows of the table are places inside a bracket: 2 after a `[`, 5 and 6, 10, 21 after a part. Places, what is done and causes are
 // numbers, since the tables of the specs (`actions`, `rows`, `ends`) and theorems of notation_grammar (`Follows`, `Finished`, `At`) hold them.
-pub const START: u32 = 0;
+const START: u32 = 0;
 
 const MATCHER_READ: u32 = 9;
 
 const PATTERN_READ: u32 = 20;
+
+// Before the first token.
+const FIRST: Stand = Stand {
+    place: START,
+    top: 0,
+    len: 0,
+    start: 0,
+    matcher: 0,
+    pattern: 0,
+    cause: 0,
+};
 
 // What a place does with a token, 24 to a row, by the bits that Action reads.
 const ACTIONS: [u32; 528] = [
@@ -252,7 +270,9 @@ fn reach_of(place: u32, kind: u32) -> usize
 // All that is tighter ends here.
 #[tactic(auto, unfolding(crate::specs::Stepped::settled, crate::specs::Stepped::settling, crate::specs::Stepped::placed))]
 fn settle(stack: &Stack, s: Stand, reach: usize) -> Stand
-    ensures { result ≡ settled stack.now s reach }
+    ensures settled { result ≡ settled stack.now s reach }
+    ensures same_words { result.len ≡ s.len }
+    ensures no_more_waiting { result.top ≤ s.top }
 {
     let mut start = s.start;
     for j in (0..s.top).rev() {
@@ -346,48 +366,6 @@ fn too_large(mode: u32, value: u64) -> bool
     }
 }
 
-// Words behind the others, and something that waits.
-#[tactic(auto, unfolding(crate::specs::Stepped::appending, crate::specs::Stepped::appended, crate::specs::Stepped::puts, crate::specs::Stepped::piled, crate::specs::Stepped::view))]
-fn append(stack: &mut Stack, words: &mut [i32], s: Stand, a: Action, value: u64) -> Stand
-    requires { (s.len < 2 ^ 32) × (s.top < 2 ^ 32) }
-    ensures { view result stack.new words.new ≡ appending stack.old words.old s a.0 value }
-{
-    let tag = a.some_tag();
-    let mode = a.mode();
-    if too_large(mode, value) {
-        return refused(s, OUT_OF_RANGE);
-    }
-    let n = put_some(words, s.len, tag, a.tag());
-    let m = put_some(words, n, mode, bits_of(mode, value));
-    let len = put_some(words, m, a.zero(), 0);
-    let top = push(stack, s.top, a.waits(), s.len);
-    Stand {
-        place: a.next_place(),
-        top,
-        len,
-        start: start_of(s, tag),
-        cause: 0,
-        ..s
-    }
-}
-
-// A sign: its tag goes before its first part, and it waits for the second.
-#[tactic(auto, unfolding(crate::specs::Stepped::signing, crate::specs::Stepped::piled, crate::specs::Stepped::view))]
-fn sign(stack: &mut Stack, words: &mut [i32], s: Stand, a: Action) -> Stand
-    requires { (s.len < 2 ^ 32) × (s.top < 2 ^ 32) }
-    ensures { view result stack.new words.new ≡ signing stack.old words.old s a.0 }
-{
-    insert(words, s.len, s.start, a.tag());
-    let top = push(stack, s.top, a.waits(), s.start);
-    Stand {
-        place: a.next_place(),
-        top,
-        len: s.len + 1,
-        cause: 0,
-        ..s
-    }
-}
-
 // The one that waits last.
 fn below(top: usize) -> usize
     ensures { result ≡ top - 1 }
@@ -417,55 +395,12 @@ fn put_head(words: &mut [i32], len: usize, start: usize, bare: bool, tag: u32, p
     len + 2
 }
 
-// A bracket ends, with one part more or none.
-#[tactic(auto, unfolding(crate::specs::Stepped::closing, crate::specs::Stepped::puts, crate::specs::Stepped::view))]
-fn close(stack: &Stack, words: &mut [i32], s: Stand, a: Action, more: u64) -> Stand
-    requires { (s.len < 2 ^ 32) × (more ≤ 1) }
-    ensures { view result stack.now words.new ≡ closing stack.now words.old s a.0 more }
-{
-    let j = below(s.top);
-    let last = waiting_at(stack, j);
-    let bare = is_bare(last.tight, last.parts);
-    let parts = bits_of(0, (last.parts % 1048576) as u64 + more);
-    let len = put_head(words, s.len, last.start, bare, a.tag(), parts);
-    Stand {
-        place: a.next_place(),
-        top: j,
-        len,
-        start: last.start,
-        cause: 0,
-        ..s
-    }
-}
-
 // Whether a comma is one too many: a round bracket has at most four parts.
 #[tactic(auto, unfolding(crate::specs::Stepped::crowded_by))]
 fn crowded(kind: usize, count: usize) -> bool
     ensures { result ≡ crowded_by kind count }
 {
     kind == ROUND && 3 <= count
-}
-
-// A part more is read.
-#[tactic(auto, unfolding(crate::specs::Stepped::comma_stand, crate::specs::Stepped::comma_stack, crate::specs::Stepped::crowded))]
-fn comma(stack: &mut Stack, s: Stand, a: Action) -> Stand
-    ensures { (result ≡ comma_stand stack.old s a.0) × (stack.new ≡ comma_stack stack.old s) }
-{
-    let j = below(s.top);
-    let last = waiting_at(stack, j);
-    if crowded(last.tight, last.parts) {
-        return refused(s, OVER_LIMIT);
-    }
-    let longer = Waiting {
-        parts: last.parts % 1048576 + 1,
-        ..last
-    };
-    put(stack, j, longer);
-    Stand {
-        place: a.next_place(),
-        cause: 0,
-        ..s
-    }
 }
 
 // The matcher or the pattern begins.
@@ -482,45 +417,175 @@ fn section(s: Stand, a: Action) -> Stand
     }
 }
 
-// What the table says.
-#[tactic(auto, unfolding(crate::specs::Stepped::taking))]
-fn take(stack: &mut Stack, words: &mut [i32], s: Stand, a: Action, value: u64) -> Stand
-    requires { (s.len < 2 ^ 32) × (s.top < 2 ^ 32) }
-    ensures { view result stack.new words.new ≡ taking stack.old words.old s a.0 value }
-{
-    match a.done() {
-        APPEND => append(stack, words, s, a, value),
-        SIGN => sign(stack, words, s, a),
-        CLOSE => close(stack, words, s, a, 1),
-        COMMA => comma(stack, s, a),
-        EMPTY => close(stack, words, s, a, 0),
-        SECTION => section(s, a),
-        _ => refused(s, MISPLACED),
+// A token is taken up: what waits, the words so far, and where the automaton stands. A token adds at most three words and one that waits, so the counts
+// behind it fit.
+#[derive(Drop)]
+struct Turn<'a> {
+    stack: &'a mut Stack,
+    words: &'a mut [i32],
+    stand: Stand,
+    ghost few_words: { stand.len < 2 ^ 32 },
+    ghost few_waiting: { stand.top < 2 ^ 32 },
+}
+
+impl Turn<'_> {
+    // Words behind the others, and something that waits.
+    #[tactic(auto, unfolding(crate::specs::Stepped::appending, crate::specs::Stepped::appended, crate::specs::Stepped::puts, crate::specs::Stepped::piled, crate::specs::Stepped::view))]
+    fn append(&mut self, a: Action, value: u64) -> Stand
+        ensures same_stack { self.new.stack.ghost_name ≡ self.old.stack.ghost_name }
+        ensures same_words { self.new.words.ghost_name ≡ self.old.words.ghost_name }
+        ensures appended { view result self.new.stack.now self.new.words.now ≡ appending self.old.stack.now self.old.words.now self.old.stand a.0 value }
+    {
+        let s = self.stand;
+        let tag = a.some_tag();
+        let mode = a.mode();
+        if too_large(mode, value) {
+            return refused(s, OUT_OF_RANGE);
+        }
+        let n = put_some(self.words, s.len, tag, a.tag());
+        let m = put_some(self.words, n, mode, bits_of(mode, value));
+        let len = put_some(self.words, m, a.zero(), 0);
+        let top = push(self.stack, s.top, a.waits(), s.len);
+        Stand {
+            place: a.next_place(),
+            top,
+            len,
+            start: start_of(s, tag),
+            cause: 0,
+            ..s
+        }
+    }
+
+    // A sign: its tag goes before its first part, and it waits for the second.
+    #[tactic(auto, unfolding(crate::specs::Stepped::signing, crate::specs::Stepped::piled, crate::specs::Stepped::view))]
+    fn sign(&mut self, a: Action) -> Stand
+        ensures same_stack { self.new.stack.ghost_name ≡ self.old.stack.ghost_name }
+        ensures same_words { self.new.words.ghost_name ≡ self.old.words.ghost_name }
+        ensures signed { view result self.new.stack.now self.new.words.now ≡ signing self.old.stack.now self.old.words.now self.old.stand a.0 }
+    {
+        let s = self.stand;
+        insert(self.words, s.len, s.start, a.tag());
+        let top = push(self.stack, s.top, a.waits(), s.start);
+        Stand {
+            place: a.next_place(),
+            top,
+            len: s.len + 1,
+            cause: 0,
+            ..s
+        }
+    }
+
+    // A bracket ends, with one part more or none.
+    #[tactic(auto, unfolding(crate::specs::Stepped::closing, crate::specs::Stepped::puts, crate::specs::Stepped::view))]
+    fn close(&mut self, a: Action, more: u64) -> Stand
+        requires { more ≤ 1 }
+        ensures same_stack { self.new.stack.ghost_name ≡ self.old.stack.ghost_name }
+        ensures same_words { self.new.words.ghost_name ≡ self.old.words.ghost_name }
+        ensures closed { view result self.new.stack.now self.new.words.now ≡ closing self.old.stack.now self.old.words.now self.old.stand a.0 more }
+    {
+        let s = self.stand;
+        let j = below(s.top);
+        let last = waiting_at(self.stack, j);
+        let bare = is_bare(last.tight, last.parts);
+        let parts = bits_of(0, (last.parts % 1048576) as u64 + more);
+        let len = put_head(self.words, s.len, last.start, bare, a.tag(), parts);
+        Stand {
+            place: a.next_place(),
+            top: j,
+            len,
+            start: last.start,
+            cause: 0,
+            ..s
+        }
+    }
+
+    // A part more is read.
+    #[tactic(auto, unfolding(crate::specs::Stepped::comma_stand, crate::specs::Stepped::comma_stack, crate::specs::Stepped::crowded, crate::specs::Stepped::view))]
+    fn comma(&mut self, a: Action) -> Stand
+        ensures same_stack { self.new.stack.ghost_name ≡ self.old.stack.ghost_name }
+        ensures same_words { self.new.words.ghost_name ≡ self.old.words.ghost_name }
+        ensures continued { view result self.new.stack.now self.new.words.now ≡ view (comma_stand self.old.stack.now self.old.stand a.0) (comma_stack self.old.stack.now self.old.stand) self.old.words.now }
+    {
+        let s = self.stand;
+        let j = below(s.top);
+        let last = waiting_at(self.stack, j);
+        if crowded(last.tight, last.parts) {
+            return refused(s, OVER_LIMIT);
+        }
+        let longer = Waiting {
+            parts: last.parts % 1048576 + 1,
+            ..last
+        };
+        put(self.stack, j, longer);
+        Stand {
+            place: a.next_place(),
+            cause: 0,
+            ..s
+        }
+    }
+
+    // What the table says.
+    #[tactic(auto, unfolding(crate::specs::Stepped::taking))]
+    fn take(&mut self, a: Action, value: u64) -> Stand
+        ensures same_stack { self.new.stack.ghost_name ≡ self.old.stack.ghost_name }
+        ensures same_words { self.new.words.ghost_name ≡ self.old.words.ghost_name }
+        ensures taken { view result self.new.stack.now self.new.words.now ≡ taking self.old.stack.now self.old.words.now self.old.stand a.0 value }
+    {
+        match a.done() {
+            APPEND => self.append(a, value),
+            SIGN => self.sign(a),
+            CLOSE => self.close(a, 1),
+            COMMA => self.comma(a),
+            EMPTY => self.close(a, 0),
+            SECTION => section(self.stand, a),
+            _ => refused(self.stand, MISPLACED),
+        }
     }
 }
 
-// A token is taken up.
-#[tactic(auto, unfolding(crate::specs::Stepped::stepped, crate::specs::Stepped::action_at))]
-pub fn step(stack: &mut Stack, words: &mut [i32], s: Stand, kind: u32, value: u64) -> Stand
-    requires { (s.len < 2 ^ 32) × (s.top < 2 ^ 32) }
-    ensures { view result stack.new words.new ≡ stepped stack.old words.old s kind value }
-{
-    if WRONG <= kind {
-        return refused(s, kind - WRONG);
+impl Automaton {
+    // Nothing is read, and nothing waits.
+    #[tactic(auto, unfolding(crate::specs::Stepped::first, crate::specs::Stepped::view))]
+    pub fn new() -> Automaton
+        ensures stand { result.stand ≡ first }
+        ensures stack { result.stack ≡ replicate 16384 nothing }
+    {
+        Automaton {
+            stack: [NOTHING; FRAMES],
+            stand: FIRST,
+        }
     }
-    let t = settle(stack, s, reach_of(s.place, kind));
-    let row = row_of(t.place, shade_of(stack, t.top));
-    take(stack, words, t, action_of(row, kind), value)
-}
 
-// Why the text may not end here; 0 where it may.
-#[tactic(auto, unfolding(crate::specs::Stepped::end_of))]
-pub fn finish(stack: &Stack, s: Stand) -> u32
-    ensures { result ≡ end_of stack.now s }
-{
-    let t = settle(stack, s, 0);
-    if 0 < t.top {
-        return BRACKET_OPEN;
+    // A token is taken up.
+    #[tactic(auto, unfolding(crate::specs::Stepped::stepped, crate::specs::Stepped::action_at))]
+    pub fn step(&mut self, words: &mut [i32], kind: u32, value: u64)
+        requires few_words { self.old.stand.len < 2 ^ 32 }
+        requires few_waiting { self.old.stand.top < 2 ^ 32 }
+        ensures { view self.new.stand self.new.stack words.new ≡ stepped self.old.stack words.old self.old.stand kind value }
+    {
+        if WRONG <= kind {
+            self.stand = refused(self.stand, kind - WRONG);
+            return;
+        }
+        let stand = settle(&self.stack, self.stand, reach_of(self.stand.place, kind));
+        let row = row_of(stand.place, shade_of(&self.stack, stand.top));
+        let mut turn = Turn {
+            stack: &mut self.stack,
+            words,
+            stand,
+        };
+        self.stand = turn.take(action_of(row, kind), value);
     }
-    ENDS[(s.place % 22) as usize]
+
+    // Why the text may not end here; 0 where it may.
+    #[tactic(auto, unfolding(crate::specs::Stepped::end_of))]
+    pub fn finish(&self) -> u32
+        ensures { result ≡ end_of self.now.stack self.now.stand }
+    {
+        let settled = settle(&self.stack, self.stand, 0);
+        if 0 < settled.top {
+            return BRACKET_OPEN;
+        }
+        ENDS[(self.stand.place % 22) as usize]
+    }
 }

@@ -5,8 +5,8 @@ use Rattle.notation_read.proofs.run.Given as goal
 
 abbrev pub invariant-loop-turn : goal.invariant-loop-turn
 invariant-loop-turn l = record {
-  run_so_far : ran_from l.text (length l.text - l.turn) l.at l.names (view l.s l.stack l.words) ≡ ran l.text l.initial.words;
+  run_so_far : ran_from l.text (length l.text - l.turn) l.at l.names (view l.automaton.stand l.automaton.stack l.words) ≡ ran l.text l.initial.words;
   length_kept : length l.words ≡ length l.initial.words;
-  few_words : l.s.len ≤ 3 * l.turn;
-  few_wait : l.s.top ≤ l.turn;
+  few_words : l.automaton.stand.len ≤ 3 * l.turn;
+  few_wait : l.automaton.stand.top ≤ l.turn;
 }

@@ -1,4 +1,4 @@
-use Rattle.std.proofs.Common.{◌≡◌, ◌≤◌, arith, ◌∙◌}
+use Rattle.std.proofs.Common.{◌≤◌, arith, ◌∙◌}
 use Rattle.notation_scan.proofs.Laws.{scan_end}
 use Rattle.notation_scan.proofs.scan.Goals as goal
 
