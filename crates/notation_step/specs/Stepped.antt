@@ -1,9 +1,11 @@
 -- What the code of the automaton computes.
-use Rattle.std.specs.Prelude.{ℕ, zero, suc, ◌+◌, ◌-◌, ◌*◌, ◌/◌, ◌%◌, Bool, false, cond, List, [], ◌∷◌, ◌++◌, get_or, drop, take, set, eqb, ltb, leb, ℤ}
+use Rattle.std.specs.Prelude.{ℕ, zero, suc, ◌+◌, ◌-◌, ◌*◌, ◌/◌, ◌%◌, Bool, false, cond, List, [], ◌∷◌, ◌++◌, get_or, drop, take, set, eqb, ltb, leb, ℤ, Option, Some, None}
 use Rattle.std.specs.Int.{w32}
 use Rattle.std.proofs.Common.{to_z}
 use Rattle.notation_step.specs.declared.Stand.{Stand}
 use Rattle.notation_step.specs.declared.Waiting.{Waiting}
+use Rattle.notation_step.specs.declared.Deed.{Deed}
+use Rattle.notation_step.specs.declared.Deed.TheVariants.{Append, Sign, Close, Comma, Empty, Section}
 
 -- The code's tables.
 abbrev pub actions : List ℕ
@@ -133,6 +135,10 @@ mode_bits a = a / 4096 % 4
 
 abbrev pub tag_word : ℕ → ℕ
 tag_word a = (tag_bits a + 15) % 16
+
+-- What a token does; nothing, where it cannot stand.
+unfoldable pub deed_of : ℕ → Option Deed
+deed_of n = cond (eqb n 1) (Some Append) (cond (eqb n 2) (Some Sign) (cond (eqb n 3) (Some Close) (cond (eqb n 4) (Some Comma) (cond (eqb n 5) (Some Empty) (cond (eqb n 6) (Some Section) None)))))
 
 unfoldable pub appended : List Waiting → List ℤ → Stand → (a value : ℕ) → View
 unfolding view putting_some bits_of pushed start_of

@@ -5,7 +5,7 @@
 ghost use Rattle.std.specs.Prelude.{◌≡◌, ◌<◌, ◌≤◌, ◌^◌, ◌-◌, ◌/◌, ◌%◌, replicate};
 ghost use Rattle.std.specs.Int.{w32};
 ghost use Rattle.std.proofs.Common.{to_z};
-ghost use Rattle.notation_step.specs.Stepped.{nothing, first, inserted, puts, putting_some, bits_of, waiting_at, put_at, reach_of, shade_of, row_of, action_of, settled, refused as Stepped·refused, start_of, piled, pushed, view, appending, too_large, signing, heading, bare_by, next_place, tag_bits, tag_word, mode_bits, crowded_by, closing, comma_stand, comma_stack, sectioned, taking, stepped, end_of};
+ghost use Rattle.notation_step.specs.Stepped.{nothing, first, inserted, puts, putting_some, bits_of, waiting_at, put_at, reach_of, shade_of, row_of, action_of, settled, deed_of, refused as Stepped·refused, start_of, piled, pushed, view, appending, too_large, signing, heading, bare_by, next_place, tag_bits, tag_word, mode_bits, crowded_by, closing, comma_stand, comma_stack, sectioned, taking, stepped, end_of};
 
 use std::mem;
 
@@ -95,18 +95,6 @@ const ACTIONS: [u32; 528] = [
     0, 0, 0, 132698, 132954, 100698, 68186, 0, 0, 0,
 ];
 
-const APPEND: u32 = 1;
-
-const SIGN: u32 = 2;
-
-const CLOSE: u32 = 3;
-
-const COMMA: u32 = 4;
-
-const EMPTY: u32 = 5;
-
-const SECTION: u32 = 6;
-
 // The row of a place, by what waits last: something else or nothing, a round bracket, a square one with parts, one without.
 const ROWS: [u32; 88] = [
     0, 0, 0, 0, 1, 1, 1, 2, 2, 2, 2, 2, 3, 3, 3, 3, 4, 6, 5, 5, 5, 5, 5, 5, 6, 6, 6, 6, 7, 7, 7, 7,
@@ -148,16 +136,36 @@ const WRONG: u32 = 24;
 
 const LARGEST: u64 = 2147483648;
 
+// What a token does at a place.
+#[derive(Clone, Copy)]
+enum Deed {
+    Append,
+    Sign,
+    Close,
+    Comma,
+    Empty,
+    Section,
+}
+
 // What a place does with a token, in the bits of the table's entry: numbers, since theorems of notation_grammar speak of the entries.
 #[derive(Clone, Copy)]
 struct Action(u32);
 
 impl Action {
-    // One of APPEND to SECTION; any other: the token cannot stand here.
-    fn done(self) -> u32
-        ensures { result ≡ self.0 % 8 }
+    // None: the token cannot stand here.
+    #[tactic(auto, unfolding(crate::specs::Stepped::deed_of))]
+    fn deed(self) -> Option<Deed>
+        ensures { result ≡ deed_of (self.0 % 8) }
     {
-        self.0 % 8
+        match self.0 % 8 {
+            1 => Some(Deed::Append),
+            2 => Some(Deed::Sign),
+            3 => Some(Deed::Close),
+            4 => Some(Deed::Comma),
+            5 => Some(Deed::Empty),
+            6 => Some(Deed::Section),
+            _ => None,
+        }
     }
 
     fn next_place(self) -> u32
@@ -525,20 +533,20 @@ impl Turn<'_> {
     }
 
     // What the table says.
-    #[tactic(auto, unfolding(crate::specs::Stepped::taking))]
+    #[tactic(auto, unfolding(crate::specs::Stepped::taking, crate::specs::Stepped::deed_of))]
     fn take(&mut self, a: Action, value: u64) -> Stand
         ensures same_stack { self.new.stack.ghost_name ≡ self.old.stack.ghost_name }
         ensures same_words { self.new.words.ghost_name ≡ self.old.words.ghost_name }
         ensures taken { view result self.new.stack.now self.new.words.now ≡ taking self.old.stack.now self.old.words.now self.old.stand a.0 value }
     {
-        match a.done() {
-            APPEND => self.append(a, value),
-            SIGN => self.sign(a),
-            CLOSE => self.close(a, 1),
-            COMMA => self.comma(a),
-            EMPTY => self.close(a, 0),
-            SECTION => section(self.stand, a),
-            _ => refused(self.stand, MISPLACED),
+        match a.deed() {
+            Some(Deed::Append) => self.append(a, value),
+            Some(Deed::Sign) => self.sign(a),
+            Some(Deed::Close) => self.close(a, 1),
+            Some(Deed::Comma) => self.comma(a),
+            Some(Deed::Empty) => self.close(a, 0),
+            Some(Deed::Section) => section(self.stand, a),
+            None => refused(self.stand, MISPLACED),
         }
     }
 }
