@@ -13,7 +13,11 @@ use lib.IntN.{ℤ, pos}
 use mir.Syntax.{w32}
 use mir.Val.{to_z, of_z, SFits}
 use mir.Facts.{to_z-of_z}
-use Rattle.notation_step.specs.Stepped.{shifted, inserted, Puts, puts, putting_some, heading, bits_of, waiting_at, reach_of, settled, refused, bare_by, View, view, tag_bits, mode_bits, tag_word, appended, appending, too_large, signing, closing, comma_stand, comma_stack, sectioned, taking, action_at, stepped}
+use Rattle.std.specs.Prelude.{Option, Some, None, option_map}
+use Rattle.std.proofs.Common.{ne_eqb}
+use Rattle.notation_step.specs.declared.Numeral.{Numeral}
+use Rattle.notation_step.specs.declared.Numeral.TheVariants.{Plain, Negative, Variable}
+use Rattle.notation_step.specs.Stepped.{shifted, inserted, Puts, puts, one_lower, one_higher, mode_of, zero_of, putting, pushing, putting_some, pushed, Pile, piled, put_at, next_place, start_of, heading, bits_of, waiting_at, reach_of, settled, refused, bare_by, View, view, tag_bits, mode_bits, tag_word, appended, appending, too_large, signing, closing, comma_stand, comma_stack, sectioned, taking, action_at, stepped}
 use Rattle.notation_step.specs.declared.Stand.{Stand}
 use Rattle.notation_step.specs.declared.Waiting.{Waiting}
 
@@ -127,6 +131,72 @@ taking_kept stack ws s a value =
     (kept (eqb (a % 8) 4) (view (comma_stand stack s a) (comma_stack stack s) ws) _ (length ws) refl
     (kept (eqb (a % 8) 5) (closing stack ws s a 0) _ (length ws) (closing_kept stack ws s a 0)
     (kept (eqb (a % 8) 6) (view (sectioned s a) stack ws) (view (refused s 2) stack ws) (length ws) refl refl)))))
+
+-- ---- An entry of the table: what is there is put and waits as its bits say.
+pub more_less : (n : ℕ) → one_higher (one_lower n) ≡ n
+unfolding one_higher one_lower
+more_less zero = refl
+more_less (suc n) = refl
+
+pub put_tag : (ws : List ℤ) (len a : ℕ) → putting ws len (one_lower (tag_bits a)) ≡ putting_some ws len (tag_bits a) (tag_word a)
+unfolding putting one_lower putting_some
+put_tag ws len a = go (tag_bits a) (omega arith)
+  where
+    go : (t : ℕ) → t < 16 → putting ws len (one_lower t) ≡ putting_some ws len t ((t + 15) % 16)
+    go zero h = refl
+    go (suc t) h = let e : t ≡ (suc t + 15) % 16 = omega arith in ap (λ u. puts (inserted ws len len (to_z w32 u)) (len + 1)) e
+        ∙ ap (λ b. cond b (puts ws len) (puts (inserted ws len len (to_z w32 ((suc t + 15) % 16))) (len + 1))) (sym (ne_eqb (suc t) 0 (λ q. absurd (omega arith))))
+
+pub put_numeral : (ws : List ℤ) (len value : ℕ) (k : Option Numeral) → putting ws len (option_map (λ n. bits_of (mode_of (Some n)) value) k) ≡ putting_some ws len (mode_of k) (bits_of (mode_of k) value)
+unfolding putting putting_some mode_of
+put_numeral ws len value None = refl
+put_numeral ws len value (Some Plain) = refl
+put_numeral ws len value (Some Negative) = refl
+put_numeral ws len value (Some Variable) = refl
+
+pub put_zero : (ws : List ℤ) (len a : ℕ) → putting ws len (zero_of a) ≡ putting_some ws len (a / 16384 % 2) 0
+unfolding zero_of putting putting_some
+put_zero ws len a = go (a / 16384 % 2) (omega arith)
+  where
+    go : (z : ℕ) → z < 2 → putting ws len (cond (eqb z 1) (Some 0) None) ≡ putting_some ws len z 0
+    go zero h = refl
+    go (suc zero) h = refl
+    go (suc (suc z)) h = absurd (omega arith)
+
+pub push_tight : (stack : List Waiting) (top a start : ℕ) → pushing stack top (one_lower (a / 32768 % 16)) start ≡ pushed stack top (a / 32768 % 16) start
+unfolding pushing one_lower pushed
+push_tight stack top a start = go (a / 32768 % 16) (omega arith)
+  where
+    go : (w : ℕ) → w < 16 → pushing stack top (one_lower w) start ≡ pushed stack top w start
+    go zero h = refl
+    go (suc w) h = let e : w ≡ (suc w % 16 + 15) % 16 = omega arith in ap (λ t. piled (put_at stack top (record { tight = t; start = start; parts = 0 })) (top + 1)) e
+        ∙ ap (λ b. cond b (piled stack top) (piled (put_at stack top (record { tight = (suc w % 16 + 15) % 16; start = start; parts = 0 })) (top + 1))) (sym (ne_eqb (suc w) 0 (λ q. absurd (omega arith))))
+
+-- What is put and waits, one behind the other.
+pub append_is : (stack : List Waiting) (words : List ℤ) (s : Stand) (a value : ℕ) (t v z h : Option ℕ) (k : Option Numeral) (large : Bool) (xs ys zs : List ℤ) (n m l place top start : ℕ) (rest : List Waiting)
+    → t ≡ one_lower (tag_bits a) → mode_of k ≡ mode_bits a → large ≡ too_large (mode_of k) value → large ≡ false
+    → v ≡ option_map (λ n. bits_of (mode_of (Some n)) value) k → z ≡ zero_of a → h ≡ one_lower (a / 32768 % 16)
+    → puts xs n ≡ putting words s.len t → puts ys m ≡ putting xs n v → puts zs l ≡ putting ys m z → piled rest top ≡ pushing stack s.top h s.len → place ≡ next_place a → start ≡ start_of s (one_higher t)
+    → view (record { place = place; top = top; len = l; start = start; matcher = s.matcher; pattern = s.pattern; cause = 0 }) rest zs ≡ appending stack words s a value
+unfolding appending appended view puts piled
+append_is stack words s a value t v z h k large xs ys zs n m l place top start rest et ek el small ev ez eh e1 e2 e3 e4 ep es =
+    let tagged : puts xs n ≡ putting_some words s.len (tag_bits a) (tag_word a) = e1 ∙ ap (putting words s.len) et ∙ put_tag words s.len a in
+    let numbered : puts ys m ≡ with_number (puts xs n) = e2 ∙ ap (putting xs n) ev ∙ put_numeral xs n value k ∙ ap (λ x. putting_some xs n x (bits_of x value)) ek in
+    let all : puts zs l ≡ with_zero (with_number (putting_some words s.len (tag_bits a) (tag_word a))) = e3 ∙ ap (putting ys m) ez ∙ put_zero ys m a ∙ ap with_zero (numbered ∙ ap with_number tagged) in
+    ap (λ x. stands (puts zs l) (piled rest top) x start) ep
+    ∙ ap (λ x. stands (puts zs l) (piled rest top) (next_place a) x) (es ∙ ap (λ x. start_of s (one_higher x)) et ∙ ap (start_of s) (more_less (tag_bits a)))
+    ∙ ap (λ x. stands x (piled rest top) (next_place a) (start_of s (tag_bits a))) all
+    ∙ ap (λ x. stands (with_zero (with_number (putting_some words s.len (tag_bits a) (tag_word a)))) x (next_place a) (start_of s (tag_bits a))) (e4 ∙ ap (λ x. pushing stack s.top x s.len) eh ∙ push_tight stack s.top a s.len)
+    ∙ ap (λ b. cond b (view (refused s 8) stack words) (appended stack words s a value)) (sym (ap (λ x. too_large x value) (sym ek) ∙ sym el ∙ small))
+  where
+    with_number : Puts → Puts
+    with_number p = putting_some p.words p.len (mode_bits a) (bits_of (mode_bits a) value)
+
+    with_zero : Puts → Puts
+    with_zero p = putting_some p.words p.len (a / 16384 % 2) 0
+
+    stands : Puts → Pile → (place start : ℕ) → View
+    stands p q x y = view (record { place = x; top = q.top; len = p.len; start = y; matcher = s.matcher; pattern = s.pattern; cause = 0 }) q.stack p.words
 
 -- ---- The step.
 pub stepped_kept : (stack : List Waiting) (ws : List ℤ) (s : Stand) (kind value : ℕ) → length (stepped stack ws s kind value).words ≡ length ws

@@ -4,6 +4,8 @@ use Rattle.std.specs.Int.{w32}
 use Rattle.std.proofs.Common.{to_z}
 use Rattle.notation_step.specs.declared.Stand.{Stand}
 use Rattle.notation_step.specs.declared.Waiting.{Waiting}
+use Rattle.notation_step.specs.declared.Numeral.{Numeral}
+use Rattle.notation_step.specs.declared.Numeral.TheVariants.{Plain, Negative, Variable}
 use Rattle.notation_step.specs.declared.Deed.{Deed}
 use Rattle.notation_step.specs.declared.Deed.TheVariants.{Append, Sign, Close, Comma, Empty, Section}
 
@@ -42,6 +44,12 @@ unfoldable pub putting_some : List ℤ → (len some u : ℕ) → Puts
 unfolding puts inserted
 putting_some ws len some u = cond (eqb some 0) (puts ws len) (puts (inserted ws len len (to_z w32 u)) (len + 1))
 
+-- The same of a word, where there is one.
+unfoldable pub putting : List ℤ → (len : ℕ) → Option ℕ → Puts
+unfolding puts inserted
+putting ws len None = puts ws len
+putting ws len (Some u) = puts (inserted ws len len (to_z w32 u)) (len + 1)
+
 unfoldable pub heading : List ℤ → (len start : ℕ) → (bare : Bool) → (tag parts : ℕ) → Puts
 unfolding puts inserted
 heading ws len start bare tag parts = cond bare (puts ws len) (puts (inserted (inserted ws len start (to_z w32 parts)) (len + 1) start (to_z w32 tag)) (len + 2))
@@ -70,6 +78,12 @@ piled stack top = record { stack = stack; top = top }
 unfoldable pub pushed : List Waiting → (top some start : ℕ) → Pile
 unfolding piled put_at
 pushed stack top some start = cond (eqb some 0) (piled stack top) (piled (put_at stack top (record { tight = (some % 16 + 15) % 16; start = start; parts = 0 })) (top + 1))
+
+-- The same of how tight it is, where something waits.
+unfoldable pub pushing : List Waiting → (top : ℕ) → Option ℕ → (start : ℕ) → Pile
+unfolding piled put_at
+pushing stack top None start = piled stack top
+pushing stack top (Some tight) start = piled (put_at stack top (record { tight = tight; start = start; parts = 0 })) (top + 1)
 
 -- ---- Tables.
 unfoldable pub reach_of : (place kind : ℕ) → ℕ
@@ -135,6 +149,24 @@ mode_bits a = a / 4096 % 4
 
 abbrev pub tag_word : ℕ → ℕ
 tag_word a = (tag_bits a + 15) % 16
+
+-- A number that says one less, or nothing where it is 0; and the number that says it.
+unfoldable pub one_lower : ℕ → Option ℕ
+one_lower zero = None
+one_lower (suc n) = Some n
+
+unfoldable pub one_higher : Option ℕ → ℕ
+one_higher None = 0
+one_higher (Some n) = suc n
+
+unfoldable pub mode_of : Option Numeral → ℕ
+mode_of None = 0
+mode_of (Some Plain) = 1
+mode_of (Some Negative) = 2
+mode_of (Some Variable) = 3
+
+unfoldable pub zero_of : ℕ → Option ℕ
+zero_of a = cond (eqb (a / 16384 % 2) 1) (Some 0) None
 
 -- What a token does; nothing, where it cannot stand.
 unfoldable pub deed_of : ℕ → Option Deed

@@ -2,10 +2,10 @@
 // part once its sign or its bracket's end is read. What each place does with each token stands in one table.
 #![tactic(auto)]
 
-ghost use Rattle.std.specs.Prelude.{◌≡◌, ◌<◌, ◌≤◌, ◌^◌, ◌-◌, ◌/◌, ◌%◌, replicate};
+ghost use Rattle.std.specs.Prelude.{◌≡◌, ◌<◌, ◌≤◌, ◌^◌, ◌+◌, ◌-◌, ◌/◌, ◌%◌, replicate, option_map, Some};
 ghost use Rattle.std.specs.Int.{w32};
 ghost use Rattle.std.proofs.Common.{to_z};
-ghost use Rattle.notation_step.specs.Stepped.{nothing, first, inserted, puts, putting_some, bits_of, waiting_at, put_at, reach_of, shade_of, row_of, action_of, settled, deed_of, refused as Stepped·refused, start_of, piled, pushed, view, appending, too_large, signing, heading, bare_by, next_place, tag_bits, tag_word, mode_bits, crowded_by, closing, comma_stand, comma_stack, sectioned, taking, stepped, end_of};
+ghost use Rattle.notation_step.specs.Stepped.{nothing, first, inserted, puts, one_lower, one_higher, mode_of, zero_of, putting, pushing, bits_of, waiting_at, put_at, reach_of, shade_of, row_of, action_of, settled, deed_of, refused as Stepped·refused, start_of, piled, view, appending, too_large, signing, heading, bare_by, next_place, tag_bits, tag_word, mode_bits, crowded_by, closing, comma_stand, comma_stack, sectioned, taking, stepped, end_of};
 
 use std::mem;
 
@@ -147,6 +147,14 @@ enum Deed {
     Section,
 }
 
+// The number that follows: plain, behind a minus, or a variable's.
+#[derive(Clone, Copy)]
+enum Numeral {
+    Plain,
+    Negative,
+    Variable,
+}
+
 // What a place does with a token, in the bits of the table's entry: numbers, since theorems of notation_grammar speak of the entries.
 #[derive(Clone, Copy)]
 struct Action(u32);
@@ -174,38 +182,49 @@ impl Action {
         self.0 / 8 % 32
     }
 
-    // One more than the tag; 0: none.
-    fn some_tag(self) -> u32
-        ensures { result ≡ tag_bits self.0 }
+    // The tag of the words.
+    #[tactic(auto, unfolding(crate::specs::Stepped::one_lower))]
+    fn tag(self) -> Option<u32>
+        ensures { result ≡ one_lower (tag_bits self.0) }
     {
-        self.0 / 256 % 16
+        (self.0 / 256 % 16).checked_sub(1)
     }
 
-    fn tag(self) -> u32
+    // The tag of what ends or is a sign.
+    fn own_tag(self) -> u32
         ensures { result ≡ tag_word self.0 }
     {
-        (self.some_tag() + 15) % 16
+        (self.0 / 256 + 15) % 16
     }
 
-    // Which number follows: 1 plain, 2 behind a minus, 3 a variable's; 0: none.
-    fn mode(self) -> u32
-        ensures { result ≡ mode_bits self.0 }
+    // The number that follows.
+    #[tactic(auto, unfolding(crate::specs::Stepped::mode_of))]
+    fn numeral(self) -> Option<Numeral>
+        ensures { mode_of result ≡ mode_bits self.0 }
     {
-        self.0 / 4096 % 4
+        match self.0 / 4096 % 4 {
+            1 => Some(Numeral::Plain),
+            2 => Some(Numeral::Negative),
+            3 => Some(Numeral::Variable),
+            _ => None,
+        }
     }
 
-    // Whether a 0 follows.
-    fn zero(self) -> u32
-        ensures { result ≡ self.0 / 16384 % 2 }
+    // A 0, where one follows.
+    #[tactic(auto, unfolding(crate::specs::Stepped::zero_of))]
+    fn zero(self) -> Option<u32>
+        ensures { result ≡ zero_of self.0 }
     {
-        self.0 / 16384 % 2
+        if self.0 / 16384 % 2 == 1 { Some(0) } else { None }
     }
 
-    // One more than how tight it is that waits then; 0: nothing.
-    fn waits(self) -> u32
-        ensures { result ≡ self.0 / 32768 % 16 }
+    // How tight it is that waits then.
+    #[tactic(auto, unfolding(crate::specs::Stepped::one_lower))]
+    fn waits(self) -> Option<usize>
+        ensures { result ≡ one_lower (self.0 / 32768 % 16) }
     {
-        self.0 / 32768 % 16
+        let tight = (self.0 / 32768 % 16).checked_sub(1)?;
+        Some(tight as usize)
     }
 }
 
@@ -223,27 +242,35 @@ fn insert(words: &mut [i32], len: usize, at: usize, u: u32)
 }
 
 // A word behind the others, where there is one.
-#[tactic(auto, unfolding(crate::specs::Stepped::putting_some))]
-fn put_some(words: &mut [i32], len: usize, some: u32, u: u32) -> usize
+#[tactic(auto, unfolding(crate::specs::Stepped::putting))]
+fn put_some(words: &mut [i32], len: usize, word: Option<u32>) -> usize
     requires { len < 2 ^ 40 }
-    ensures { puts words.new result ≡ putting_some words.old len some u }
+    ensures put { puts words.new result ≡ putting words.old len word }
+    ensures at_most_one { result ≤ len + 1 }
 {
-    if some == 0 {
-        return len;
-    }
+    let Some(u) = word else { return len };
     insert(words, len, len, u);
     len + 1
 }
 
 // The bits of a number's word.
-#[tactic(auto, unfolding(crate::specs::Stepped::bits_of))]
-fn bits_of(mode: u32, value: u64) -> u32
-    ensures { result ≡ bits_of mode value }
+#[tactic(auto, unfolding(crate::specs::Stepped::bits_of, crate::specs::Stepped::mode_of))]
+fn bits_of(numeral: Numeral, value: u64) -> u32
+    ensures { result ≡ bits_of (mode_of (Some numeral)) value }
 {
-    if mode == 2 {
-        return ((4294967296 - value % 4294967296) % 4294967296) as u32;
+    match numeral {
+        Numeral::Negative => {
+            return ((4294967296 - value % 4294967296) % 4294967296) as u32;
+        }
+        _ => (value % 4294967296) as u32,
     }
-    (value % 4294967296) as u32
+}
+
+// A number's word, where there is one.
+fn word_of(numeral: Option<Numeral>, value: u64) -> Option<u32>
+    ensures { result ≡ option_map (λ n. bits_of (mode_of (Some n)) value) numeral }
+{
+    Some(bits_of(numeral?, value))
 }
 
 // The j-th that waits.
@@ -337,24 +364,22 @@ fn refused(s: Stand, cause: u32) -> Stand
 }
 
 // Where the words of what is read begin: a tag begins them.
-#[tactic(auto, unfolding(crate::specs::Stepped::start_of))]
-fn start_of(s: Stand, tag: u32) -> usize
-    ensures { result ≡ start_of s tag }
+#[tactic(auto, unfolding(crate::specs::Stepped::start_of, crate::specs::Stepped::one_higher))]
+fn start_of(s: Stand, tag: Option<u32>) -> usize
+    ensures { result ≡ start_of s (one_higher tag) }
 {
-    if tag == 0 { s.start } else { s.len }
+    if tag.is_none() { s.start } else { s.len }
 }
 
 // Something more waits, where there is something.
-#[tactic(auto, unfolding(crate::specs::Stepped::pushed))]
-fn push(stack: &mut Stack, top: usize, some: u32, start: usize) -> usize
+#[tactic(auto, unfolding(crate::specs::Stepped::pushing))]
+fn push(stack: &mut Stack, top: usize, tight: Option<usize>, start: usize) -> usize
     requires { top < 2 ^ 40 }
-    ensures { piled stack.new result ≡ pushed stack.old top some start }
+    ensures { piled stack.new result ≡ pushing stack.old top tight start }
 {
-    if some == 0 {
-        return top;
-    }
+    let Some(tight) = tight else { return top };
     let more = Waiting {
-        tight: ((some % 16 + 15) % 16) as usize,
+        tight,
         start,
         parts: 0,
     };
@@ -363,13 +388,13 @@ fn push(stack: &mut Stack, top: usize, some: u32, start: usize) -> usize
 }
 
 // Whether a number is out of range, plain or behind a minus.
-#[tactic(auto, unfolding(crate::specs::Stepped::too_large))]
-fn too_large(mode: u32, value: u64) -> bool
-    ensures { result ≡ too_large mode value }
+#[tactic(auto, unfolding(crate::specs::Stepped::too_large, crate::specs::Stepped::mode_of))]
+fn too_large(numeral: Option<Numeral>, value: u64) -> bool
+    ensures { result ≡ too_large (mode_of numeral) value }
 {
-    match mode {
-        1 => LARGEST <= value,
-        2 => LARGEST < value,
+    match numeral {
+        Some(Numeral::Plain) => LARGEST <= value,
+        Some(Numeral::Negative) => LARGEST < value,
         _ => false,
     }
 }
@@ -445,14 +470,14 @@ impl Turn<'_> {
         ensures appended { view result self.new.stack.now self.new.words.now ≡ appending self.old.stack.now self.old.words.now self.old.stand a.0 value }
     {
         let s = self.stand;
-        let tag = a.some_tag();
-        let mode = a.mode();
-        if too_large(mode, value) {
+        let tag = a.tag();
+        let numeral = a.numeral();
+        if too_large(numeral, value) {
             return refused(s, OUT_OF_RANGE);
         }
-        let n = put_some(self.words, s.len, tag, a.tag());
-        let m = put_some(self.words, n, mode, bits_of(mode, value));
-        let len = put_some(self.words, m, a.zero(), 0);
+        let tagged = put_some(self.words, s.len, tag);
+        let numbered = put_some(self.words, tagged, word_of(numeral, value));
+        let len = put_some(self.words, numbered, a.zero());
         let top = push(self.stack, s.top, a.waits(), s.len);
         Stand {
             place: a.next_place(),
@@ -465,14 +490,14 @@ impl Turn<'_> {
     }
 
     // A sign: its tag goes before its first part, and it waits for the second.
-    #[tactic(auto, unfolding(crate::specs::Stepped::signing, crate::specs::Stepped::piled, crate::specs::Stepped::view))]
+    #[tactic(auto, using(crate::proofs::Laws::push_tight), unfolding(crate::specs::Stepped::signing, crate::specs::Stepped::piled, crate::specs::Stepped::view))]
     fn sign(&mut self, a: Action) -> Stand
         ensures same_stack { self.new.stack.ghost_name ≡ self.old.stack.ghost_name }
         ensures same_words { self.new.words.ghost_name ≡ self.old.words.ghost_name }
         ensures signed { view result self.new.stack.now self.new.words.now ≡ signing self.old.stack.now self.old.words.now self.old.stand a.0 }
     {
         let s = self.stand;
-        insert(self.words, s.len, s.start, a.tag());
+        insert(self.words, s.len, s.start, a.own_tag());
         let top = push(self.stack, s.top, a.waits(), s.start);
         Stand {
             place: a.next_place(),
@@ -484,8 +509,8 @@ impl Turn<'_> {
     }
 
     // A bracket ends, with one part more or none.
-    #[tactic(auto, unfolding(crate::specs::Stepped::closing, crate::specs::Stepped::puts, crate::specs::Stepped::view))]
-    fn close(&mut self, a: Action, more: u64) -> Stand
+    #[tactic(auto, unfolding(crate::specs::Stepped::closing, crate::specs::Stepped::bits_of, crate::specs::Stepped::puts, crate::specs::Stepped::view))]
+    fn close(&mut self, a: Action, more: u32) -> Stand
         requires { more ≤ 1 }
         ensures same_stack { self.new.stack.ghost_name ≡ self.old.stack.ghost_name }
         ensures same_words { self.new.words.ghost_name ≡ self.old.words.ghost_name }
@@ -495,8 +520,8 @@ impl Turn<'_> {
         let j = below(s.top);
         let last = waiting_at(self.stack, j);
         let bare = is_bare(last.tight, last.parts);
-        let parts = bits_of(0, (last.parts % 1048576) as u64 + more);
-        let len = put_head(self.words, s.len, last.start, bare, a.tag(), parts);
+        let parts = (last.parts % 1048576) as u32 + more;
+        let len = put_head(self.words, s.len, last.start, bare, a.own_tag(), parts);
         Stand {
             place: a.next_place(),
             top: j,
