@@ -5,7 +5,7 @@
 ghost use Rattle.std.specs.Prelude.{◌≡◌, ◌<◌, ◌≤◌, ◌^◌, ◌+◌, ◌-◌, ◌/◌, ◌%◌, replicate, option_map, Some};
 ghost use Rattle.std.specs.Int.{w32};
 ghost use Rattle.std.proofs.Common.{to_z};
-ghost use Rattle.notation_step.specs.Stepped.{nothing, first, inserted, puts, one_lower, one_higher, mode_of, zero_of, putting, pushing, bits_of, waiting_at, put_at, reach_of, shade_of, row_of, action_of, settled, deed_of, refused as Stepped·refused, start_of, piled, view, appending, too_large, signing, heading, bare_by, next_place, tag_bits, tag_word, mode_bits, crowded_by, closing, comma_stand, comma_stack, sectioned, taking, stepped, end_of};
+ghost use Rattle.notation_step.specs.Stepped.{nothing, first, inserted, puts, one_lower, one_higher, mode_of, zero_of, putting, pushing, bits_of, waiting_at, put_at, reach_of, shade_of, row_of, action_of, settled, deed_of, refused, start_of, piled, view, appending, too_large, signing, heading, bare_by, next_place, tag_bits, tag_word, mode_bits, crowded_by, closing, comma_stand, comma_stack, sectioned, taking, stepped, end_of};
 
 use std::mem;
 
@@ -22,6 +22,38 @@ pub struct Stand {
     pub cause: u32,
 }
 
+impl Stand {
+    // The same, refused.
+    #[tactic(auto, unfolding(crate::specs::Stepped::refused))]
+    fn refused(self, cause: u32) -> Stand
+        ensures { result ≡ refused self cause }
+    {
+        Stand { cause, ..self }
+    }
+
+    // Where the words of what is read begin: a tag begins them.
+    #[tactic(auto, unfolding(crate::specs::Stepped::start_of, crate::specs::Stepped::one_higher))]
+    fn start_of(self, tag: Option<u32>) -> usize
+        ensures { result ≡ start_of self (one_higher tag) }
+    {
+        if tag.is_none() { self.start } else { self.len }
+    }
+
+    // The matcher or the pattern begins.
+    #[tactic(auto, unfolding(crate::specs::Stepped::sectioned))]
+    fn section(self, a: Action) -> Stand
+        ensures { result ≡ sectioned self a.0 }
+    {
+        Stand {
+            place: a.next_place(),
+            matcher: self.pattern,
+            pattern: self.len,
+            cause: 0,
+            ..self
+        }
+    }
+}
+
 // At most so many wait at once, in a text of as many characters.
 pub const FRAMES: usize = 16384;
 
@@ -32,6 +64,24 @@ pub struct Waiting {
     pub tight: usize,
     pub start: usize,
     pub parts: usize,
+}
+
+impl Waiting {
+    // Whether a bracket's end has no words: that of a round bracket around one part.
+    #[tactic(auto, unfolding(crate::specs::Stepped::bare_by))]
+    fn is_bare(self) -> bool
+        ensures { result ≡ bare_by self.tight self.parts }
+    {
+        self.tight == ROUND && self.parts == 0
+    }
+
+    // Whether a comma is one too many: a round bracket has at most four parts.
+    #[tactic(auto, unfolding(crate::specs::Stepped::crowded_by))]
+    fn is_crowded(self) -> bool
+        ensures { result ≡ crowded_by self.tight self.parts }
+    {
+        self.tight == ROUND && 3 <= self.parts
+    }
 }
 
 const NOTHING: Waiting = Waiting {
@@ -53,8 +103,8 @@ const ROUND: usize = 0;
 
 const SQUARE: usize = 8;
 
-// The places. Three more rows of the table are places inside a bracket: 2 after a `[`, 5 and 6, 10, 21 after a part. Places, what is done and causes are
-// numbers, since the tables of the specs (`actions`, `rows`, `ends`) and theorems of notation_grammar (`Follows`, `Finished`, `At`) hold them.
+// The places. Three more rows of the table are places inside a bracket: 2 after a `[`, 5 and 6, 10, 21 after a part. Places and causes are numbers, since
+// the tables of the specs (`rows`, `ends`) count by them, and `At`, `Follows` and `Finished` of notation_grammar, on which `simulates` rests, speak of them.
 const START: u32 = 0;
 
 const MATCHER_READ: u32 = 9;
@@ -215,7 +265,11 @@ impl Action {
     fn zero(self) -> Option<u32>
         ensures { result ≡ zero_of self.0 }
     {
-        if self.0 / 16384 % 2 == 1 { Some(0) } else { None }
+        if self.0 / 16384 % 2 == 1 {
+            Some(0)
+        } else {
+            None
+        }
     }
 
     // How tight it is that waits then.
@@ -259,9 +313,7 @@ fn bits_of(numeral: Numeral, value: u64) -> u32
     ensures { result ≡ bits_of (mode_of (Some numeral)) value }
 {
     match numeral {
-        Numeral::Negative => {
-            return ((4294967296 - value % 4294967296) % 4294967296) as u32;
-        }
+        Numeral::Negative => ((4294967296 - value % 4294967296) % 4294967296) as u32,
         _ => (value % 4294967296) as u32,
     }
 }
@@ -302,28 +354,6 @@ fn reach_of(place: u32, kind: u32) -> usize
     }
 }
 
-// All that is tighter ends here.
-#[tactic(auto, unfolding(crate::specs::Stepped::settled, crate::specs::Stepped::settling, crate::specs::Stepped::placed))]
-fn settle(stack: &Stack, s: Stand, reach: usize) -> Stand
-    ensures settled { result ≡ settled stack.now s reach }
-    ensures same_words { result.len ≡ s.len }
-    ensures no_more_waiting { result.top ≤ s.top }
-{
-    let mut start = s.start;
-    for j in (0..s.top).rev() {
-        let last = waiting_at(stack, j);
-        if last.tight % 8 <= reach {
-            return Stand {
-                top: j + 1,
-                start,
-                ..s
-            };
-        }
-        start = last.start;
-    }
-    Stand { top: 0, start, ..s }
-}
-
 // What waits last, as the rows tell it apart.
 #[tactic(auto, unfolding(crate::specs::Stepped::shade_of))]
 fn shade_of(stack: &Stack, top: usize) -> u32
@@ -353,22 +383,6 @@ fn action_of(row: u32, kind: u32) -> Action
     ensures { result.0 ≡ action_of row kind }
 {
     Action(ACTIONS[((row % 22 * 24 + kind % 24) % 528) as usize])
-}
-
-// The same, refused.
-#[tactic(auto, unfolding(crate::specs::Stepped::refused))]
-fn refused(s: Stand, cause: u32) -> Stand
-    ensures { result ≡ Stepped·refused s cause }
-{
-    Stand { cause, ..s }
-}
-
-// Where the words of what is read begin: a tag begins them.
-#[tactic(auto, unfolding(crate::specs::Stepped::start_of, crate::specs::Stepped::one_higher))]
-fn start_of(s: Stand, tag: Option<u32>) -> usize
-    ensures { result ≡ start_of s (one_higher tag) }
-{
-    if tag.is_none() { s.start } else { s.len }
 }
 
 // Something more waits, where there is something.
@@ -406,14 +420,6 @@ fn below(top: usize) -> usize
     top.saturating_sub(1)
 }
 
-// Whether a bracket's end has no words: that of a round bracket around one part.
-#[tactic(auto, unfolding(crate::specs::Stepped::bare_by))]
-fn is_bare(kind: usize, count: usize) -> bool
-    ensures { result ≡ bare_by kind count }
-{
-    kind == ROUND && count == 0
-}
-
 // A tag and the number of its parts before the words from an index on, where there are any.
 #[tactic(auto, unfolding(crate::specs::Stepped::heading))]
 fn put_head(words: &mut [i32], len: usize, start: usize, bare: bool, tag: u32, parts: u32) -> usize
@@ -426,28 +432,6 @@ fn put_head(words: &mut [i32], len: usize, start: usize, bare: bool, tag: u32, p
     insert(words, len, start, parts);
     insert(words, len + 1, start, tag);
     len + 2
-}
-
-// Whether a comma is one too many: a round bracket has at most four parts.
-#[tactic(auto, unfolding(crate::specs::Stepped::crowded_by))]
-fn crowded(kind: usize, count: usize) -> bool
-    ensures { result ≡ crowded_by kind count }
-{
-    kind == ROUND && 3 <= count
-}
-
-// The matcher or the pattern begins.
-#[tactic(auto, unfolding(crate::specs::Stepped::sectioned))]
-fn section(s: Stand, a: Action) -> Stand
-    ensures { result ≡ sectioned s a.0 }
-{
-    Stand {
-        place: a.next_place(),
-        matcher: s.pattern,
-        pattern: s.len,
-        cause: 0,
-        ..s
-    }
 }
 
 // A token is taken up: what waits, the words so far, and where the automaton stands. A token adds at most three words and one that waits, so the counts
@@ -473,7 +457,7 @@ impl Turn<'_> {
         let tag = a.tag();
         let numeral = a.numeral();
         if too_large(numeral, value) {
-            return refused(s, OUT_OF_RANGE);
+            return s.refused(OUT_OF_RANGE);
         }
         let tagged = put_some(self.words, s.len, tag);
         let numbered = put_some(self.words, tagged, word_of(numeral, value));
@@ -483,7 +467,7 @@ impl Turn<'_> {
             place: a.next_place(),
             top,
             len,
-            start: start_of(s, tag),
+            start: s.start_of(tag),
             cause: 0,
             ..s
         }
@@ -519,7 +503,7 @@ impl Turn<'_> {
         let s = self.stand;
         let j = below(s.top);
         let last = waiting_at(self.stack, j);
-        let bare = is_bare(last.tight, last.parts);
+        let bare = last.is_bare();
         let parts = (last.parts % 1048576) as u32 + more;
         let len = put_head(self.words, s.len, last.start, bare, a.own_tag(), parts);
         Stand {
@@ -542,8 +526,8 @@ impl Turn<'_> {
         let s = self.stand;
         let j = below(s.top);
         let last = waiting_at(self.stack, j);
-        if crowded(last.tight, last.parts) {
-            return refused(s, OVER_LIMIT);
+        if last.is_crowded() {
+            return s.refused(OVER_LIMIT);
         }
         let longer = Waiting {
             parts: last.parts % 1048576 + 1,
@@ -570,8 +554,8 @@ impl Turn<'_> {
             Some(Deed::Close) => self.close(a, 1),
             Some(Deed::Comma) => self.comma(a),
             Some(Deed::Empty) => self.close(a, 0),
-            Some(Deed::Section) => section(self.stand, a),
-            None => refused(self.stand, MISPLACED),
+            Some(Deed::Section) => self.stand.section(a),
+            None => self.stand.refused(MISPLACED),
         }
     }
 }
@@ -589,6 +573,32 @@ impl Automaton {
         }
     }
 
+    // All that is tighter ends here.
+    #[tactic(auto, unfolding(crate::specs::Stepped::settled, crate::specs::Stepped::settling, crate::specs::Stepped::placed))]
+    fn settled(&self, reach: usize) -> Stand
+        ensures settled { result ≡ settled self.now.stack self.now.stand reach }
+        ensures same_words { result.len ≡ self.now.stand.len }
+        ensures no_more_waiting { result.top ≤ self.now.stand.top }
+    {
+        let mut start = self.stand.start;
+        for j in (0..self.stand.top).rev() {
+            let last = waiting_at(&self.stack, j);
+            if last.tight % 8 <= reach {
+                return Stand {
+                    top: j + 1,
+                    start,
+                    ..self.stand
+                };
+            }
+            start = last.start;
+        }
+        Stand {
+            top: 0,
+            start,
+            ..self.stand
+        }
+    }
+
     // A token is taken up.
     #[tactic(auto, unfolding(crate::specs::Stepped::stepped, crate::specs::Stepped::action_at))]
     pub fn step(&mut self, words: &mut [i32], kind: u32, value: u64)
@@ -597,10 +607,10 @@ impl Automaton {
         ensures { view self.new.stand self.new.stack words.new ≡ stepped self.old.stack words.old self.old.stand kind value }
     {
         if WRONG <= kind {
-            self.stand = refused(self.stand, kind - WRONG);
+            self.stand = self.stand.refused(kind - WRONG);
             return;
         }
-        let stand = settle(&self.stack, self.stand, reach_of(self.stand.place, kind));
+        let stand = self.settled(reach_of(self.stand.place, kind));
         let row = row_of(stand.place, shade_of(&self.stack, stand.top));
         let mut turn = Turn {
             stack: &mut self.stack,
@@ -615,8 +625,7 @@ impl Automaton {
     pub fn finish(&self) -> u32
         ensures { result ≡ end_of self.now.stack self.now.stand }
     {
-        let settled = settle(&self.stack, self.stand, 0);
-        if 0 < settled.top {
+        if 0 < self.settled(0).top {
             return BRACKET_OPEN;
         }
         ENDS[(self.stand.place % 22) as usize]
