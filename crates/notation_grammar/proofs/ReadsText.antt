@@ -19,7 +19,7 @@ use Rattle.notation_scan.specs.Scanned.{scanned}
 use Rattle.notation_scan.specs.declared.Token.{Token as Token'}
 use Rattle.notation_step.specs.Stepped.{nothing, first, View, view}
 use Rattle.notation_step.specs.declared.Waiting.{Waiting}
-use Rattle.notation_read.specs.Read.{nowhere, no_names, resolved, ran_to, Stopped, stopped, ended, going, taken, added, ran_from, ran}
+use Rattle.notation_read.specs.Read.{numbered, nowhere, no_names, resolved, ran_to, Stopped, stopped, ended, going, taken, added, ran_from, ran}
 use Rattle.notation_read.specs.declared.Span.{Span}
 use Rattle.notation_read.specs.declared.Names.{Names}
 use Rattle.notation_read.specs.declared.Parts.{Parts}
@@ -89,7 +89,7 @@ unfolding units_words both_words pattern_words
 rule_parts (rule u m p) = record { matcher = length (units_words u); pattern = length (both_words u m); end = length (both_words u m ++ pattern_words p) }
 
 abbrev pub fault_of : (cause at : ℕ) → Fault
-fault_of c at = record { cause = c; at = at }
+fault_of c at = record { cause = numbered c; at = at }
 
 module _ (text : List ℕ) (lent : List ℤ) where
   unfoldable pub Tells : Outcome Rule → List Spot → Stopped → Type 0

@@ -16,7 +16,7 @@ use Rattle.notation_step.specs.Bounds.{stepped_near}
 use Rattle.notation_step.proofs.Laws.{stepped_kept}
 use Rattle.notation_step.specs.declared.Stand.{Stand}
 use Rattle.notation_step.specs.declared.Waiting.{Waiting}
-use Rattle.notation_read.specs.Read.{name_of, found, bound_by, bound_later, resolved, adding, ran_to, Stopped, stopped, ended, going, taken, added, ran_from, no_names, ran, told, unreadable, judged, reading}
+use Rattle.notation_read.specs.Read.{numbered, name_of, found, bound_by, bound_later, resolved, adding, ran_to, Stopped, stopped, ended, going, taken, added, ran_from, no_names, ran, told, unreadable, judged, reading}
 use Rattle.notation_read.specs.declared.Names.{Names}
 use Rattle.notation_read.specs.declared.Named.{Named}
 use Rattle.notation_read.specs.declared.Parts.{Parts}
@@ -207,15 +207,15 @@ module _ (text : List ℕ) (stack : List Waiting) (words : List ℤ) (v : Stoppe
         ∙ ap (λ x. going (ran_from text m t.to) t (adding ns x.kind t) (stepped stack words s x.kind x.value)) g
         ∙ sym turn ∙ ap (λ x. ran_from text x at ns (view s stack words)) (sym q) ∙ h
 
-    pub run_refused : (s'.cause ≡ 0 → ⊥) → stopped (Err (record { cause = s'.cause; at = t.from })) words' ≡ v
+    pub run_refused : (s'.cause ≡ 0 → ⊥) → stopped (Err (record { cause = numbered s'.cause; at = t.from })) words' ≡ v
     unfolding going view
     run_refused c =
-        ap (λ b. cond b (ran_from text m t.to ns' (view s' stack' words')) (stopped (Err (record { cause = s'.cause; at = t.from })) words')) (sym (ne_eqb s'.cause 0 c)) ∙ goes
+        ap (λ b. cond b (ran_from text m t.to ns' (view s' stack' words')) (stopped (Err (record { cause = numbered s'.cause; at = t.from })) words')) (sym (ne_eqb s'.cause 0 c)) ∙ goes
 
     pub run_next : s'.cause ≡ 0 → ran_from text m t.to ns' (view s' stack' words') ≡ v
     unfolding going view
     run_next c =
-        ap (λ b. cond b (ran_from text m t.to ns' (view s' stack' words')) (stopped (Err (record { cause = s'.cause; at = t.from })) words')) (sym (eq-eqb s'.cause 0 c)) ∙ goes
+        ap (λ b. cond b (ran_from text m t.to ns' (view s' stack' words')) (stopped (Err (record { cause = numbered s'.cause; at = t.from })) words')) (sym (eq-eqb s'.cause 0 c)) ∙ goes
 
 pub run_start : (text : List ℕ) (s : Stand) (stack : List Waiting) (words : List ℤ) (ns : Names) → s ≡ first → stack ≡ replicate 16384 nothing → ns ≡ no_names
     → ran_from text (length text - 0) 0 ns (view s stack words) ≡ ran text words

@@ -75,8 +75,25 @@ unfoldable pub adding : Names → (kind : ℕ) → Token → Names
 adding ns kind t = cond (eqb kind 21) (cond (ltb ns.count 16) (record { spans = set ns.spans ns.count (record { from = t.name; to = t.to }); count = ns.count + 1 }) ns) ns
 
 -- ---- Token by token.
+-- A cause's number in the tables.
+unfoldable pub number_of : Cause → ℕ
+number_of UnknownSign = 1
+number_of Misplaced = 2
+number_of CutShort = 3
+number_of BracketOpen = 4
+number_of UnknownName = 5
+number_of BoundTwice = 6
+number_of UsedBefore = 7
+number_of OutOfRange = 8
+number_of OverLimit = 9
+
+-- The cause of a number.
+unfoldable pub numbered : ℕ → Cause
+numbered n = cond (eqb n 1) UnknownSign (cond (eqb n 2) Misplaced (cond (eqb n 3) CutShort (cond (eqb n 4) BracketOpen (cond (eqb n 5) UnknownName (cond (eqb n 6) BoundTwice (cond (eqb n 7) UsedBefore (cond (eqb n 8) OutOfRange OverLimit)))))))
+
 unfoldable pub ran_to : Stand → (cause at : ℕ) → Result Parts Fault
-ran_to s cause at = cond (eqb cause 0) (Ok (record { matcher = s.matcher; pattern = s.pattern; end = s.len })) (Err (record { cause = cause; at = at }))
+unfolding numbered
+ran_to s cause at = cond (eqb cause 0) (Ok (record { matcher = s.matcher; pattern = s.pattern; end = s.len })) (Err (record { cause = numbered cause; at = at }))
 
 pub record Stopped : Type 0 where
   pub ran : Result Parts Fault
@@ -92,8 +109,8 @@ ended text v = stopped (ran_to v.stand (end_of v.stack v.stand) (length text)) v
 
 -- A token is refused, or the next one is read.
 unfoldable pub going : (Names → View → Stopped) → Token → Names → View → Stopped
-unfolding stopped
-going k t ns v = cond (eqb v.stand.cause 0) (k ns v) (stopped (Err (record { cause = v.stand.cause; at = t.from })) v.words)
+unfolding stopped numbered
+going k t ns v = cond (eqb v.stand.cause 0) (k ns v) (stopped (Err (record { cause = numbered v.stand.cause; at = t.from })) v.words)
 
 unfoldable pub taken : List ℕ → Token → Names → View → View
 unfolding resolved stepped
@@ -114,10 +131,6 @@ unfolding ran_from no_names view first
 ran text words = ran_from text (length text) 0 no_names (view first (replicate 16384 nothing) words)
 
 -- ---- A rule, or a refusal.
--- The cause of a number.
-unfoldable pub numbered : ℕ → Cause
-numbered n = cond (eqb n 1) UnknownSign (cond (eqb n 2) Misplaced (cond (eqb n 3) CutShort (cond (eqb n 4) BracketOpen (cond (eqb n 5) UnknownName (cond (eqb n 6) BoundTwice (cond (eqb n 7) UsedBefore (cond (eqb n 8) OutOfRange OverLimit)))))))
-
 pub record Answered : Type 0 where
   pub told : Result Parts Refusal
   pub words : List ℤ
@@ -126,8 +139,8 @@ unfoldable pub told : Result Parts Refusal → List ℤ → Answered
 told r ws = record { told = r; words = ws }
 
 unfoldable pub unreadable : List ℕ → Fault → Refusal
-unfolding line column numbered
-unreadable text f = Unreadable (numbered f.cause) (line text f.at) (column text f.at)
+unfolding line column
+unreadable text f = Unreadable f.cause (line text f.at) (column text f.at)
 
 -- The first run shows whether the text is a rule; the second writes its words.
 unfoldable pub judged : List ℕ → List ℤ → Result Parts Fault → Stopped → Answered

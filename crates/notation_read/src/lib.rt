@@ -1,22 +1,53 @@
 // A rule in Egison's notation, read: its words, or the line, the column and the cause of what cannot be read.
 #![tactic(auto)]
 
-ghost use Rattle.std.specs.Prelude.{◌≡◌, ◌≤◌, ◌<◌, ◌^◌, length};
+ghost use Rattle.std.specs.Prelude.{◌≡◌, ◌≤◌, ◌<◌, ◌^◌, ◌+◌, length};
 ghost use Rattle.notation_rules.specs.Places.{line, column};
-ghost use Rattle.notation_read.specs.Read.{span_of, name_of, found, bound_by, bound_later, binding_of, using_of, resolved, no_names, adding, ran_to, stopped, ran, numbered, unreadable, told, reading};
+ghost use Rattle.notation_read.specs.Read.{span_of, name_of, found, bound_by, bound_later, binding_of, using_of, resolved, no_names, adding, ran_to, stopped, ran, number_of, numbered, unreadable, told, reading};
 
 use notation_scan::{BINDS, END, Token, USES, part, scan};
-use notation_step::{Automaton, FRAMES, Stand};
+use notation_step::{Automaton, FRAMES, Stand, WRONG};
 
-// Kinds of a token that no name gives, each more than its cause by the 24 kinds that there are: numbers, since the table of notation_step's specs, `actions`,
-// has a column for each kind.
-const UNKNOWN_NAME: u32 = 29;
+// What the text does that cannot be read.
+#[derive(Clone, Copy, Debug, PartialEq, Eq)]
+pub enum Cause {
+    UnknownSign = 1,
+    Misplaced = 2,
+    CutShort = 3,
+    BracketOpen = 4,
+    UnknownName = 5,
+    BoundTwice = 6,
+    UsedBefore = 7,
+    OutOfRange = 8,
+    OverLimit = 9,
+}
 
-const BOUND_TWICE: u32 = 30;
+impl Cause {
+    // The number that the tables have for it.
+    #[tactic(auto, unfolding(crate::specs::Read::number_of))]
+    fn number(self) -> u32
+        ensures { result ≡ number_of self }
+    {
+        self as u32
+    }
 
-const USED_BEFORE: u32 = 31;
-
-const OVER_LIMIT: u32 = 33;
+    #[tactic(auto, unfolding(crate::specs::Read::numbered))]
+    fn numbered(number: u32) -> Cause
+        ensures { result ≡ numbered number }
+    {
+        match number {
+            1 => Cause::UnknownSign,
+            2 => Cause::Misplaced,
+            3 => Cause::CutShort,
+            4 => Cause::BracketOpen,
+            5 => Cause::UnknownName,
+            6 => Cause::BoundTwice,
+            7 => Cause::UsedBefore,
+            8 => Cause::OutOfRange,
+            _ => Cause::OverLimit,
+        }
+    }
+}
 
 const VARIABLES: usize = 16;
 
@@ -44,11 +75,15 @@ pub struct Named {
 }
 
 impl Named {
-    // A token that counts nothing.
-    fn bare(kind: u32) -> Named
-        ensures { result ≡ record { kind = kind; value = 0 } }
+    // A token that is refused.
+    #[tactic(auto, unfolding(crate::specs::Read::number_of))]
+    fn refused(cause: Cause) -> Named
+        ensures { result ≡ record { kind = 24 + number_of cause; value = 0 } }
     {
-        Named { kind, value: 0 }
+        Named {
+            kind: WRONG + cause.number(),
+            value: 0,
+        }
     }
 }
 
@@ -96,22 +131,22 @@ impl Names {
     }
 
     // `$` and a name: the next variable, if the name is new and there is room.
-    #[tactic(auto, unfolding(crate::specs::Read::binding_of, crate::specs::Read::binding_by))]
+    #[tactic(auto, unfolding(crate::specs::Read::binding_of, crate::specs::Read::binding_by, crate::specs::Read::number_of))]
     fn binding(&self, text: &[u8], t: Token) -> Named
         ensures { result ≡ binding_of text.now t self.now }
     {
         match self.find(text, part(text, t.name, t.to)) {
-            Some(_) => Named::bare(BOUND_TWICE),
+            Some(_) => Named::refused(Cause::BoundTwice),
             None if self.count < VARIABLES => Named {
                 kind: BINDS,
                 value: self.count as u64,
             },
-            None => Named::bare(OVER_LIMIT),
+            None => Named::refused(Cause::OverLimit),
         }
     }
 
     // A name by itself: the variable that has it.
-    #[tactic(auto, unfolding(crate::specs::Read::using_of, crate::specs::Read::using_by))]
+    #[tactic(auto, unfolding(crate::specs::Read::using_of, crate::specs::Read::using_by, crate::specs::Read::number_of))]
     fn using(&self, text: &[u8], t: Token) -> Named
         ensures { result ≡ using_of text.now t self.now }
     {
@@ -121,8 +156,8 @@ impl Names {
                 kind: USES,
                 value: k as u64,
             },
-            None if bound_later(text, t.to, w) => Named::bare(USED_BEFORE),
-            None => Named::bare(UNKNOWN_NAME),
+            None if bound_later(text, t.to, w) => Named::refused(Cause::UsedBefore),
+            None => Named::refused(Cause::UnknownName),
         }
     }
 
@@ -191,11 +226,10 @@ pub struct Parts {
     pub end: usize,
 }
 
-// Why a text is refused, and at which character. The cause is a number, since the table `ends` of notation_step's specs has it so, and theorem
-// `simulates` of notation_grammar speaks of it.
+// Why a text is refused, and at which character.
 #[derive(Clone, Copy)]
 pub struct Fault {
-    pub cause: u32,
+    pub cause: Cause,
     pub at: usize,
 }
 
@@ -205,7 +239,10 @@ fn ran_to(s: Stand, cause: u32, at: usize) -> Result<Parts, Fault>
     ensures { result ≡ ran_to s cause at }
 {
     if cause != 0 {
-        return Err(Fault { cause, at });
+        return Err(Fault {
+            cause: Cause::numbered(cause),
+            at,
+        });
     }
     Ok(Parts {
         matcher: s.matcher,
@@ -232,44 +269,14 @@ fn run(text: &[u8], words: &mut [i32]) -> Result<Parts, Fault>
         automaton.step(words, n.kind, n.value);
         let cause = automaton.stand.cause;
         if cause != 0 {
-            return Err(Fault { cause, at: t.from });
+            return Err(Fault {
+                cause: Cause::numbered(cause),
+                at: t.from,
+            });
         }
         at = t.to;
     }
     ran_to(automaton.stand, automaton.finish(), text.len())
-}
-
-// What the text does that cannot be read.
-#[derive(Clone, Copy, Debug, PartialEq, Eq)]
-pub enum Cause {
-    UnknownSign,
-    Misplaced,
-    CutShort,
-    BracketOpen,
-    UnknownName,
-    BoundTwice,
-    UsedBefore,
-    OutOfRange,
-    OverLimit,
-}
-
-impl Cause {
-    #[tactic(auto, unfolding(crate::specs::Read::numbered))]
-    fn numbered(number: u32) -> Cause
-        ensures { result ≡ numbered number }
-    {
-        match number {
-            1 => Cause::UnknownSign,
-            2 => Cause::Misplaced,
-            3 => Cause::CutShort,
-            4 => Cause::BracketOpen,
-            5 => Cause::UnknownName,
-            6 => Cause::BoundTwice,
-            7 => Cause::UsedBefore,
-            8 => Cause::OutOfRange,
-            _ => Cause::OverLimit,
-        }
-    }
 }
 
 // Why a text is not a rule: it has more characters than may wait at once, or the one at a line and a column, each from 1, is at fault.
@@ -308,7 +315,7 @@ fn unreadable(text: &[u8], fault: Fault) -> Refusal
 {
     let (line, column) = place_of(text, fault.at);
     Refusal::Unreadable {
-        cause: Cause::numbered(fault.cause),
+        cause: fault.cause,
         line,
         column,
     }

@@ -182,7 +182,7 @@ const OUT_OF_RANGE: u32 = 8;
 const OVER_LIMIT: u32 = 9;
 
 // What cannot be read has this number and its cause's.
-const WRONG: u32 = 24;
+pub const WRONG: u32 = 24;
 
 const LARGEST: u64 = 2147483648;
 

@@ -1,4 +1,4 @@
-use Rattle.std.proofs.Common.{◌-◌, ◌+◌, length, refl, arith, ap, ◌∙◌}
+use Rattle.std.proofs.Common.{◌-◌, ◌+◌, length, refl, arith, ap, ◌∙◌, Err}
 use Rattle.notation_read.specs.Read.{stopped, ran_to}
 use Rattle.notation_read.proofs.Laws.{run_start, none_first, run_over, run_end, run_refused, run_next, run_len, run_top, run_kept}
 use Rattle.notation_read.proofs.run.Goals as goal
@@ -12,7 +12,8 @@ loop-turn-init c =
 
 pub returns-then-cause-ne0 : goal.returns-then-cause-ne0
 returns-then-cause-ne0 c =
-    run_refused _ _ _ _ _ _ _ _ c.loop-turn.invariant.run_so_far _ (length c.args.text.now - (c.loop-turn.turn + 1)) (omega arith) c.scan-t.ensures c.if-t-eq-END.false _ _ _ _ _ c.resolve-n.ensures c.add.ensures c.step.ensures c.if-cause-ne0.true
+    ap (λ k. stopped (Err (record { cause = k; at = c.scan-t.result.from })) c.step.new.words) c.numbered.ensures
+    ∙ run_refused _ _ _ _ _ _ _ _ c.loop-turn.invariant.run_so_far _ (length c.args.text.now - (c.loop-turn.turn + 1)) (omega arith) c.scan-t.ensures c.if-t-eq-END.false _ _ _ _ _ c.resolve-n.ensures c.add.ensures c.step.ensures c.if-cause-ne0.true
 
 pub loop-turn-preserved : goal.loop-turn-preserved
 loop-turn-preserved c =
