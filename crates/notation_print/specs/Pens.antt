@@ -2,13 +2,14 @@
 use Rattle.std.specs.Prelude.{ℕ, ◌≡◌, List}
 use Rattle.notation_print.specs.Pages.{Page, page, letters}
 use Rattle.notation_print.specs.Inks.{Sheet, sheet}
+use Rattle.notation_print.specs.Kinds.{asked}
 use Rattle.notation_print.specs.declared.Pen.{Pen}
 
 abbrev pub page_of : Pen → Page
 page_of pen = page pen.page.now pen.at
 
 abbrev pub sheet_of : Pen → Sheet
-sheet_of pen = sheet pen.page.now pen.at pen.last
+sheet_of pen = sheet pen.page.now pen.at (asked pen.last)
 
 -- The pen stays on its lent page.
 abbrev pub Stays : (old new : Pen) → Type 0

@@ -4,67 +4,56 @@
 ghost use Rattle.std.specs.Prelude.{◌≡◌, ◌+◌, ◌<◌, [], ◌∷◌};
 ghost use Rattle.notation_rules.specs.Letters.{decimal};
 ghost use Rattle.notation_print.specs.Inks.{mark_of, name_of, joins as Inks·joins, after as Inks·after, spelt, spaced_on, sheet, draw};
+ghost use Rattle.notation_print.specs.Kinds.{number_of, asked};
 ghost use Rattle.notation_print.specs.Pens.{page_of, sheet_of, Stays, Writes};
 
-// The tokens' numbers. A binding and a use come with the variable, a number with itself.
-// No enum: `marks` of specs/Inks and the table `nodes` of notation_write count by these numbers, and the contract of `put` speaks of every number.
-pub const UNDERSCORE: u32 = 0;
+// A token: a mark or a sign; or, with a value, a binding and a use, which come with the variable, and a number with itself.
+#[derive(Clone, Copy, PartialEq, Eq)]
+pub enum Kind {
+    Underscore,
+    Hash,
+    Bang,
+    Plus,
+    Minus,
+    Comma,
+    Opening,
+    Closing,
+    Left,
+    Right,
+    Something,
+    Integer,
+    List,
+    Multiset,
+    MatchAll,
+    As,
+    With,
+    Cons,
+    Join,
+    And,
+    Or,
+    Binds,
+    Uses,
+    Number,
+}
 
-pub const HASH: u32 = 1;
-
-pub const BANG: u32 = 2;
-
-pub const PLUS: u32 = 3;
-
-pub const MINUS: u32 = 4;
-
-pub const COMMA: u32 = 5;
-
-pub const OPENING: u32 = 6;
-
-pub const CLOSING: u32 = 7;
-
-pub const LEFT: u32 = 8;
-
-pub const RIGHT: u32 = 9;
-
-pub const SOMETHING: u32 = 10;
-
-pub const INTEGER: u32 = 11;
-
-pub const LIST: u32 = 12;
-
-pub const MULTISET: u32 = 13;
-
-pub const MATCH_ALL: u32 = 14;
-
-pub const AS: u32 = 15;
-
-pub const WITH: u32 = 16;
-
-pub const CONS: u32 = 17;
-
-pub const JOIN: u32 = 18;
-
-pub const AND: u32 = 19;
-
-pub const OR: u32 = 20;
-
-pub const BINDS: u32 = 21;
-
-pub const USES: u32 = 22;
-
-pub const NUMBER: u32 = 23;
+impl Kind {
+    // The token's number, by which the tables count.
+    #[tactic(auto, unfolding(crate::specs::Kinds::number_of))]
+    pub fn number(self) -> u32
+        ensures { result ≡ number_of self }
+    {
+        self as u32
+    }
+}
 
 // What the last token asks of the next: to stand at it, a space, a space (and it was a name), or a space but before a number.
-// No enum: `joins` and `after` of specs/Inks, of which the contracts of `put` and of notation_write's `write` speak, take every number.
-pub const AT_ONCE: u32 = 0;
-
-pub const APART: u32 = 1;
-
-pub const NAMED: u32 = 2;
-
-pub const NEGATIVE: u32 = 3;
+#[derive(Clone, Copy, PartialEq, Eq)]
+pub enum Asks {
+    AtOnce,
+    Apart,
+    Named,
+    Negative,
+}
 
 // The characters of the marks in the order of their numbers, then of the signs.
 const MARKS: [&[u8]; 21] = [
@@ -92,10 +81,11 @@ const MARKS: [&[u8]; 21] = [
 ];
 
 // The characters of a mark or a sign; `something` has one more.
-fn mark_of(kind: u32) -> &'static [u8]
-    ensures { result.now ≡ mark_of kind }
+#[tactic(auto, using(crate::proofs::Laws::mark_at), unfolding(crate::specs::Inks::mark_of, crate::specs::Kinds::number_of))]
+fn mark_of(kind: Kind) -> &'static [u8]
+    ensures { result.now ≡ mark_of (number_of kind) }
 {
-    MARKS[kind as usize % MARKS.len()]
+    MARKS[kind.number() as usize % MARKS.len()]
 }
 
 // A variable's letter.
@@ -107,26 +97,26 @@ fn name(v: u32) -> u8
 }
 
 // Whether a token stands at the last one without a space.
-#[tactic(auto, unfolding(crate::specs::Inks::joins))]
-fn joins(last: u32, kind: u32) -> bool
-    ensures { result ≡ Inks·joins last kind }
+#[tactic(auto, unfolding(crate::specs::Inks::joins, crate::specs::Kinds::asked, crate::specs::Kinds::number_of))]
+fn joins(last: Asks, kind: Kind) -> bool
+    ensures { result ≡ Inks·joins (asked last) (number_of kind) }
 {
-    if last == AT_ONCE || matches!(kind, COMMA | CLOSING | RIGHT) {
+    if last == Asks::AtOnce || matches!(kind, Kind::Comma | Kind::Closing | Kind::Right) {
         return true;
     }
-    last == NEGATIVE && kind == NUMBER
+    last == Asks::Negative && kind == Kind::Number
 }
 
 // What a token asks of the next.
-#[tactic(auto, unfolding(crate::specs::Inks::after))]
-fn after(last: u32, kind: u32) -> u32
-    ensures { result ≡ Inks·after last kind }
+#[tactic(auto, unfolding(crate::specs::Inks::after, crate::specs::Kinds::asked, crate::specs::Kinds::number_of))]
+fn after(last: Asks, kind: Kind) -> Asks
+    ensures { asked result ≡ Inks·after (asked last) (number_of kind) }
 {
     match kind {
-        HASH | BANG | OPENING | LEFT => AT_ONCE,
-        USES => NAMED,
-        MINUS if last != NAMED => NEGATIVE,
-        _ => APART,
+        Kind::Hash | Kind::Bang | Kind::Opening | Kind::Left => Asks::AtOnce,
+        Kind::Uses => Asks::Named,
+        Kind::Minus if last != Asks::Named => Asks::Negative,
+        _ => Asks::Apart,
     }
 }
 
@@ -135,11 +125,12 @@ fn after(last: u32, kind: u32) -> u32
 pub struct Pen<'a> {
     pub page: &'a mut [u8],
     pub at: usize,
-    pub last: u32,
+    pub last: Asks,
 }
 
 impl<'a> Pen<'a> {
     // At the start of a page.
+    #[tactic(auto, unfolding(crate::specs::Kinds::asked))]
     pub fn new(page: &'a mut [u8]) -> Pen<'a>
         ensures same_page { result.page.ghost_name ≡ page.entry.ghost_name }
         ensures at_start { sheet_of result ≡ sheet page.old 0 0 }
@@ -147,7 +138,7 @@ impl<'a> Pen<'a> {
         Pen {
             page,
             at: 0,
-            last: AT_ONCE,
+            last: Asks::AtOnce,
         }
     }
 
@@ -184,18 +175,18 @@ impl<'a> Pen<'a> {
     }
 
     // A token's characters.
-    #[tactic(auto, unfolding(crate::specs::Inks::spelt, crate::specs::Pages::letters))]
-    fn spell(&mut self, kind: u32, value: u32)
-        ensures { Writes self.old self.new (spelt kind value) }
+    #[tactic(auto, unfolding(crate::specs::Inks::spelt, crate::specs::Kinds::number_of, crate::specs::Pages::letters))]
+    fn spell(&mut self, kind: Kind, value: u32)
+        ensures { Writes self.old self.new (spelt (number_of kind) value) }
     {
         match kind {
-            NUMBER => self.digits(u64::from(value)),
-            USES => self.letter(name(value)),
-            BINDS => {
+            Kind::Number => self.digits(u64::from(value)),
+            Kind::Uses => self.letter(name(value)),
+            Kind::Binds => {
                 self.letter(b'$');
                 self.letter(name(value));
             }
-            SOMETHING => {
+            Kind::Something => {
                 self.letters(mark_of(kind));
                 self.letter(b'g');
             }
@@ -205,10 +196,10 @@ impl<'a> Pen<'a> {
 
     // The space before a token, where there is one.
     #[tactic(auto, unfolding(crate::specs::Inks::spaced_on, crate::specs::Pages::letters))]
-    fn space(&mut self, kind: u32)
+    fn space(&mut self, kind: Kind)
         ensures same_page { Stays self.old self.new }
         ensures same_last { self.new.last ≡ self.old.last }
-        ensures spaced { page_of self.new ≡ spaced_on (page_of self.old) self.old.last kind }
+        ensures spaced { page_of self.new ≡ spaced_on (page_of self.old) (asked self.old.last) (number_of kind) }
     {
         if !joins(self.last, kind) {
             self.letter(b' ');
@@ -217,9 +208,9 @@ impl<'a> Pen<'a> {
 
     // A token, behind what stands on the page.
     #[tactic(auto, unfolding(crate::specs::Inks::sheet, crate::specs::Inks::draw))]
-    pub fn put(&mut self, kind: u32, value: u32)
+    pub fn put(&mut self, kind: Kind, value: u32)
         ensures same_page { Stays self.old self.new }
-        ensures drawn { sheet_of self.new ≡ draw (sheet_of self.old) kind value }
+        ensures drawn { sheet_of self.new ≡ draw (sheet_of self.old) (number_of kind) value }
     {
         self.space(kind);
         self.spell(kind, value);

@@ -1,11 +1,12 @@
 -- Writing, as the code asks. Assumes nothing.
-use Rattle.std.proofs.Common.{◌≡◌, ℕ, zero, suc, ◌-◌, ◌*◌, ◌+◌, ◌/◌, ◌%◌, List, [], ◌∷◌, ◌++◌, get_or, Option, None, refl, sym, ap, ◌∙◌, arith}
+use Rattle.std.proofs.Common.{◌≡◌, ℕ, suc, ◌*◌, ◌+◌, ◌/◌, ◌%◌, List, [], ◌∷◌, ◌++◌, get_or, Option, None, refl, sym, ap, ◌∙◌, arith}
 use Rattle.std.proofs.lemmas.List.{get_or_default}
 use lib.IntN.{ℤ}
 use Rattle.words.specs.Words.{tag_at}
 use Rattle.notation_print.specs.Pages.{page}
 use Rattle.notation_print.specs.Inks.{Sheet, sheet, draw}
 use Rattle.notation_write.specs.Written.{nodes, no_tag, node_of, ahead, head_of, count_of, Ink, ink, draws, optional, front, behind, Written, parts, within, written, units_inks, rule_inks}
+use Rattle.notation_print.specs.declared.Kind.{Kind}
 use Rattle.notation_write.specs.declared.Node.{Node}
 
 -- ---- The table.
@@ -26,7 +27,7 @@ unfolding sheet
 on_page bytes at last s e = ap (λ x. x.on) e
 
 -- ---- Parts one by one: of those left the first is written, or none is left.
-module _ (ws : List ℤ) (d rest : ℕ) (sep : Option ℕ) (left e part : ℕ) (first : Option ℕ) where
+module _ (ws : List ℤ) (d rest : ℕ) (sep : Option Kind) (left e part : ℕ) (first : Option Kind) where
   pub parts_next : (m i : ℕ) (x s q n : Sheet) → left ≡ suc m → draws s (parts (written ws d) rest sep left e part first).inks ≡ x → i ≡ (written ws d e part).end → q ≡ draws s (optional first)
       → n ≡ draws q (written ws d e part).inks → draws n (parts (written ws d) rest sep m i rest sep).inks ≡ x
   unfolding parts

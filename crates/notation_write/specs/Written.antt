@@ -5,6 +5,9 @@ use Rattle.std.proofs.Common.{of_z}
 use Rattle.words.specs.Words.{tag_at}
 use Rattle.notation_print.specs.Inks.{Sheet, draw}
 use Rattle.notation_print.specs.Pens.{sheet_of, Stays}
+use Rattle.notation_print.specs.Kinds.{number_of}
+use Rattle.notation_print.specs.declared.Kind.{Kind}
+use Rattle.notation_print.specs.declared.Kind.TheVariants.{Underscore, Hash, Bang, Comma, Opening, Closing, Left, Right, Something, Integer, List as List', Multiset, Cons, Join, And, Or}
 use Rattle.notation_print.specs.declared.Pen.{Pen}
 use Rattle.notation_write.specs.declared.Node.{Node}
 use Rattle.notation_write.specs.declared.Operands.{Operands}
@@ -17,17 +20,17 @@ no_tag = record { level = 7; begins = None; operands = Nothing; parts = Some 0; 
 -- What each tag is written as: the code's table, eleven rows for a pattern, for a matcher and for a target.
 abbrev pub nodes : List Node
 nodes =
-    record no_tag { begins = Some 0 } ∷ record no_tag { operands = OneVariable } ∷ record no_tag { begins = Some 1; operands = OneNumber }
-    ∷ record no_tag { begins = Some 1; operands = VariableAndNumber } ∷ record no_tag { begins = Some 8; ends = Some 9 }
-    ∷ record no_tag { level = 3; parts = Some 2; first = 4; others = 3; between = Some 17 } ∷ record no_tag { level = 3; parts = Some 2; first = 4; others = 3; between = Some 18 }
-    ∷ record no_tag { begins = Some 6; parts = None; first = 1; others = 1; between = Some 5; ends = Some 7 }
-    ∷ record no_tag { level = 2; parts = Some 2; first = 3; others = 2; between = Some 19 } ∷ record no_tag { level = 1; parts = Some 2; first = 2; others = 1; between = Some 20 }
-    ∷ record no_tag { begins = Some 2; parts = Some 1; first = 4; others = 4 }
-    ∷ record no_tag { begins = Some 10 } ∷ record no_tag { begins = Some 11 } ∷ record no_tag { level = 1; begins = Some 12; parts = Some 1; first = 10; others = 10 }
-    ∷ record no_tag { level = 1; begins = Some 13; parts = Some 1; first = 10; others = 10 }
-    ∷ record no_tag { begins = Some 6; parts = None; first = 9; others = 9; between = Some 5; ends = Some 7 } ∷ no_tag ∷ no_tag ∷ no_tag ∷ no_tag ∷ no_tag ∷ no_tag
-    ∷ record no_tag { operands = OneNumber } ∷ record no_tag { begins = Some 8; parts = None; first = 17; others = 17; between = Some 5; ends = Some 9 }
-    ∷ record no_tag { begins = Some 6; parts = None; first = 17; others = 17; between = Some 5; ends = Some 7 }
+    record no_tag { begins = Some Underscore } ∷ record no_tag { operands = OneVariable } ∷ record no_tag { begins = Some Hash; operands = OneNumber }
+    ∷ record no_tag { begins = Some Hash; operands = VariableAndNumber } ∷ record no_tag { begins = Some Left; ends = Some Right }
+    ∷ record no_tag { level = 3; parts = Some 2; first = 4; others = 3; between = Some Cons } ∷ record no_tag { level = 3; parts = Some 2; first = 4; others = 3; between = Some Join }
+    ∷ record no_tag { begins = Some Opening; parts = None; first = 1; others = 1; between = Some Comma; ends = Some Closing }
+    ∷ record no_tag { level = 2; parts = Some 2; first = 3; others = 2; between = Some And } ∷ record no_tag { level = 1; parts = Some 2; first = 2; others = 1; between = Some Or }
+    ∷ record no_tag { begins = Some Bang; parts = Some 1; first = 4; others = 4 }
+    ∷ record no_tag { begins = Some Something } ∷ record no_tag { begins = Some Integer } ∷ record no_tag { level = 1; begins = Some List'; parts = Some 1; first = 10; others = 10 }
+    ∷ record no_tag { level = 1; begins = Some Multiset; parts = Some 1; first = 10; others = 10 }
+    ∷ record no_tag { begins = Some Opening; parts = None; first = 9; others = 9; between = Some Comma; ends = Some Closing } ∷ no_tag ∷ no_tag ∷ no_tag ∷ no_tag ∷ no_tag ∷ no_tag
+    ∷ record no_tag { operands = OneNumber } ∷ record no_tag { begins = Some Left; parts = None; first = 17; others = 17; between = Some Comma; ends = Some Right }
+    ∷ record no_tag { begins = Some Opening; parts = None; first = 17; others = 17; between = Some Comma; ends = Some Closing }
     ∷ no_tag ∷ no_tag ∷ no_tag ∷ no_tag ∷ no_tag ∷ no_tag ∷ no_tag ∷ no_tag ∷ []
 
 unfoldable pub node_of : (what tag : ℕ) → Node
@@ -67,9 +70,10 @@ draws s (ink k v ∷ is) = draws (draw s k v) is
 abbrev pub Puts : (old new : Pen) → List Ink → Type 0
 Puts old new is = Stays old new × (sheet_of new ≡ draws (sheet_of old) is)
 
-unfoldable pub optional : Option ℕ → List Ink
+unfoldable pub optional : Option Kind → List Ink
+unfolding number_of
 optional None = []
-optional (Some kind) = ink kind 0 ∷ []
+optional (Some kind) = ink (number_of kind) 0 ∷ []
 
 unfoldable pub signed : ℕ → List Ink
 signed u = cond (ltb u 2147483648) (ink 23 u ∷ []) (ink 4 0 ∷ ink 23 (4294967295 - u + 1) ∷ [])
@@ -105,7 +109,7 @@ pub record Written : Type 0 where
   pub end : ℕ
 
 -- n parts from an index on, the first written as `part` behind the token `first`, the others as `rest` behind `between`.
-unfoldable pub parts : ((at what : ℕ) → Written) → (rest : ℕ) → (between : Option ℕ) → (n at part : ℕ) → (first : Option ℕ) → Written
+unfoldable pub parts : ((at what : ℕ) → Written) → (rest : ℕ) → (between : Option Kind) → (n at part : ℕ) → (first : Option Kind) → Written
 unfolding optional
 parts f rest between zero at part first = record { inks = []; end = at }
 parts f rest between (suc n) at part first = record {

@@ -4,12 +4,10 @@
 ghost use Rattle.std.specs.Prelude.{◌≡◌, ◌<◌};
 ghost use Rattle.notation_print.specs.Pages.{page};
 ghost use Rattle.notation_print.specs.Inks.{sheet};
+ghost use Rattle.notation_print.specs.Kinds.{number_of};
 ghost use Rattle.notation_write.specs.Written.{bits_at, node_of, ahead as Written·ahead, head_of, count_of, draws, Puts, optional, signed, plus, valued, leaf as Written·leaf, bracket, front, behind, written, units_inks, rule_inks};
 
-use notation_print::{
-    AND, AS, BANG, BINDS, CLOSING, COMMA, CONS, HASH, INTEGER, JOIN, LEFT, LIST, MATCH_ALL, MINUS,
-    MULTISET, NUMBER, OPENING, OR, PLUS, Pen, RIGHT, SOMETHING, UNDERSCORE, USES, WITH,
-};
+use notation_print::{Kind, Pen};
 use words::tag_at;
 
 // What the parts of a pattern, a matcher and a target are written as: eight times the form, and the level.
@@ -44,13 +42,13 @@ pub enum Operands {
 #[derive(Clone, Copy)]
 pub struct Node {
     pub level: u32,
-    pub begins: Option<u32>,
+    pub begins: Option<Kind>,
     pub operands: Operands,
     pub parts: Option<u32>,
     pub first: u32,
     pub others: u32,
-    pub between: Option<u32>,
-    pub ends: Option<u32>,
+    pub between: Option<Kind>,
+    pub ends: Option<Kind>,
 }
 
 // A tag that there is not: the others differ from it.
@@ -69,7 +67,7 @@ const NO_TAG: Node = Node {
 static NODES: [Node; 33] = [
     // `_`
     Node {
-        begins: Some(UNDERSCORE),
+        begins: Some(Kind::Underscore),
         ..NO_TAG
     },
     // `$x`
@@ -79,20 +77,20 @@ static NODES: [Node; 33] = [
     },
     // `#c`
     Node {
-        begins: Some(HASH),
+        begins: Some(Kind::Hash),
         operands: Operands::OneNumber,
         ..NO_TAG
     },
     // `#x`, `#(x + c)`
     Node {
-        begins: Some(HASH),
+        begins: Some(Kind::Hash),
         operands: Operands::VariableAndNumber,
         ..NO_TAG
     },
     // `[]`
     Node {
-        begins: Some(LEFT),
-        ends: Some(RIGHT),
+        begins: Some(Kind::Left),
+        ends: Some(Kind::Right),
         ..NO_TAG
     },
     // `::`
@@ -101,7 +99,7 @@ static NODES: [Node; 33] = [
         parts: Some(2),
         first: 4,
         others: 3,
-        between: Some(CONS),
+        between: Some(Kind::Cons),
         ..NO_TAG
     },
     // `++`
@@ -110,17 +108,17 @@ static NODES: [Node; 33] = [
         parts: Some(2),
         first: 4,
         others: 3,
-        between: Some(JOIN),
+        between: Some(Kind::Join),
         ..NO_TAG
     },
     // a tuple
     Node {
-        begins: Some(OPENING),
+        begins: Some(Kind::Opening),
         parts: None,
         first: PATTERN,
         others: PATTERN,
-        between: Some(COMMA),
-        ends: Some(CLOSING),
+        between: Some(Kind::Comma),
+        ends: Some(Kind::Closing),
         ..NO_TAG
     },
     // `&`
@@ -129,7 +127,7 @@ static NODES: [Node; 33] = [
         parts: Some(2),
         first: 3,
         others: 2,
-        between: Some(AND),
+        between: Some(Kind::And),
         ..NO_TAG
     },
     // `|`
@@ -138,12 +136,12 @@ static NODES: [Node; 33] = [
         parts: Some(2),
         first: 2,
         others: 1,
-        between: Some(OR),
+        between: Some(Kind::Or),
         ..NO_TAG
     },
     // `!`
     Node {
-        begins: Some(BANG),
+        begins: Some(Kind::Bang),
         parts: Some(1),
         first: 4,
         others: 4,
@@ -151,18 +149,18 @@ static NODES: [Node; 33] = [
     },
     // `something`
     Node {
-        begins: Some(SOMETHING),
+        begins: Some(Kind::Something),
         ..NO_TAG
     },
     // `integer`
     Node {
-        begins: Some(INTEGER),
+        begins: Some(Kind::Integer),
         ..NO_TAG
     },
     // `list M`
     Node {
         level: 1,
-        begins: Some(LIST),
+        begins: Some(Kind::List),
         parts: Some(1),
         first: MATCHER + 1,
         others: MATCHER + 1,
@@ -171,7 +169,7 @@ static NODES: [Node; 33] = [
     // `multiset M`
     Node {
         level: 1,
-        begins: Some(MULTISET),
+        begins: Some(Kind::Multiset),
         parts: Some(1),
         first: MATCHER + 1,
         others: MATCHER + 1,
@@ -179,12 +177,12 @@ static NODES: [Node; 33] = [
     },
     // a tuple
     Node {
-        begins: Some(OPENING),
+        begins: Some(Kind::Opening),
         parts: None,
         first: MATCHER,
         others: MATCHER,
-        between: Some(COMMA),
-        ends: Some(CLOSING),
+        between: Some(Kind::Comma),
+        ends: Some(Kind::Closing),
         ..NO_TAG
     },
     NO_TAG,
@@ -200,22 +198,22 @@ static NODES: [Node; 33] = [
     },
     // a collection
     Node {
-        begins: Some(LEFT),
+        begins: Some(Kind::Left),
         parts: None,
         first: TARGET,
         others: TARGET,
-        between: Some(COMMA),
-        ends: Some(RIGHT),
+        between: Some(Kind::Comma),
+        ends: Some(Kind::Right),
         ..NO_TAG
     },
     // a tuple
     Node {
-        begins: Some(OPENING),
+        begins: Some(Kind::Opening),
         parts: None,
         first: TARGET,
         others: TARGET,
-        between: Some(COMMA),
-        ends: Some(CLOSING),
+        between: Some(Kind::Comma),
+        ends: Some(Kind::Closing),
         ..NO_TAG
     },
     NO_TAG,
@@ -298,7 +296,7 @@ impl Node {
 
 // A token, where there is one.
 #[tactic(auto, unfolding(crate::specs::Written::optional, crate::specs::Written::draws))]
-fn put_token(pen: &mut Pen, kind: Option<u32>)
+fn put_token(pen: &mut Pen, kind: Option<Kind>)
     ensures { Puts pen.old pen.new (optional kind) }
 {
     if let Some(kind) = kind {
@@ -307,61 +305,61 @@ fn put_token(pen: &mut Pen, kind: Option<u32>)
 }
 
 // A number with its sign, from its bits.
-#[tactic(auto, unfolding(crate::specs::Written::signed, crate::specs::Written::draws))]
+#[tactic(auto, unfolding(crate::specs::Written::signed, crate::specs::Written::draws, notation_print::specs::Kinds::number_of))]
 fn put_signed(pen: &mut Pen, u: u32)
     ensures { Puts pen.old pen.new (signed u) }
 {
     if u <= LARGEST {
-        pen.put(NUMBER, u);
+        pen.put(Kind::Number, u);
     } else {
-        pen.put(MINUS, 0);
-        pen.put(NUMBER, u.wrapping_neg());
+        pen.put(Kind::Minus, 0);
+        pen.put(Kind::Number, u.wrapping_neg());
     }
 }
 
 // A plus before a number that has no minus.
-#[tactic(auto, unfolding(crate::specs::Written::plus, crate::specs::Written::draws))]
+#[tactic(auto, unfolding(crate::specs::Written::plus, crate::specs::Written::draws, notation_print::specs::Kinds::number_of))]
 fn put_plus(pen: &mut Pen, u: u32)
     ensures { Puts pen.old pen.new (plus u) }
 {
     if u <= LARGEST {
-        pen.put(PLUS, 0);
+        pen.put(Kind::Plus, 0);
     }
 }
 
 // A variable's value, plus a number where that is not 0.
-#[tactic(auto, using(crate::proofs::Laws::append_rules), unfolding(crate::specs::Written::valued, crate::specs::Written::draws))]
+#[tactic(auto, using(crate::proofs::Laws::append_rules), unfolding(crate::specs::Written::valued, crate::specs::Written::draws, notation_print::specs::Kinds::number_of))]
 fn put_value(pen: &mut Pen, v: u32, u: u32)
     ensures { Puts pen.old pen.new (valued v u) }
 {
     if u == 0 {
-        pen.put(USES, v);
+        pen.put(Kind::Uses, v);
     } else {
-        pen.put(OPENING, 0);
-        pen.put(USES, v);
+        pen.put(Kind::Opening, 0);
+        pen.put(Kind::Uses, v);
         put_plus(pen, u);
         put_signed(pen, u);
-        pen.put(CLOSING, 0);
+        pen.put(Kind::Closing, 0);
     }
 }
 
 // A tag's operands.
-#[tactic(auto, unfolding(crate::specs::Written::leaf, crate::specs::Written::draws))]
+#[tactic(auto, unfolding(crate::specs::Written::leaf, crate::specs::Written::draws, notation_print::specs::Kinds::number_of))]
 fn put_leaf(ws: &[i32], at: usize, operands: Operands, pen: &mut Pen)
     ensures { Puts pen.old pen.new (Written·leaf ws.now at operands) }
 {
     match operands {
         Operands::Nothing => {}
         Operands::OneNumber => put_signed(pen, bits_at(ws, at, 1)),
-        Operands::OneVariable => pen.put(BINDS, bits_at(ws, at, 1)),
+        Operands::OneVariable => pen.put(Kind::Binds, bits_at(ws, at, 1)),
         Operands::VariableAndNumber => put_value(pen, bits_at(ws, at, 1), bits_at(ws, at, 2)),
     }
 }
 
 // A bracket, where the tag's level is looser than the one that is asked.
 #[tactic(auto, unfolding(crate::specs::Written::bracket, crate::specs::Written::draws))]
-fn put_bracket(pen: &mut Pen, own: u32, what: u32, kind: u32)
-    ensures { Puts pen.old pen.new (bracket own what kind) }
+fn put_bracket(pen: &mut Pen, own: u32, what: u32, kind: Kind)
+    ensures { Puts pen.old pen.new (bracket own what (number_of kind)) }
 {
     if own < what % LEVELS {
         pen.put(kind, 0);
@@ -369,22 +367,22 @@ fn put_bracket(pen: &mut Pen, own: u32, what: u32, kind: u32)
 }
 
 // What stands before the parts.
-#[tactic(auto, using(crate::proofs::Laws::append_rules), unfolding(crate::specs::Written::front))]
+#[tactic(auto, using(crate::proofs::Laws::append_rules), unfolding(crate::specs::Written::front, notation_print::specs::Kinds::number_of))]
 fn put_front(ws: &[i32], at: usize, what: u32, node: &Node, pen: &mut Pen)
     ensures { Puts pen.old pen.new (front ws.now at what node.now) }
 {
-    put_bracket(pen, node.level, what, OPENING);
+    put_bracket(pen, node.level, what, Kind::Opening);
     put_token(pen, node.begins);
     put_leaf(ws, at, node.operands, pen);
 }
 
 // What stands behind them.
-#[tactic(auto, using(crate::proofs::Laws::append_rules), unfolding(crate::specs::Written::behind))]
+#[tactic(auto, using(crate::proofs::Laws::append_rules), unfolding(crate::specs::Written::behind, notation_print::specs::Kinds::number_of))]
 fn put_back(what: u32, node: &Node, pen: &mut Pen)
     ensures { Puts pen.old pen.new (behind what node.now) }
 {
     put_token(pen, node.ends);
-    put_bracket(pen, node.level, what, CLOSING);
+    put_bracket(pen, node.level, what, Kind::Closing);
 }
 
 // What stands at an index, written, and the index behind it; so many may stand one inside the other.
@@ -411,12 +409,12 @@ pub fn write(ws: &[i32], at: usize, what: u32, depth: u32, pen: &mut Pen) -> usi
 }
 
 // `matchAll` and the units, where there are any.
-#[tactic(auto, unfolding(crate::specs::Written::units_inks, crate::specs::Written::draws))]
+#[tactic(auto, unfolding(crate::specs::Written::units_inks, crate::specs::Written::draws, notation_print::specs::Kinds::number_of))]
 fn put_units(ts: &[i32], pen: &mut Pen)
     ensures { Puts pen.old pen.new (units_inks ts.now) }
 {
     if !ts.is_empty() {
-        pen.put(MATCH_ALL, 0);
+        pen.put(Kind::MatchAll, 0);
         write(ts, 0, TARGET, TARGET_DEPTH, pen);
     }
 }
@@ -426,9 +424,9 @@ fn put_rule(ms: &[i32], ps: &[i32], ts: &[i32], pen: &mut Pen)
     ensures { Puts pen.old pen.new (rule_inks ms.now ps.now ts.now) }
 {
     put_units(ts, pen);
-    pen.put(AS, 0);
+    pen.put(Kind::As, 0);
     write(ms, 0, MATCHER, MATCHER_DEPTH, pen);
-    pen.put(WITH, 0);
+    pen.put(Kind::With, 0);
     write(ps, 0, PATTERN, PATTERN_DEPTH, pen);
 }
 
