@@ -14,6 +14,9 @@ use Rattle.forms.specs.Written.{pattern_words, pattern_words_all}
 use Rattle.notation_rules.specs.Tokens.{Sign, consing, joining, anding, oring, bang, opening, closing, Token, mark, sign, code}
 use Rattle.notation_rules.specs.Patterns as P
 use Rattle.notation_rules.specs.PatternsBack.{Fine, FineAll, width, at_most}
+use Rattle.notation_print.specs.Kinds.{number_of}
+use Rattle.notation_print.specs.declared.Kind.{Kind}
+use Rattle.notation_print.specs.declared.Kind.TheVariants.{Bang, Comma, Opening, Closing, Cons, Join, And, Or}
 use Rattle.notation_write.specs.Written.{no_tag, nodes, node_of, bits_at, head_of, Ink, ink, optional, signed, valued, leaf, bracket, parts, within, written}
 use Rattle.notation_write.specs.declared.Operands.{Operands}
 use Rattle.notation_write.specs.declared.Operands.TheVariants.{Nothing, OneNumber, OneVariable, VariableAndNumber}
@@ -41,7 +44,7 @@ module _ (ws : List ℤ) where
   second_at at w v rest e = head_of_lem ws (at + 1) v rest (next_at at w (v ∷ rest) e)
 
   -- ---- Two parts.
-  module _ (t own : ℕ) (sc : Option ℕ) (s : Sign) (p q : Pattern) (g : t < 11) (o : 0 < own) (o' : own < 4)
+  module _ (t own : ℕ) (sc : Option Kind) (s : Sign) (p q : Pattern) (g : t < 11) (o : 0 < own) (o' : own < 4)
       (f₁ : (get_or nodes t no_tag).level ≡ own) (f₂ : (get_or nodes t no_tag).begins ≡ None) (f₃ : (get_or nodes t no_tag).operands ≡ Nothing) (f₄ : (get_or nodes t no_tag).parts ≡ Some 2)
       (f₅ : (get_or nodes t no_tag).first ≡ suc own) (f₆ : (get_or nodes t no_tag).others ≡ own) (f₇ : (get_or nodes t no_tag).between ≡ sc)
       (f₈ : (get_or nodes t no_tag).ends ≡ None) (k : optional sc ≡ ink_of (sign s) ∷ []) (x : Walks p) (y : Walks q) where
@@ -103,16 +106,16 @@ module _ (ws : List ℤ) where
   -- ---- `!`.
   never_walks : (p : Pattern) → Walks p → (l d at : ℕ) (rest : List ℤ) → l < 5 → drop at ws ≡ pos 10 ∷ (pattern_words p ++ rest) → length (pos 10 ∷ pattern_words p) ≤ d
       → Writes ws d at l (pos 10 ∷ pattern_words p) (P.wrap 4 l (λ us. mark bang ∷ P.write 4 p us))
-  unfolding Writes P.wrap inks_of ink_of code optional
+  unfolding Writes P.wrap inks_of ink_of code optional number_of
   never_walks p x l zero at rest h e n = absurd (omega arith)
   never_walks p x l (suc d) at rest h e n =
       let hd = head_of_lem ws at (pos 10) (pattern_words p ++ rest) e in
       let wp = x 4 d (at + 1) rest (omega arith) (next_at at (pos 10) (pattern_words p ++ rest) e) (omega arith) in
-      let all = row l d at 10 (pattern_words p ++ rest) h (omega arith) e ∙ word_node ws (written ws d) at l (get_or nodes 10 no_tag) hd.in' 7 (Some 2) 4 refl refl refl refl refl refl in (
+      let all = row l d at 10 (pattern_words p ++ rest) h (omega arith) e ∙ word_node ws (written ws d) at l (get_or nodes 10 no_tag) hd.in' 7 (Some Bang) 4 refl refl refl refl refl refl in (
         ap (λ z. z.end) all ∙ wp.0 ∙ (omega arith),
         λ ts. ap (λ z. z.inks ++ inks_of ts) all
-            ∙ flat_word (bracket 7 l 6) (optional (Some 2)) (written ws d (at + 1) 4).inks (bracket 7 l 7) (inks_of ts)
-            ∙ ap (λ b. b ++ (optional (Some 2) ++ ((written ws d (at + 1) 4).inks ++ (bracket 7 l 7 ++ inks_of ts)))) (no_bracket 7 l 6 (omega arith))
+            ∙ flat_word (bracket 7 l 6) (optional (Some Bang)) (written ws d (at + 1) 4).inks (bracket 7 l 7) (inks_of ts)
+            ∙ ap (λ b. b ++ (optional (Some Bang) ++ ((written ws d (at + 1) 4).inks ++ (bracket 7 l 7 ++ inks_of ts)))) (no_bracket 7 l 6 (omega arith))
             ∙ ap (λ b. ink 2 0 ∷ ((written ws d (at + 1) 4).inks ++ (b ++ inks_of ts))) (no_bracket 7 l 7 (omega arith))
             ∙ ap (λ z. ink 2 0 ∷ z) (wp.1 ts)
             ∙ ap (λ b. inks_of (elim b as (λ _. List Token) [ true ↦ mark opening ∷ mark bang ∷ P.write 4 p (mark closing ∷ ts) | false ↦ mark bang ∷ P.write 4 p ts ])) (sym (le-ltb 4 l (omega arith))),
@@ -124,9 +127,9 @@ module _ (ws : List ℤ) where
   AllWalk (p ▸ᵖ ps) = Walks p × AllWalk ps
 
   rest_walks : (ps : Patterns) → AllWalk ps → (d at : ℕ) (rest : List ℤ) → drop at ws ≡ pattern_words_all ps ++ rest → length (pattern_words_all ps) ≤ d
-      → (parts (written ws d) 1 (Some 5) (countᵖ ps) at 1 (Some 5)).end ≡ at + length (pattern_words_all ps)
-      × ((ts : List Token) → (parts (written ws d) 1 (Some 5) (countᵖ ps) at 1 (Some 5)).inks ++ inks_of (mark closing ∷ ts) ≡ inks_of (P.write_rest ps ts))
-  unfolding AllWalk Writes parts countᵖ pattern_words_all P.write_rest inks_of ink_of code optional
+      → (parts (written ws d) 1 (Some Comma) (countᵖ ps) at 1 (Some Comma)).end ≡ at + length (pattern_words_all ps)
+      × ((ts : List Token) → (parts (written ws d) 1 (Some Comma) (countᵖ ps) at 1 (Some Comma)).inks ++ inks_of (mark closing ∷ ts) ≡ inks_of (P.write_rest ps ts))
+  unfolding AllWalk Writes parts countᵖ pattern_words_all P.write_rest inks_of ink_of code optional number_of
   rest_walks no_patterns x d at rest e n = (omega arith, λ ts. refl)
   rest_walks (p ▸ᵖ ps) x d at rest e n =
       let len = length-append (pattern_words p) (pattern_words_all ps) in
@@ -136,16 +139,16 @@ module _ (ws : List ℤ) where
       let ip : i ≡ at + length (pattern_words p) = wp.0 in
       let dq : drop i ws ≡ pattern_words_all ps ++ rest = ap (λ k. drop k ws) ip ∙ past ws at (pattern_words p) (pattern_words_all ps ++ rest) dp in
       let wq = rest_walks ps x.1 d i rest dq (omega arith) in
-      let iq : (parts (written ws d) 1 (Some 5) (countᵖ ps) i 1 (Some 5)).end ≡ i + length (pattern_words_all ps) = wq.0 in (
+      let iq : (parts (written ws d) 1 (Some Comma) (countᵖ ps) i 1 (Some Comma)).end ≡ i + length (pattern_words_all ps) = wq.0 in (
         iq ∙ (omega arith),
-        λ ts. ap (λ z. ink 5 0 ∷ z) (append_assoc (written ws d at 1).inks (parts (written ws d) 1 (Some 5) (countᵖ ps) i 1 (Some 5)).inks (inks_of (mark closing ∷ ts))
+        λ ts. ap (λ z. ink 5 0 ∷ z) (append_assoc (written ws d at 1).inks (parts (written ws d) 1 (Some Comma) (countᵖ ps) i 1 (Some Comma)).inks (inks_of (mark closing ∷ ts))
             ∙ ap (λ z. (written ws d at 1).inks ++ z) (wq.1 ts) ∙ wp.1 (P.write_rest ps ts)),
       )
 
   parts_walk : (ps : Patterns) → AllWalk ps → (d at : ℕ) (rest : List ℤ) → drop at ws ≡ pattern_words_all ps ++ rest → length (pattern_words_all ps) ≤ d
-      → (parts (written ws d) 1 (Some 5) (countᵖ ps) at 1 None).end ≡ at + length (pattern_words_all ps)
-      × ((ts : List Token) → (parts (written ws d) 1 (Some 5) (countᵖ ps) at 1 None).inks ++ inks_of (mark closing ∷ ts) ≡ inks_of (P.write_parts ps ts))
-  unfolding AllWalk Writes parts countᵖ pattern_words_all P.write_parts inks_of ink_of code optional
+      → (parts (written ws d) 1 (Some Comma) (countᵖ ps) at 1 None).end ≡ at + length (pattern_words_all ps)
+      × ((ts : List Token) → (parts (written ws d) 1 (Some Comma) (countᵖ ps) at 1 None).inks ++ inks_of (mark closing ∷ ts) ≡ inks_of (P.write_parts ps ts))
+  unfolding AllWalk Writes parts countᵖ pattern_words_all P.write_parts inks_of ink_of code optional number_of
   parts_walk no_patterns x d at rest e n = (omega arith, λ ts. refl)
   parts_walk (p ▸ᵖ ps) x d at rest e n =
       let len = length-append (pattern_words p) (pattern_words_all ps) in
@@ -155,15 +158,15 @@ module _ (ws : List ℤ) where
       let ip : i ≡ at + length (pattern_words p) = wp.0 in
       let dq : drop i ws ≡ pattern_words_all ps ++ rest = ap (λ k. drop k ws) ip ∙ past ws at (pattern_words p) (pattern_words_all ps ++ rest) dp in
       let wq = rest_walks ps x.1 d i rest dq (omega arith) in
-      let iq : (parts (written ws d) 1 (Some 5) (countᵖ ps) i 1 (Some 5)).end ≡ i + length (pattern_words_all ps) = wq.0 in (
+      let iq : (parts (written ws d) 1 (Some Comma) (countᵖ ps) i 1 (Some Comma)).end ≡ i + length (pattern_words_all ps) = wq.0 in (
         iq ∙ (omega arith),
-        λ ts. append_assoc (written ws d at 1).inks (parts (written ws d) 1 (Some 5) (countᵖ ps) i 1 (Some 5)).inks (inks_of (mark closing ∷ ts))
+        λ ts. append_assoc (written ws d at 1).inks (parts (written ws d) 1 (Some Comma) (countᵖ ps) i 1 (Some Comma)).inks (inks_of (mark closing ∷ ts))
             ∙ ap (λ z. (written ws d at 1).inks ++ z) (wq.1 ts) ∙ wp.1 (P.write_rest ps ts),
       )
 
   tuple_walks : (ps : Patterns) → AllWalk ps → countᵖ ps < 256 → (l d at : ℕ) (rest : List ℤ) → l < 5 → drop at ws ≡ pos 7 ∷ pos (countᵖ ps) ∷ (pattern_words_all ps ++ rest)
       → length (pos 7 ∷ pos (countᵖ ps) ∷ pattern_words_all ps) ≤ d → Writes ws d at l (pos 7 ∷ pos (countᵖ ps) ∷ pattern_words_all ps) (λ ts. mark opening ∷ P.write_parts ps ts)
-  unfolding Writes inks_of ink_of code optional
+  unfolding Writes inks_of ink_of code optional number_of
   tuple_walks ps x m l zero at rest h e n = absurd (omega arith)
   tuple_walks ps x m l (suc d) at rest h e n =
       let hd = head_of_lem ws at (pos 7) (pos (countᵖ ps) ∷ (pattern_words_all ps ++ rest)) e in
@@ -171,34 +174,34 @@ module _ (ws : List ℤ) where
       let dq : drop (at + 2) ws ≡ pattern_words_all ps ++ rest = ap (λ k. drop k ws) (sym i) ∙ (second_at at (pos 7) (pos (countᵖ ps)) (pattern_words_all ps ++ rest) e).tail in
       let wq = parts_walk ps x d (at + 2) rest dq (omega arith) in
       let all = row l d at 7 (pos (countᵖ ps) ∷ (pattern_words_all ps ++ rest)) h (omega arith) e
-      ∙ many_node ws (written ws d) at l (get_or nodes 7 no_tag) hd.in' (Some 6) 1 (Some 7) (countᵖ ps) refl (omega arith) refl refl refl refl refl refl refl (operand_is at (pos 7) (pos (countᵖ ps)) (pattern_words_all ps ++ rest) e) m in (
+      ∙ many_node ws (written ws d) at l (get_or nodes 7 no_tag) hd.in' (Some Opening) 1 (Some Closing) (countᵖ ps) refl (omega arith) refl refl refl refl refl refl refl (operand_is at (pos 7) (pos (countᵖ ps)) (pattern_words_all ps ++ rest) e) m in (
         ap (λ z. z.end) all ∙ wq.0 ∙ (omega arith),
         λ ts. ap (λ z. z.inks ++ inks_of ts) all
-            ∙ flat_many (optional (Some 6)) (parts (written ws d) 1 (Some 5) (countᵖ ps) (at + 2) 1 None).inks (optional (Some 7)) (inks_of ts)
+            ∙ flat_many (optional (Some Opening)) (parts (written ws d) 1 (Some Comma) (countᵖ ps) (at + 2) 1 None).inks (optional (Some Closing)) (inks_of ts)
             ∙ ap (λ z. ink 6 0 ∷ z) (wq.1 ts),
       )
 
   -- ---- All.
   value_walks : (v c : ℤ) (l d at : ℕ) (rest : List ℤ) → T (in_range c) → l < 5 → drop at ws ≡ pos 3 ∷ v ∷ c ∷ rest → 3 ≤ d → Writes ws d at l (pos 3 ∷ v ∷ c ∷ []) (P.write l (value v c))
-  unfolding P.write optional leaf head_of
+  unfolding P.write optional leaf head_of number_of
   value_walks v c l d at rest r h e n = leaf_walks 3 VariableAndNumber l d at (pos 3 ∷ v ∷ c ∷ []) (v ∷ c ∷ rest) (P.write l (value v c)) h (omega arith) refl refl refl e (omega arith) refl
       (λ ts. ap (λ is. ink 1 0 ∷ (is ++ inks_of ts)) (sym (no_more (valued (bits_at ws at 1) (bits_at ws at 2)))
       ∙ ap (λ u. valued u (bits_at ws at 2)) (operand_is at (pos 3) v (c ∷ rest) e) ∙ ap (valued (of_z w32 v)) (further_is at (pos 3) v c rest e))
       ∙ value_written v c ts r)
 
   constant_walks : (c : ℤ) (l d at : ℕ) (rest : List ℤ) → T (in_range c) → l < 5 → drop at ws ≡ pos 2 ∷ c ∷ rest → 2 ≤ d → Writes ws d at l (pos 2 ∷ c ∷ []) (P.write l (constant c))
-  unfolding P.write optional leaf head_of
+  unfolding P.write optional leaf head_of number_of
   constant_walks c l d at rest r h e n = leaf_walks 2 OneNumber l d at (pos 2 ∷ c ∷ []) (c ∷ rest) (P.write l (constant c)) h (omega arith) refl refl refl e (omega arith) refl
       (λ ts. ap (λ is. ink 1 0 ∷ (is ++ inks_of ts)) (sym (no_more (signed (bits_at ws at 1))) ∙ ap signed (operand_is at (pos 2) c rest e))
       ∙ constant_written c ts r)
 
   variable_walks : (v : ℤ) (l d at : ℕ) (rest : List ℤ) → l < 5 → drop at ws ≡ pos 1 ∷ v ∷ rest → 2 ≤ d → Writes ws d at l (pos 1 ∷ v ∷ []) (P.write l (variable v))
-  unfolding P.write optional leaf head_of inks_of ink_of
+  unfolding P.write optional leaf head_of inks_of ink_of number_of
   variable_walks v l d at rest h e n = leaf_walks 1 OneVariable l d at (pos 1 ∷ v ∷ []) (v ∷ rest) (P.write l (variable v)) h (omega arith) refl refl refl e (omega arith) refl
       (λ ts. ap (λ u. ink 21 u ∷ inks_of ts) (operand_is at (pos 1) v rest e))
 
   mutual
-    unfolding Fine FineAll AllWalk width pattern_words pattern_words_all countᵖ P.write P.level optional leaf head_of inks_of ink_of code sign_code
+    unfolding Fine FineAll AllWalk width pattern_words pattern_words_all countᵖ P.write P.level optional leaf head_of inks_of ink_of code sign_code number_of
 
     pub walks : (p : Pattern) → Fine p → Walks p
     walks wildcard f = λ l d at rest h e n. leaf_walks 0 Nothing l d at (pos 0 ∷ []) rest (P.write l wildcard) h (omega arith) refl refl refl e n refl (λ ts. refl)
@@ -206,10 +209,10 @@ module _ (ws : List ℤ) where
     walks (variable v) f = λ l d at rest h e n. variable_walks v l d at rest h e n
     walks (constant c) f = λ l d at rest h e n. constant_walks c l d at rest f h e n
     walks (value v c) f = λ l d at rest h e n. value_walks v c l d at rest f h e n
-    walks (cons p q) f = λ l d at rest h e n. pair_walks 5 3 (Some 17) consing p q (omega arith) (omega arith) (omega arith) refl refl refl refl refl refl refl refl refl (walks p f.0) (walks q f.1) l d at rest h e n
-    walks (join p q) f = λ l d at rest h e n. pair_walks 6 3 (Some 18) joining p q (omega arith) (omega arith) (omega arith) refl refl refl refl refl refl refl refl refl (walks p f.0) (walks q f.1) l d at rest h e n
-    walks (both p q) f = λ l d at rest h e n. pair_walks 8 2 (Some 19) anding p q (omega arith) (omega arith) (omega arith) refl refl refl refl refl refl refl refl refl (walks p f.0) (walks q f.1) l d at rest h e n
-    walks (either p q) f = λ l d at rest h e n. pair_walks 9 1 (Some 20) oring p q (omega arith) (omega arith) (omega arith) refl refl refl refl refl refl refl refl refl (walks p f.0) (walks q f.1) l d at rest h e n
+    walks (cons p q) f = λ l d at rest h e n. pair_walks 5 3 (Some Cons) consing p q (omega arith) (omega arith) (omega arith) refl refl refl refl refl refl refl refl refl (walks p f.0) (walks q f.1) l d at rest h e n
+    walks (join p q) f = λ l d at rest h e n. pair_walks 6 3 (Some Join) joining p q (omega arith) (omega arith) (omega arith) refl refl refl refl refl refl refl refl refl (walks p f.0) (walks q f.1) l d at rest h e n
+    walks (both p q) f = λ l d at rest h e n. pair_walks 8 2 (Some And) anding p q (omega arith) (omega arith) (omega arith) refl refl refl refl refl refl refl refl refl (walks p f.0) (walks q f.1) l d at rest h e n
+    walks (either p q) f = λ l d at rest h e n. pair_walks 9 1 (Some Or) oring p q (omega arith) (omega arith) (omega arith) refl refl refl refl refl refl refl refl refl (walks p f.0) (walks q f.1) l d at rest h e n
     walks (never p) f = λ l d at rest h e n. never_walks p (walks p f) l d at rest h e n
     walks (tuple ps) f = λ l d at rest h e n. let m = at_most (countᵖ ps) f.0 in tuple_walks ps (all_walk ps f.1) (omega arith) l d at rest h e n
 

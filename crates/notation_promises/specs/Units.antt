@@ -16,6 +16,9 @@ use Rattle.notation_rules.specs.Tokens.{Mark, opening, closing, left, right, any
 use Rattle.notation_rules.specs.Matchers as M
 use Rattle.notation_rules.specs.Targets as U
 use Rattle.notation_rules.specs.PatternsBack.{width, at_most}
+use Rattle.notation_print.specs.Kinds.{number_of}
+use Rattle.notation_print.specs.declared.Kind.{Kind}
+use Rattle.notation_print.specs.declared.Kind.TheVariants.{Comma, Opening, Closing, Left, Right, List as List', Multiset}
 use Rattle.notation_write.specs.Written.{node_of, bits_at, head_of, Ink, ink, optional, signed, leaf, bracket, parts, within, written}
 use Rattle.notation_write.specs.declared.Operands.TheVariants.{Nothing, OneNumber}
 use Rattle.notation_promises.specs.Printed.{ink_of, inks_of}
@@ -48,9 +51,9 @@ module _ (ws : List ℤ) where
   AllValues (v ▸ vs) = WalksValue v × AllValues vs
 
   rest_values : (m : Mark) (vs : Values) → AllValues vs → (d at : ℕ) (rest : List ℤ) → drop at ws ≡ words_all vs ++ rest → largest_of vs ≤ 64 → deepest_of vs < d
-      → (parts (written ws d) 17 (Some 5) (count vs) at 17 (Some 5)).end ≡ at + length (words_all vs)
-      × ((ts : List Token) → (parts (written ws d) 17 (Some 5) (count vs) at 17 (Some 5)).inks ++ inks_of (mark m ∷ ts) ≡ inks_of (U.write_rest m vs ts))
-  unfolding AllValues Writes parts count words_all U.write_rest U.write_items inks_of ink_of code optional largest_of deepest_of
+      → (parts (written ws d) 17 (Some Comma) (count vs) at 17 (Some Comma)).end ≡ at + length (words_all vs)
+      × ((ts : List Token) → (parts (written ws d) 17 (Some Comma) (count vs) at 17 (Some Comma)).inks ++ inks_of (mark m ∷ ts) ≡ inks_of (U.write_rest m vs ts))
+  unfolding AllValues Writes parts count words_all U.write_rest U.write_items inks_of ink_of code optional largest_of deepest_of number_of
   rest_values m empty x d at rest e n o = (omega arith, λ ts. refl)
   rest_values m (v ▸ vs) x d at rest e n o =
       let len = length-append (words v) (words_all vs) in
@@ -59,16 +62,16 @@ module _ (ws : List ℤ) where
       let i : ℕ = (written ws d at 17).end in
       let ip : i ≡ at + length (words v) = wp.0 in
       let wq = rest_values m vs x.1 d i rest (ap (λ k. drop k ws) ip ∙ past ws at (words v) (words_all vs ++ rest) dp) (omega arith) (omega arith) in
-      let iq : (parts (written ws d) 17 (Some 5) (count vs) i 17 (Some 5)).end ≡ i + length (words_all vs) = wq.0 in (
+      let iq : (parts (written ws d) 17 (Some Comma) (count vs) i 17 (Some Comma)).end ≡ i + length (words_all vs) = wq.0 in (
         iq ∙ (omega arith),
-        λ ts. ap (λ z. ink 5 0 ∷ z) (append_assoc (written ws d at 17).inks (parts (written ws d) 17 (Some 5) (count vs) i 17 (Some 5)).inks (inks_of (mark m ∷ ts))
+        λ ts. ap (λ z. ink 5 0 ∷ z) (append_assoc (written ws d at 17).inks (parts (written ws d) 17 (Some Comma) (count vs) i 17 (Some Comma)).inks (inks_of (mark m ∷ ts))
             ∙ ap (λ z. (written ws d at 17).inks ++ z) (wq.1 ts) ∙ wp.1 (U.write_rest m vs ts)),
       )
 
   items_walk : (m : Mark) (vs : Values) → AllValues vs → (d at : ℕ) (rest : List ℤ) → drop at ws ≡ words_all vs ++ rest → largest_of vs ≤ 64 → deepest_of vs < d
-      → (parts (written ws d) 17 (Some 5) (count vs) at 17 None).end ≡ at + length (words_all vs)
-      × ((ts : List Token) → (parts (written ws d) 17 (Some 5) (count vs) at 17 None).inks ++ inks_of (mark m ∷ ts) ≡ inks_of (U.write_items m vs ts))
-  unfolding AllValues Writes parts count words_all U.write_rest U.write_items inks_of ink_of code optional largest_of deepest_of
+      → (parts (written ws d) 17 (Some Comma) (count vs) at 17 None).end ≡ at + length (words_all vs)
+      × ((ts : List Token) → (parts (written ws d) 17 (Some Comma) (count vs) at 17 None).inks ++ inks_of (mark m ∷ ts) ≡ inks_of (U.write_items m vs ts))
+  unfolding AllValues Writes parts count words_all U.write_rest U.write_items inks_of ink_of code optional largest_of deepest_of number_of
   items_walk m empty x d at rest e n o = (omega arith, λ ts. refl)
   items_walk m (v ▸ vs) x d at rest e n o =
       let len = length-append (words v) (words_all vs) in
@@ -77,14 +80,14 @@ module _ (ws : List ℤ) where
       let i : ℕ = (written ws d at 17).end in
       let ip : i ≡ at + length (words v) = wp.0 in
       let wq = rest_values m vs x.1 d i rest (ap (λ k. drop k ws) ip ∙ past ws at (words v) (words_all vs ++ rest) dp) (omega arith) (omega arith) in
-      let iq : (parts (written ws d) 17 (Some 5) (count vs) i 17 (Some 5)).end ≡ i + length (words_all vs) = wq.0 in (
+      let iq : (parts (written ws d) 17 (Some Comma) (count vs) i 17 (Some Comma)).end ≡ i + length (words_all vs) = wq.0 in (
         iq ∙ (omega arith),
-        λ ts. append_assoc (written ws d at 17).inks (parts (written ws d) 17 (Some 5) (count vs) i 17 (Some 5)).inks (inks_of (mark m ∷ ts))
+        λ ts. append_assoc (written ws d at 17).inks (parts (written ws d) 17 (Some Comma) (count vs) i 17 (Some Comma)).inks (inks_of (mark m ∷ ts))
             ∙ ap (λ z. (written ws d at 17).inks ++ z) (wq.1 ts) ∙ wp.1 (U.write_rest m vs ts),
       )
 
   int_walks : (x : ℤ) (d at : ℕ) (rest : List ℤ) → T (in_range x) → drop at ws ≡ pos 0 ∷ x ∷ rest → 0 < d → Writes ws d at 17 (pos 0 ∷ x ∷ []) (U.write (int x))
-  unfolding Writes U.write optional leaf head_of node_of
+  unfolding Writes U.write optional leaf head_of node_of number_of
   int_walks x zero at rest r e n = absurd (omega arith)
   int_walks x (suc d) at rest r e n =
       let hd = head_of_lem ws at (pos 0) (x ∷ rest) e in
@@ -94,8 +97,8 @@ module _ (ws : List ℤ) where
             ∙ ap (λ is. is ++ inks_of ts) (sym (no_more (signed (bits_at ws at 1))) ∙ ap signed (operand_is at (pos 0) x rest e)) ∙ number_written x ts r,
       )
 
-  module _ (t : ℕ) (w c : Option ℕ) (open' shut : Mark) (f₁ : (node_of 17 t).level ≡ 7) (f₂ : (node_of 17 t).begins ≡ w) (f₃ : (node_of 17 t).operands ≡ Nothing) (f₄ : (node_of 17 t).parts ≡ None)
-      (f₅ : (node_of 17 t).first ≡ 17) (f₆ : (node_of 17 t).others ≡ 17) (f₇ : (node_of 17 t).between ≡ Some 5) (f₈ : (node_of 17 t).ends ≡ c)
+  module _ (t : ℕ) (w c : Option Kind) (open' shut : Mark) (f₁ : (node_of 17 t).level ≡ 7) (f₂ : (node_of 17 t).begins ≡ w) (f₃ : (node_of 17 t).operands ≡ Nothing) (f₄ : (node_of 17 t).parts ≡ None)
+      (f₅ : (node_of 17 t).first ≡ 17) (f₆ : (node_of 17 t).others ≡ 17) (f₇ : (node_of 17 t).between ≡ Some Comma) (f₈ : (node_of 17 t).ends ≡ c)
       (k : optional w ≡ ink_of (mark open') ∷ []) (k' : optional c ≡ ink_of (mark shut) ∷ []) where
     many_values : (vs : Values) → AllValues vs → count vs < 256 → (d at : ℕ) (rest : List ℤ) → drop at ws ≡ pos t ∷ pos (count vs) ∷ (words_all vs ++ rest) → largest_of vs ≤ 64 → suc (deepest_of vs) < d
         → Writes ws d at 17 (pos t ∷ pos (count vs) ∷ words_all vs) (λ ts. mark open' ∷ U.write_items shut vs ts)
@@ -108,20 +111,20 @@ module _ (ws : List ℤ) where
         ∙ many_node ws (written ws d) at 17 (node_of 17 t) hd.in' w 17 c (count vs) f₁ (omega arith) f₂ f₃ f₄ f₅ f₆ f₇ f₈ (operand_is at (pos t) (pos (count vs)) (words_all vs ++ rest) e) m in (
           ap (λ z. z.end) all ∙ wq.0 ∙ (omega arith),
           λ ts. ap (λ z. z.inks ++ inks_of ts) all
-              ∙ flat_many (optional w) (parts (written ws d) 17 (Some 5) (count vs) (at + 2) 17 None).inks (optional c) (inks_of ts)
-              ∙ ap (λ z. z ++ ((parts (written ws d) 17 (Some 5) (count vs) (at + 2) 17 None).inks ++ (optional c ++ inks_of ts))) k
-              ∙ ap (λ z. ink_of (mark open') ∷ ((parts (written ws d) 17 (Some 5) (count vs) (at + 2) 17 None).inks ++ (z ++ inks_of ts))) k'
+              ∙ flat_many (optional w) (parts (written ws d) 17 (Some Comma) (count vs) (at + 2) 17 None).inks (optional c) (inks_of ts)
+              ∙ ap (λ z. z ++ ((parts (written ws d) 17 (Some Comma) (count vs) (at + 2) 17 None).inks ++ (optional c ++ inks_of ts))) k
+              ∙ ap (λ z. ink_of (mark open') ∷ ((parts (written ws d) 17 (Some Comma) (count vs) (at + 2) 17 None).inks ++ (z ++ inks_of ts))) k'
               ∙ ap (λ z. ink_of (mark open') ∷ z) (wq.1 ts),
         )
 
   mutual
-    unfolding U.Fine U.FineAll AllValues width words words_all count largest largest_of deepest deepest_of U.write node_of optional ink_of code
+    unfolding U.Fine U.FineAll AllValues width words words_all count largest largest_of deepest deepest_of U.write node_of optional ink_of code number_of
 
     pub walks_value : (v : Value) → U.Fine v → WalksValue v
     walks_value (int x) f = λ d at rest e n o. int_walks x d at rest f e o
-    walks_value (collection vs) f = λ d at rest e n o. many_values 1 (Some 8) (Some 9) left right refl refl refl refl refl refl refl refl refl refl vs (walks_all vs f) (omega arith) d at rest e (omega arith) o
+    walks_value (collection vs) f = λ d at rest e n o. many_values 1 (Some Left) (Some Right) left right refl refl refl refl refl refl refl refl refl refl vs (walks_all vs f) (omega arith) d at rest e (omega arith) o
     walks_value (tupled vs) f = λ d at rest e n o. let m = at_most (count vs) f.0 in
-        many_values 2 (Some 6) (Some 7) opening closing refl refl refl refl refl refl refl refl refl refl vs (walks_all vs f.1) (omega arith) d at rest e n o
+        many_values 2 (Some Opening) (Some Closing) opening closing refl refl refl refl refl refl refl refl refl refl vs (walks_all vs f.1) (omega arith) d at rest e n o
 
     walks_all : (vs : Values) → U.FineAll vs → AllValues vs
     walks_all empty f = tt
@@ -140,9 +143,9 @@ module _ (ws : List ℤ) where
   AllMatchers (m ▸ᵐ ms) = WalksMatcher m × AllMatchers ms
 
   rest_matchers : (vs : Matchers) → AllMatchers vs → (d at : ℕ) (rest : List ℤ) → drop at ws ≡ matcher_words_all vs ++ rest → levels_all vs < d
-      → (parts (written ws d) 9 (Some 5) (countᵐ vs) at 9 (Some 5)).end ≡ at + length (matcher_words_all vs)
-      × ((ts : List Token) → (parts (written ws d) 9 (Some 5) (countᵐ vs) at 9 (Some 5)).inks ++ inks_of (mark closing ∷ ts) ≡ inks_of (M.write_rest vs ts))
-  unfolding AllMatchers Writes parts countᵐ matcher_words_all M.write_rest M.write_parts inks_of ink_of code optional levels_all asked
+      → (parts (written ws d) 9 (Some Comma) (countᵐ vs) at 9 (Some Comma)).end ≡ at + length (matcher_words_all vs)
+      × ((ts : List Token) → (parts (written ws d) 9 (Some Comma) (countᵐ vs) at 9 (Some Comma)).inks ++ inks_of (mark closing ∷ ts) ≡ inks_of (M.write_rest vs ts))
+  unfolding AllMatchers Writes parts countᵐ matcher_words_all M.write_rest M.write_parts inks_of ink_of code optional levels_all asked number_of
   rest_matchers no_matchers x d at rest e o = (omega arith, λ ts. refl)
   rest_matchers (v ▸ᵐ vs) x d at rest e o =
       let len = length-append (matcher_words v) (matcher_words_all vs) in
@@ -151,16 +154,16 @@ module _ (ws : List ℤ) where
       let i : ℕ = (written ws d at 9).end in
       let ip : i ≡ at + length (matcher_words v) = wp.0 in
       let wq = rest_matchers vs x.1 d i rest (ap (λ k. drop k ws) ip ∙ past ws at (matcher_words v) (matcher_words_all vs ++ rest) dp) (omega arith) in
-      let iq : (parts (written ws d) 9 (Some 5) (countᵐ vs) i 9 (Some 5)).end ≡ i + length (matcher_words_all vs) = wq.0 in (
+      let iq : (parts (written ws d) 9 (Some Comma) (countᵐ vs) i 9 (Some Comma)).end ≡ i + length (matcher_words_all vs) = wq.0 in (
         iq ∙ (omega arith),
-        λ ts. ap (λ z. ink 5 0 ∷ z) (append_assoc (written ws d at 9).inks (parts (written ws d) 9 (Some 5) (countᵐ vs) i 9 (Some 5)).inks (inks_of (mark closing ∷ ts))
+        λ ts. ap (λ z. ink 5 0 ∷ z) (append_assoc (written ws d at 9).inks (parts (written ws d) 9 (Some Comma) (countᵐ vs) i 9 (Some Comma)).inks (inks_of (mark closing ∷ ts))
             ∙ ap (λ z. (written ws d at 9).inks ++ z) (wq.1 ts) ∙ wp.1 (M.write_rest vs ts)),
       )
 
   parts_matchers : (vs : Matchers) → AllMatchers vs → (d at : ℕ) (rest : List ℤ) → drop at ws ≡ matcher_words_all vs ++ rest → levels_all vs < d
-      → (parts (written ws d) 9 (Some 5) (countᵐ vs) at 9 None).end ≡ at + length (matcher_words_all vs)
-      × ((ts : List Token) → (parts (written ws d) 9 (Some 5) (countᵐ vs) at 9 None).inks ++ inks_of (mark closing ∷ ts) ≡ inks_of (M.write_parts vs ts))
-  unfolding AllMatchers Writes parts countᵐ matcher_words_all M.write_rest M.write_parts inks_of ink_of code optional levels_all asked
+      → (parts (written ws d) 9 (Some Comma) (countᵐ vs) at 9 None).end ≡ at + length (matcher_words_all vs)
+      × ((ts : List Token) → (parts (written ws d) 9 (Some Comma) (countᵐ vs) at 9 None).inks ++ inks_of (mark closing ∷ ts) ≡ inks_of (M.write_parts vs ts))
+  unfolding AllMatchers Writes parts countᵐ matcher_words_all M.write_rest M.write_parts inks_of ink_of code optional levels_all asked number_of
   parts_matchers no_matchers x d at rest e o = (omega arith, λ ts. refl)
   parts_matchers (v ▸ᵐ vs) x d at rest e o =
       let len = length-append (matcher_words v) (matcher_words_all vs) in
@@ -169,9 +172,9 @@ module _ (ws : List ℤ) where
       let i : ℕ = (written ws d at 9).end in
       let ip : i ≡ at + length (matcher_words v) = wp.0 in
       let wq = rest_matchers vs x.1 d i rest (ap (λ k. drop k ws) ip ∙ past ws at (matcher_words v) (matcher_words_all vs ++ rest) dp) (omega arith) in
-      let iq : (parts (written ws d) 9 (Some 5) (countᵐ vs) i 9 (Some 5)).end ≡ i + length (matcher_words_all vs) = wq.0 in (
+      let iq : (parts (written ws d) 9 (Some Comma) (countᵐ vs) i 9 (Some Comma)).end ≡ i + length (matcher_words_all vs) = wq.0 in (
         iq ∙ (omega arith),
-        λ ts. append_assoc (written ws d at 9).inks (parts (written ws d) 9 (Some 5) (countᵐ vs) i 9 (Some 5)).inks (inks_of (mark closing ∷ ts))
+        λ ts. append_assoc (written ws d at 9).inks (parts (written ws d) 9 (Some Comma) (countᵐ vs) i 9 (Some Comma)).inks (inks_of (mark closing ∷ ts))
             ∙ ap (λ z. (written ws d at 9).inks ++ z) (wq.1 ts) ∙ wp.1 (M.write_rest vs ts),
       )
 
@@ -194,7 +197,7 @@ module _ (ws : List ℤ) where
   wrapped k m f ts h true = ap (λ z. ink 6 0 ∷ ink_of (mark k) ∷ z) (h (mark closing ∷ ts))
   wrapped k m f ts h false = ap (λ z. ink_of (mark k) ∷ z) (h ts)
 
-  of_walks : (t : ℕ) (w : Option ℕ) (k : Mark) (m : Matcher) (b : Bool) → (node_of (asked b) t).level ≡ 1 → (node_of (asked b) t).begins ≡ w → (node_of (asked b) t).operands ≡ Nothing
+  of_walks : (t : ℕ) (w : Option Kind) (k : Mark) (m : Matcher) (b : Bool) → (node_of (asked b) t).level ≡ 1 → (node_of (asked b) t).begins ≡ w → (node_of (asked b) t).operands ≡ Nothing
       → (node_of (asked b) t).parts ≡ Some 1 → (node_of (asked b) t).first ≡ 10 → (node_of (asked b) t).ends ≡ None → optional w ≡ ink_of (mark k) ∷ [] → WalksMatcher m
       → (d at : ℕ) (rest : List ℤ) → drop at ws ≡ pos t ∷ (matcher_words m ++ rest) → suc (levels m) < d → Writes ws d at (asked b) (pos t ∷ matcher_words m) (M.wrap b (λ us. mark k ∷ M.write true m us))
   unfolding Writes asked
@@ -211,39 +214,39 @@ module _ (ws : List ℤ) where
       )
 
   something_walks : WalksMatcher something
-  unfolding matcher_words levels M.write node_of optional ink_of code asked
+  unfolding matcher_words levels M.write node_of optional ink_of code asked number_of
   something_walks true d at rest e o = bare_walks 0 anything 10 d at rest (omega arith) refl refl refl refl refl e o
   something_walks false d at rest e o = bare_walks 0 anything 9 d at rest (omega arith) refl refl refl refl refl e o
 
   integer_walks : WalksMatcher integer
-  unfolding matcher_words levels M.write node_of optional ink_of code asked
+  unfolding matcher_words levels M.write node_of optional ink_of code asked number_of
   integer_walks true d at rest e o = bare_walks 1 integers 10 d at rest (omega arith) refl refl refl refl refl e o
   integer_walks false d at rest e o = bare_walks 1 integers 9 d at rest (omega arith) refl refl refl refl refl e o
 
   list_walks : (m : Matcher) → WalksMatcher m → WalksMatcher (list m)
-  unfolding matcher_words levels M.write node_of optional ink_of code asked
-  list_walks m x true d at rest e o = of_walks 2 (Some 12) list_of m true refl refl refl refl refl refl refl x d at rest e o
-  list_walks m x false d at rest e o = of_walks 2 (Some 12) list_of m false refl refl refl refl refl refl refl x d at rest e o
+  unfolding matcher_words levels M.write node_of optional ink_of code asked number_of
+  list_walks m x true d at rest e o = of_walks 2 (Some List') list_of m true refl refl refl refl refl refl refl x d at rest e o
+  list_walks m x false d at rest e o = of_walks 2 (Some List') list_of m false refl refl refl refl refl refl refl x d at rest e o
 
   multiset_walks : (m : Matcher) → WalksMatcher m → WalksMatcher (multiset m)
-  unfolding matcher_words levels M.write node_of optional ink_of code asked
-  multiset_walks m x true d at rest e o = of_walks 3 (Some 13) multiset_of m true refl refl refl refl refl refl refl x d at rest e o
-  multiset_walks m x false d at rest e o = of_walks 3 (Some 13) multiset_of m false refl refl refl refl refl refl refl x d at rest e o
+  unfolding matcher_words levels M.write node_of optional ink_of code asked number_of
+  multiset_walks m x true d at rest e o = of_walks 3 (Some Multiset) multiset_of m true refl refl refl refl refl refl refl x d at rest e o
+  multiset_walks m x false d at rest e o = of_walks 3 (Some Multiset) multiset_of m false refl refl refl refl refl refl refl x d at rest e o
 
-  many_matchers : (ms : Matchers) (what : ℕ) → what % 8 ≤ 7 → (node_of what 4).level ≡ 7 → (node_of what 4).begins ≡ Some 6 → (node_of what 4).operands ≡ Nothing → (node_of what 4).parts ≡ None
-      → (node_of what 4).first ≡ 9 → (node_of what 4).others ≡ 9 → (node_of what 4).between ≡ Some 5 → (node_of what 4).ends ≡ Some 7
+  many_matchers : (ms : Matchers) (what : ℕ) → what % 8 ≤ 7 → (node_of what 4).level ≡ 7 → (node_of what 4).begins ≡ Some Opening → (node_of what 4).operands ≡ Nothing → (node_of what 4).parts ≡ None
+      → (node_of what 4).first ≡ 9 → (node_of what 4).others ≡ 9 → (node_of what 4).between ≡ Some Comma → (node_of what 4).ends ≡ Some Closing
       → AllMatchers ms → countᵐ ms < 256 → (d at : ℕ) (rest : List ℤ) → drop at ws ≡ pos 4 ∷ pos (countᵐ ms) ∷ (matcher_words_all ms ++ rest) → suc (levels_all ms) < d
       → Writes ws d at what (pos 4 ∷ pos (countᵐ ms) ∷ matcher_words_all ms) (λ ts. mark opening ∷ M.write_parts ms ts)
-  unfolding Writes inks_of ink_of code optional
+  unfolding Writes inks_of ink_of code optional number_of
   many_matchers ms what l f₁ f₂ f₃ f₄ f₅ f₆ f₇ f₈ x m zero at rest e o = absurd (omega arith)
   many_matchers ms what l f₁ f₂ f₃ f₄ f₅ f₆ f₇ f₈ x m (suc d) at rest e o =
       let hd = head_of_lem ws at (pos 4) (pos (countᵐ ms) ∷ (matcher_words_all ms ++ rest)) e in
       let wq = parts_matchers ms x d (at + 2) rest (third_at at (pos 4) (pos (countᵐ ms)) (matcher_words_all ms ++ rest) e) (omega arith) in
       let all = row what d at 4 (pos (countᵐ ms) ∷ (matcher_words_all ms ++ rest)) e
-      ∙ many_node ws (written ws d) at what (node_of what 4) hd.in' (Some 6) 9 (Some 7) (countᵐ ms) f₁ l f₂ f₃ f₄ f₅ f₆ f₇ f₈ (operand_is at (pos 4) (pos (countᵐ ms)) (matcher_words_all ms ++ rest) e) m in (
+      ∙ many_node ws (written ws d) at what (node_of what 4) hd.in' (Some Opening) 9 (Some Closing) (countᵐ ms) f₁ l f₂ f₃ f₄ f₅ f₆ f₇ f₈ (operand_is at (pos 4) (pos (countᵐ ms)) (matcher_words_all ms ++ rest) e) m in (
         ap (λ z. z.end) all ∙ wq.0 ∙ (omega arith),
         λ ts. ap (λ z. z.inks ++ inks_of ts) all
-            ∙ flat_many (optional (Some 6)) (parts (written ws d) 9 (Some 5) (countᵐ ms) (at + 2) 9 None).inks (optional (Some 7)) (inks_of ts)
+            ∙ flat_many (optional (Some Opening)) (parts (written ws d) 9 (Some Comma) (countᵐ ms) (at + 2) 9 None).inks (optional (Some Closing)) (inks_of ts)
             ∙ ap (λ z. ink 6 0 ∷ z) (wq.1 ts),
       )
 

@@ -4,6 +4,9 @@ use native.Mathlib.Omega.{arith}
 use Rattle.std.proofs.Common.{sym, ap, ◌∙◌, lt-ltb, le-ltb, drop-drop, drop_at, of_z}
 use Rattle.std.specs.Int.{w32}
 use Rattle.words.specs.Words.{tag_at}
+use Rattle.notation_print.specs.Kinds.{number_of}
+use Rattle.notation_print.specs.declared.Kind.{Kind}
+use Rattle.notation_print.specs.declared.Kind.TheVariants.{Comma}
 use Rattle.notation_write.specs.Written.{no_tag, nodes, node_of, ahead, bits_at, head_of, count_of, optional, leaf, bracket, front, behind, Written, parts, within, written}
 use Rattle.notation_write.specs.declared.Node.{Node}
 use Rattle.notation_write.specs.declared.Operands.{Operands}
@@ -63,24 +66,24 @@ module _ (ws : List ℤ) (f : (at what : ℕ) → Written) (at what : ℕ) (node
   leaf_node lc h l i j = rw (h, i, j, no_bracket 7 what 6 l, no_bracket 7 what 7 l, ahead_is ws at (head_of lc (Some 0)) b)
 
   -- Two parts, a sign between them.
-  pub pair_node : (own p q : ℕ) (s : Option ℕ) → node.level ≡ own → node.begins ≡ None → node.operands ≡ Nothing → node.parts ≡ Some 2 → node.first ≡ p
+  pub pair_node : (own p q : ℕ) (s : Option Kind) → node.level ≡ own → node.begins ≡ None → node.operands ≡ Nothing → node.parts ≡ Some 2 → node.first ≡ p
       → node.others ≡ q → node.between ≡ s → node.ends ≡ None
       → within ws f at what node ≡ record {
         inks = (bracket own what 6 ++ []) ++ (((f (at + 1) p).inks ++ (optional s ++ ((f (f (at + 1) p).end q).inks ++ []))) ++ bracket own what 7);
         end = (f (f (at + 1) p).end q).end;
       }
-  unfolding within front behind parts count_of head_of optional leaf
+  unfolding within front behind parts count_of head_of optional leaf number_of
   pair_node own p q s c d e g h i j k = rw (c, d, e, g, h, i, j, k, ahead_is ws at 1 b)
 
   -- A word, and one part.
-  pub word_node : (own : ℕ) (w : Option ℕ) (p : ℕ) → node.level ≡ own → node.begins ≡ w → node.operands ≡ Nothing → node.parts ≡ Some 1 → node.first ≡ p → node.ends ≡ None
+  pub word_node : (own : ℕ) (w : Option Kind) (p : ℕ) → node.level ≡ own → node.begins ≡ w → node.operands ≡ Nothing → node.parts ≡ Some 1 → node.first ≡ p → node.ends ≡ None
       → within ws f at what node ≡ record { inks = (bracket own what 6 ++ (optional w ++ [])) ++ (((f (at + 1) p).inks ++ []) ++ bracket own what 7); end = (f (at + 1) p).end }
-  unfolding within front behind parts count_of head_of optional leaf
+  unfolding within front behind parts count_of head_of optional leaf number_of
   word_node own w p c d e g h i = rw (c, d, e, g, h, i, ahead_is ws at 1 b)
 
   -- As many parts as the next word says.
-  pub many_node : (w : Option ℕ) (p : ℕ) (c : Option ℕ) (n : ℕ) → node.level ≡ 7 → what % 8 ≤ 7 → node.begins ≡ w → node.operands ≡ Nothing → node.parts ≡ None → node.first ≡ p
-      → node.others ≡ p → node.between ≡ Some 5 → node.ends ≡ c → bits_at ws at 1 ≡ n → n < 256
-      → within ws f at what node ≡ record { inks = (optional w ++ []) ++ ((parts f p (Some 5) n (at + 2) p None).inks ++ (optional c ++ [])); end = (parts f p (Some 5) n (at + 2) p None).end }
+  pub many_node : (w : Option Kind) (p : ℕ) (c : Option Kind) (n : ℕ) → node.level ≡ 7 → what % 8 ≤ 7 → node.begins ≡ w → node.operands ≡ Nothing → node.parts ≡ None → node.first ≡ p
+      → node.others ≡ p → node.between ≡ Some Comma → node.ends ≡ c → bits_at ws at 1 ≡ n → n < 256
+      → within ws f at what node ≡ record { inks = (optional w ++ []) ++ ((parts f p (Some Comma) n (at + 2) p None).inks ++ (optional c ++ [])); end = (parts f p (Some Comma) n (at + 2) p None).end }
   unfolding within front behind count_of head_of leaf
   many_node w p c n h l i j k m o q r s t = let e : n % 256 ≡ n = omega arith in rw (h, i, j, k, m, o, q, r, no_bracket 7 what 6 l, no_bracket 7 what 7 l, s, e, ahead_is ws at 2 b)
