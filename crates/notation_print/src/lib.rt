@@ -36,16 +36,6 @@ pub enum Kind {
     Number,
 }
 
-impl Kind {
-    // The token's number, by which the tables count.
-    #[tactic(auto, unfolding(crate::specs::Kinds::number_of))]
-    pub fn number(self) -> u32
-        ensures { result ≡ number_of self }
-    {
-        self as u32
-    }
-}
-
 // What the last token asks of the next: to stand at it, a space, a space (and it was a name), or a space but before a number.
 #[derive(Clone, Copy, PartialEq, Eq)]
 pub enum Asks {
@@ -85,7 +75,7 @@ const MARKS: [&[u8]; 21] = [
 fn mark_of(kind: Kind) -> &'static [u8]
     ensures { result.now ≡ mark_of (number_of kind) }
 {
-    MARKS[kind.number() as usize % MARKS.len()]
+    MARKS[kind as usize % MARKS.len()]
 }
 
 // A variable's letter.

@@ -23,14 +23,7 @@ pub enum Cause {
 }
 
 impl Cause {
-    // The number that the tables have for it.
-    #[tactic(auto, unfolding(crate::specs::Read::number_of))]
-    fn number(self) -> u32
-        ensures { result ≡ number_of self }
-    {
-        self as u32
-    }
-
+    // The cause that the tables have a number for.
     #[tactic(auto, unfolding(crate::specs::Read::numbered))]
     fn numbered(number: u32) -> Cause
         ensures { result ≡ numbered number }
@@ -81,7 +74,7 @@ impl Named {
         ensures { result ≡ record { kind = 24 + number_of cause; value = 0 } }
     {
         Named {
-            kind: WRONG + cause.number(),
+            kind: WRONG + cause as u32,
             value: 0,
         }
     }
@@ -118,7 +111,7 @@ impl Names {
     }
 
     // The variable that has this name.
-    #[tactic(auto, using(notation_scan::proofs::Laws::same_is), unfolding(crate::specs::Read::found))]
+    #[tactic(auto, using(notation_scan::proofs::Laws::same_is, crate::proofs::Laws::find_next), unfolding(crate::specs::Read::found))]
     fn find(&self, text: &[u8], w: &[u8]) -> Option<usize>
         ensures { result ≡ found text.now self.now.spans self.now.count w.now }
     {
@@ -199,7 +192,7 @@ fn bound_by(text: &[u8], t: Token, w: &[u8]) -> bool
 }
 
 // Whether a name is bound from an index on. A text has no more tokens than characters.
-#[tactic(auto, unfolding(crate::specs::Read::bound_later))]
+#[tactic(auto, using(crate::proofs::Laws::later_next), unfolding(crate::specs::Read::bound_later))]
 fn bound_later(text: &[u8], from: usize, w: &[u8]) -> bool
     ensures { result ≡ bound_later text.now w.now (length text.now) from }
 {
@@ -323,6 +316,7 @@ fn unreadable(text: &[u8], fault: Fault) -> Refusal
 
 // Reads a rule's text. The words of its units, if it has any, of its matcher and of its pattern go to the slice, as far as it reaches, one behind the
 // other. A refusal writes nothing.
+#[tactic(auto, using(crate::proofs::Laws::rule_long, crate::proofs::Laws::rule_refused, crate::proofs::Laws::rule_read))]
 pub fn read_rule(text: &[u8], words: &mut [i32]) -> Result<Parts, Refusal>
     ensures { told result words.new ≡ reading text.now words.old }
 {

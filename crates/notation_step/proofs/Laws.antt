@@ -63,6 +63,8 @@ pub insert_start : (ws : List ℤ) (len at u : ℕ) (c : ℤ) → c ≡ to_z w32
 unfolding inserted
 insert_start ws len at u c e g = ap (λ z. take at ws ++ shifted len at z (drop at ws)) (to_z-of_z {w = w32} {z = c} g ∙ e)
 
+pub ruleset insert_rules = (insert_start, insert_stop, insert_next, insert_end)
+
 shifted_kept : (len j : ℕ) (c : ℤ) (xs : List ℤ) → length (shifted len j c xs) ≡ length xs
 unfolding shifted
 shifted_kept len j c [] = refl

@@ -283,6 +283,7 @@ impl Action {
 }
 
 // Puts the word of these bits before the words from an index on, of so many. What does not fit is lost.
+#[tactic(auto, using(crate::proofs::Laws::insert_rules))]
 fn insert(words: &mut [i32], len: usize, at: usize, u: u32)
     ensures { words.new ≡ inserted words.old len at (to_z w32 u) }
 {

@@ -239,6 +239,7 @@ const LARGEST: u32 = i32::MAX as u32;
 // As many parts as the next word says, modulo COUNTS.
 const COUNTS: u32 = 256;
 
+#[tactic(auto, using(crate::proofs::Laws::node_at))]
 fn node_of(what: u32, tag: u32) -> &'static Node
     ensures { result.now ≡ node_of what tag }
 {
