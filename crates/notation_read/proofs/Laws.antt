@@ -161,6 +161,8 @@ module _ (cs : List ℕ) (i m at : ℕ) (q : m ≡ min at (length cs)) where
       go true e n = let l : at ≤ length cs = leb-true at (length cs) e in let z : i ≡ at = omega arith in ap (column cs) z
       go false e n = let l : length cs < at = leb-false at (length cs) e in sym (column_end cs i at (omega arith) (omega arith))
 
+pub ruleset place_rules = (line_first, column_first, line_more, line_still, column_again, column_more, line_at_end, column_at_end)
+
 -- ---- Names.
 pub find_next : (text : List ℕ) (spans : List Span) (k j : ℕ) (w name : List ℕ) → k ≡ suc j → name ≡ name_of text spans j → pointwise eqb name w ≡ false → found text spans k w ≡ found text spans j w
 unfolding found

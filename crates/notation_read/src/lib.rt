@@ -284,6 +284,7 @@ pub enum Refusal {
 }
 
 // The line and the column of a character, each from 1.
+#[tactic(auto, using(crate::proofs::Laws::place_rules))]
 fn place_of(text: &[u8], at: usize) -> (usize, usize)
     ensures line { result.0 ≡ line text.now at }
     ensures column { result.1 ≡ column text.now at }

@@ -239,7 +239,6 @@ const LARGEST: u32 = i32::MAX as u32;
 // As many parts as the next word says, modulo COUNTS.
 const COUNTS: u32 = 256;
 
-#[tactic(auto, using(crate::proofs::Laws::node_at))]
 fn node_of(what: u32, tag: u32) -> &'static Node
     ensures { result.now ≡ node_of what tag }
 {
@@ -421,6 +420,7 @@ fn put_units(ts: &[i32], pen: &mut Pen)
 }
 
 // A rule from its words, and its units where there are any.
+#[tactic(auto, using(crate::proofs::Laws::rule_put), unfolding(notation_print::specs::Kinds::number_of))]
 fn put_rule(ms: &[i32], ps: &[i32], ts: &[i32], pen: &mut Pen)
     ensures { Puts pen.old pen.new (rule_inks ms.now ps.now ts.now) }
 {
