@@ -386,6 +386,7 @@ fn put_back(what: u32, node: &Node, pen: &mut Pen)
 }
 
 // What stands at an index, written, and the index behind it; so many may stand one inside the other.
+#[tactic(auto, using(crate::proofs::Laws::written_nothing, crate::proofs::Laws::written_nowhere, crate::proofs::Laws::parts_none_end, crate::proofs::Laws::written_ends))]
 pub fn write(ws: &[i32], at: usize, what: u32, depth: u32, pen: &mut Pen) -> usize
     ensures drawn { Puts pen.old pen.new (written ws.now depth at what).inks }
     ensures end { result ≡ (written ws.now depth at what).end }

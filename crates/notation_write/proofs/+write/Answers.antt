@@ -1,14 +1,8 @@
 -- `notation_write::write`, which calls itself, meets its contract. The depth falls at each call.
-use Rattle.std.proofs.Common.{◌≡◌, suc, ◌-◌, ◌+◌, refl, ◌∙◌, arith}
+use Rattle.std.proofs.Common.{◌≡◌, suc, ◌-◌, ◌+◌, ◌∙◌, arith}
 use Rattle.notation_print.specs.Pens.{sheet_of}
-use Rattle.notation_write.proofs.Laws.{parts_next, parts_next_end, parts_none, parts_none_end, written_nothing, written_nowhere, written_drawn, written_ends}
+use Rattle.notation_write.proofs.Laws.{parts_next, parts_next_end, parts_none, written_drawn}
 use Rattle.notation_write.proofs.«+write».Goals as goal
-
-pub returns-then-depth-eq0-clause-drawn : goal.returns-then-depth-eq0-clause-drawn
-returns-then-depth-eq0-clause-drawn t c = (refl, written_nothing c.args.ws.now c.args.depth c.args.at c.args.what c.if-depth-eq0.true (sheet_of c.args.pen.now))
-
-pub returns-then-depth-eq0-clause-end : goal.returns-then-depth-eq0-clause-end
-returns-then-depth-eq0-clause-end t c = written_nowhere c.args.ws.now c.args.depth c.args.at c.args.what c.if-depth-eq0.true
 
 pub loop-preserved : goal.loop-preserved
 loop-preserved t c =
@@ -37,14 +31,3 @@ returns-clause-drawn t c =
           c.count-end.ensures c.head.ensures.value c.ahead-next.ensures (sheet_of c.args.pen.now) (sheet_of c.put_front.new.pen) (sheet_of l.pen) (sheet_of c.put_back.new.pen)
           c.put_front.ensures.1 parts c.put_back.ensures.1,
     )
-
-pub returns-clause-end : goal.returns-clause-end
-returns-clause-end t c =
-    let l = c.loop in
-    let node = c.node_of-node.result.now in
-    let n = c.count-end.result in
-    let none : n - l.counter ≡ 0 = omega arith in
-    let deep : c.args.depth ≡ suc (c.args.depth - 1) = omega (arith, c.if-depth-eq0.false) in
-    written_ends c.args.ws.now c.args.depth (c.args.depth - 1) c.args.at c.args.what n c.head.result c.ahead-next.result c.tag_at.result node deep c.tag_at.ensures c.node_of-node.ensures
-    c.count-end.ensures c.head.ensures.value c.ahead-next.ensures l.next
-    (parts_none_end c.args.ws.now (c.args.depth - 1) node.others node.between (n - l.counter) l.next l.part l.between _ none l.invariant.ends)
