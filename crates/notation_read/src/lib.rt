@@ -23,7 +23,7 @@ pub enum Cause {
 }
 
 impl Cause {
-    // The cause that the tables have a number for.
+    // The cause of a number that the automaton tells.
     #[tactic(auto, unfolding(crate::specs::Read::numbered))]
     fn numbered(number: u32) -> Cause
         ensures { result ≡ numbered number }
@@ -60,7 +60,8 @@ pub struct Names {
     pub count: usize,
 }
 
-// A token's number, and what it counts: a name counts as its variable.
+// A token's number, and what it counts: a name counts as its variable. The kind is a number, since the table `actions` of notation_step's specs has a column
+// for each, and one that is refused has its cause's number more.
 #[derive(Clone, Copy)]
 pub struct Named {
     pub kind: u32,

@@ -10,7 +10,8 @@ ghost use Rattle.notation_step.specs.Stepped.{nothing, first, inserted, puts, on
 use std::mem;
 
 // Where the automaton stands: the place; how many wait; the words so far, and where those of what was read last begin; where the matcher's and the
-// pattern's begin; and why the text is refused, 0 where it is not.
+// pattern's begin; and why the text is refused, 0 where it is not. Places and causes are numbers, and how many wait stands here, since the tables `rows` and
+// `ends` of the specs count so, and `At`, `Follows` and `Finished` of notation_grammar, on which the theorem `simulates` rests, speak of these fields.
 #[derive(Clone, Copy)]
 pub struct Stand {
     pub place: u32,
@@ -92,7 +93,7 @@ const NOTHING: Waiting = Waiting {
 
 type Stack = [Waiting; 16384];
 
-// The automaton: what waits, and where it stands.
+// The automaton: what waits, in fixed memory since the library has no heap, and where it stands.
 #[derive(Drop)]
 pub struct Automaton {
     pub stack: Stack,
@@ -103,8 +104,7 @@ const ROUND: usize = 0;
 
 const SQUARE: usize = 8;
 
-// The places. Three more rows of the table are places inside a bracket: 2 after a `[`, 5 and 6, 10, 21 after a part. Places and causes are numbers, since
-// the tables of the specs (`rows`, `ends`) count by them, and `At`, `Follows` and `Finished` of notation_grammar, on which `simulates` rests, speak of them.
+// The places. Three more rows of the table are places inside a bracket: 2 after a `[`, 5 and 6, 10, 21 after a part.
 const START: u32 = 0;
 
 const MATCHER_READ: u32 = 9;
@@ -205,12 +205,13 @@ enum Numeral {
     Variable,
 }
 
-// What a place does with a token, in the bits of the table's entry: numbers, since theorems of notation_grammar speak of the entries.
+// What a place does with a token, in the bits of the table's entry: a number, since `actions` of the specs holds it so and lemmas of notation_grammar, as
+// `acted`, speak of the entries.
 #[derive(Clone, Copy)]
 struct Action(u32);
 
 impl Action {
-    // None: the token cannot stand here.
+    // What the token does; None: it cannot stand here.
     #[tactic(auto, unfolding(crate::specs::Stepped::deed_of))]
     fn deed(self) -> Option<Deed>
         ensures { result ≡ deed_of (self.0 % 8) }
@@ -232,7 +233,7 @@ impl Action {
         self.0 / 8 % 32
     }
 
-    // The tag of the words.
+    // The tag that begins the words, where there is one.
     #[tactic(auto, unfolding(crate::specs::Stepped::one_lower))]
     fn tag(self) -> Option<u32>
         ensures { result ≡ one_lower (tag_bits self.0) }
@@ -240,14 +241,14 @@ impl Action {
         (self.0 / 256 % 16).checked_sub(1)
     }
 
-    // The tag of what ends or is a sign.
+    // The tag of a sign, or of a bracket that ends.
     fn own_tag(self) -> u32
         ensures { result ≡ tag_word self.0 }
     {
         (self.0 / 256 + 15) % 16
     }
 
-    // The number that follows.
+    // The number that follows the tag, where one does.
     #[tactic(auto, unfolding(crate::specs::Stepped::mode_of))]
     fn numeral(self) -> Option<Numeral>
         ensures { mode_of result ≡ mode_bits self.0 }
@@ -260,7 +261,7 @@ impl Action {
         }
     }
 
-    // A 0, where one follows.
+    // The 0 behind it, where one follows.
     #[tactic(auto, unfolding(crate::specs::Stepped::zero_of))]
     fn zero(self) -> Option<u32>
         ensures { result ≡ zero_of self.0 }
@@ -272,7 +273,7 @@ impl Action {
         }
     }
 
-    // How tight it is that waits then.
+    // How tight what waits then is, where something does.
     #[tactic(auto, unfolding(crate::specs::Stepped::one_lower))]
     fn waits(self) -> Option<usize>
         ensures { result ≡ one_lower (self.0 / 32768 % 16) }
@@ -414,13 +415,6 @@ fn too_large(numeral: Option<Numeral>, value: u64) -> bool
     }
 }
 
-// The one that waits last.
-fn below(top: usize) -> usize
-    ensures { result ≡ top - 1 }
-{
-    top.saturating_sub(1)
-}
-
 // A tag and the number of its parts before the words from an index on, where there are any.
 #[tactic(auto, unfolding(crate::specs::Stepped::heading))]
 fn put_head(words: &mut [i32], len: usize, start: usize, bare: bool, tag: u32, parts: u32) -> usize
@@ -502,7 +496,7 @@ impl Turn<'_> {
         ensures closed { view result self.new.stack.now self.new.words.now ≡ closing self.old.stack.now self.old.words.now self.old.stand a.0 more }
     {
         let s = self.stand;
-        let j = below(s.top);
+        let j = s.top.saturating_sub(1);
         let last = waiting_at(self.stack, j);
         let bare = last.is_bare();
         let parts = (last.parts % 1048576) as u32 + more;
@@ -525,7 +519,7 @@ impl Turn<'_> {
         ensures continued { view result self.new.stack.now self.new.words.now ≡ view (comma_stand self.old.stack.now self.old.stand a.0) (comma_stack self.old.stack.now self.old.stand) self.old.words.now }
     {
         let s = self.stand;
-        let j = below(s.top);
+        let j = s.top.saturating_sub(1);
         let last = waiting_at(self.stack, j);
         if last.is_crowded() {
             return s.refused(OVER_LIMIT);
