@@ -90,7 +90,7 @@ pub fn take_round(
     }
 }
 
-// Rounds while states remain: 7 comes before 21, "also where the budget ends with a round".
+// Rounds while states remain: 7 comes before 21, "also where the budget ends with a round". Along no range: each round says how many remain.
 pub fn rounds(
     first: Round,
     limit: usize,

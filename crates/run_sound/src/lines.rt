@@ -54,7 +54,7 @@ fn is_end(lines: &Lines, j: usize) -> bool
     op_at(lines, j) == END
 }
 
-// The lines up to the end, and the last one, which stands for all after the end.
+// The lines up to the end, and the last one, which stands for all after the end. Along no range: the program's own end stops it.
 #[tactic(auto, using(crate::proofs::Runs::lines_rules))]
 pub fn are_lines(s: &[i32], lines: &Lines, slots: &Slots) -> bool
     requires numbered { Numbered (columns_of lines.now).arg slots.now }

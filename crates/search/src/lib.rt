@@ -50,7 +50,8 @@ pub struct Progress {
     pub binds: Bindings,
 }
 
-// The run, from where it is: states are taken up while the budget lasts, and the next choice is taken wherever no state stands.
+// The run, from where it is: states are taken up while the budget lasts, and the next choice is taken wherever no state stands. Along no range: each state
+// says whether another one stands.
 pub fn advance(
     from: Progress,
     terms: Terms,

@@ -59,7 +59,7 @@ fn once(
     advance(from, one, mt, units, places, lines, slots, room)
 }
 
-// The search inside a not goes on while a frame is open.
+// The search inside a not goes on while a frame is open. Along no range: each state says whether another one stands.
 fn leave_not(
     first: State,
     given: [Binding; 16],
