@@ -1,18 +1,21 @@
 // A rule added.
-ghost use Rattle.std.specs.Prelude.{◌≡◌, ◌*◌, ◌≤◌, length};
+ghost use Rattle.std.specs.Prelude.{◌≡◌, ◌*◌, ◌≤◌, length, map};
 ghost use Rattle.book_rules.specs.Books.{dialect_for, proper, slot, add};
-ghost use Rattle.book_rules.specs.Bytes.{blocks_from, book_of};
+ghost use Rattle.book_rules.specs.Bytes.{book_of};
+ghost use Rattle.book_words.specs.Halves.{words_of};
 ghost use Rattle.book_blocks.specs.Faults.{answer_of};
 ghost use Rattle.book_blocks.specs.Heads.{rule_of};
 ghost use Rattle.book.specs.Testing.{found};
 ghost use Rattle.book.specs.Changes.{ChangeTold, block_in, used_in, own_refusal, added_at};
 
+use crate::lent::{first_blocks, put_block};
 use crate::testing::{find, is_taken, test};
 use crate::withdrawal::Changed;
 use book_blocks::BLOCK;
 use book_blocks::fault::Fault;
 use book_blocks::form::{DIALECT_VERSION, LONGEST, NO_BADGE, is_known, is_rule};
 use book_blocks::writing::{Entry, write_block};
+use book_words::Block;
 use words::dialect::{EVERY_PLACE, FIRST_PLACES};
 
 // Blocks past number 65,535 cannot be numbered.
@@ -23,7 +26,7 @@ fn slot(book: &[u8], used: usize) -> Option<usize>
     requires { 512 * used ≤ length book.now }
     ensures { result ≡ found (slot (book_of book.now used)) }
 {
-    if let Some(k) = find(book, used, NO_BADGE) {
+    if let Some(k) = find(first_blocks(book, used), NO_BADGE) {
         return Some(k);
     }
     if used < book.len() / BLOCK && used < NUMBERS {
@@ -59,9 +62,8 @@ fn is_proper(e: Entry) -> bool
 }
 
 // 14 and 15 of an add, then 16 and 18.
-fn own_refusal(book: &[u8], used: usize, e: Entry) -> Result<(), Fault>
-    requires { 512 * used ≤ length book.now }
-    ensures { answer_of result ≡ own_refusal (rule_of e.entry) (blocks_from book.now 0 used) }
+fn own_refusal(blocks: &[Block], e: Entry) -> Result<(), Fault>
+    ensures { answer_of result ≡ own_refusal (rule_of e.entry) (map words_of blocks.now) }
 {
     if !is_known(e.version) {
         return Err(Fault::Version);
@@ -69,7 +71,7 @@ fn own_refusal(book: &[u8], used: usize, e: Entry) -> Result<(), Fault>
     if !is_proper(e) {
         return Err(Fault::Form);
     }
-    if is_taken(book, used, e.badge) {
+    if is_taken(blocks, e.badge) {
         return Err(Fault::Live);
     }
     if LONGEST < e.matcher.len() + e.pattern.len() {
@@ -83,9 +85,11 @@ pub fn add(book: &mut [u8], used: usize, e: Entry) -> Result<Changed, Fault>
     ensures { ChangeTold (add (rule_of e.entry) (book_of book.old used)) (added_at (rule_of e.entry) (book_of book.old used)) (answer_of result) (block_in result) (used_in result used) book.old book.new }
 {
     test(book, used)?;
-    own_refusal(book, used, e)?;
+    own_refusal(first_blocks(book, used), e)?;
     let block = slot(book, used).ok_or(Fault::NoBlock)?;
-    write_block(book, block, e);
+    let mut bytes = [0; BLOCK];
+    write_block(&mut bytes, block as u16, e);
+    put_block(book, block, &bytes);
     Ok(Changed {
         block,
         used: used.max(block + 1),

@@ -3,6 +3,7 @@
 #![tactic(auto)]
 
 pub mod adding;
+mod lent;
 pub mod lookup;
 pub mod testing;
 pub mod totals;

@@ -1,26 +1,28 @@
 // Rules read: a live rule by its badge, and one block by itself.
-ghost use Rattle.std.specs.Prelude.{◌≡◌, ◌*◌, ◌≤◌, length};
+ghost use Rattle.std.specs.Prelude.{◌≡◌, ◌≤◌, length, map};
 ghost use Rattle.book_rules.specs.Blocks.{holds};
 ghost use Rattle.book_rules.specs.Books.{place, read};
-ghost use Rattle.book_rules.specs.Bytes.{blocks_from, book_of};
+ghost use Rattle.book_rules.specs.Bytes.{book_of};
+ghost use Rattle.book_words.specs.Halves.{words_of};
 ghost use Rattle.book.specs.Testing.{found};
 ghost use Rattle.book.specs.Lookup.{RuleTold, BlockTold};
 
+use crate::lent::{block_of, first_blocks};
 use crate::testing::{find, test};
 use book_blocks::BLOCK;
 use book_blocks::fault::Fault;
 use book_blocks::form::{NO_BADGE, badge_of, own_fault};
 use book_blocks::reading::{Head, read_block};
+use book_words::Block;
 
-// The block of n that holds a live badge; 0 is none's.
-pub fn live_at(book: &[u8], n: usize, badge: u16) -> Option<usize>
-    requires { 512 * n ≤ length book.now }
-    ensures { result ≡ found (place (holds badge) (blocks_from book.now 0 n)) }
+// The block that holds a live badge; 0 is none's.
+pub fn live_at(blocks: &[Block], badge: u16) -> Option<usize>
+    ensures { result ≡ found (place (holds badge) (map words_of blocks.now)) }
 {
     if badge == NO_BADGE {
         return None;
     }
-    find(book, n, badge)
+    find(blocks, badge)
 }
 
 // A live rule by its badge, its words to the start of a lent slice.
@@ -29,8 +31,8 @@ pub fn read(book: &[u8], used: usize, badge: u16, words: &mut [i32]) -> Result<O
     ensures { RuleTold (read badge (book_of book.now used)) result words.old words.new }
 {
     test(book, used)?;
-    match live_at(book, used, badge) {
-        Some(k) => Ok(Some(read_block(book, k, words))),
+    match live_at(first_blocks(book, used), badge) {
+        Some(k) => Ok(Some(read_block(block_of(book, k), words))),
         None => Ok(None),
     }
 }
@@ -43,18 +45,19 @@ pub struct Shown {
 }
 
 // A block by itself, whatever stands in the others, and none where it is withdrawn: a book that was tested is listed block by block.
-pub fn show(book: &[u8], block: usize, words: &mut [i32]) -> Result<Option<Shown>, Fault>
+pub fn show(book: &[u8], number: usize, words: &mut [i32]) -> Result<Option<Shown>, Fault>
     requires { 124 ≤ length words.old }
-    ensures { BlockTold book.now block result words.old words.new }
+    ensures { BlockTold book.now number result words.old words.new }
 {
-    if book.len() / BLOCK <= block {
+    if book.len() / BLOCK <= number {
         return Err(Fault::Number);
     }
-    own_fault(book, block)?;
-    let badge = badge_of(book, block);
+    let block = block_of(book, number);
+    own_fault(block, number)?;
+    let badge = badge_of(block);
     if badge == NO_BADGE {
         return Ok(None);
     }
-    let head = read_block(book, block, words);
+    let head = read_block(block, words);
     Ok(Some(Shown { badge, head }))
 }

@@ -1,32 +1,33 @@
 // The refusals 12 to 15 of a whole book, block by block, and the search for a badge.
-ghost use Rattle.std.specs.Prelude.{◌≡◌, ◌+◌, ◌*◌, ◌≤◌, length};
+ghost use Rattle.std.specs.Prelude.{◌≡◌, ◌+◌, ◌*◌, ◌≤◌, length, map};
 ghost use Rattle.book_rules.specs.Blocks.{taken, verdict};
 ghost use Rattle.book_rules.specs.Books.{place};
-ghost use Rattle.book_rules.specs.Bytes.{block_at, blocks_from, book_of};
+ghost use Rattle.book_rules.specs.Bytes.{block_at, book_of};
+ghost use Rattle.book_words.specs.Halves.{words_of};
 ghost use Rattle.book_blocks.specs.Faults.{answer_of};
 ghost use Rattle.book.specs.Testing.{bears, found, before, answer_in, passed_in, Answered};
 
+use crate::lent::{block_of, first_blocks};
 use book_blocks::BLOCK;
 use book_blocks::fault::Fault;
 use book_blocks::form::{NO_BADGE, badge_of, own_fault};
+use book_words::Block;
 
-// The first of n blocks that bears a badge number; 0 is that of a withdrawn one.
-pub fn find(book: &[u8], n: usize, badge: u16) -> Option<usize>
-    requires { 512 * n ≤ length book.now }
-    ensures { result ≡ found (place (bears badge) (blocks_from book.now 0 n)) }
+// The first block that bears a badge number; 0 is that of a withdrawn one.
+pub fn find(blocks: &[Block], badge: u16) -> Option<usize>
+    ensures { result ≡ found (place (bears badge) (map words_of blocks.now)) }
 {
-    (0..n).find(|k| badge_of(book, *k) == badge)
+    blocks.iter().position(|block| badge_of(block) == badge)
 }
 
-// Whether a live rule of this badge stands in n blocks; 0 is none's.
-pub fn is_taken(book: &[u8], n: usize, badge: u16) -> bool
-    requires { 512 * n ≤ length book.now }
-    ensures { result ≡ taken badge (blocks_from book.now 0 n) }
+// Whether a live rule of this badge stands in the blocks; 0 is none's.
+pub fn is_taken(blocks: &[Block], badge: u16) -> bool
+    ensures { result ≡ taken badge (map words_of blocks.now) }
 {
     if badge == NO_BADGE {
         return false;
     }
-    find(book, n, badge).is_some()
+    find(blocks, badge).is_some()
 }
 
 // 12 to 15 of block k: a badge live twice is told at the second.
@@ -34,8 +35,9 @@ fn block_fault(book: &[u8], k: usize) -> Result<(), Fault>
     requires { 512 * k + 512 ≤ length book.now }
     ensures { answer_of result ≡ verdict k (before book.now k) (block_at book.now k) }
 {
-    own_fault(book, k)?;
-    if is_taken(book, k, badge_of(book, k)) {
+    let own = block_of(book, k);
+    own_fault(own, k)?;
+    if is_taken(first_blocks(book, k), badge_of(own)) {
         return Err(Fault::Form);
     }
     Ok(())

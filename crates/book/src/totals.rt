@@ -1,19 +1,24 @@
 // The number of live rules.
-ghost use Rattle.std.specs.Prelude.{◌≡◌, ◌*◌, ◌≤◌, length};
+ghost use Rattle.std.specs.Prelude.{◌≡◌, map};
 ghost use Rattle.book_rules.specs.Books.{live, total};
-ghost use Rattle.book_rules.specs.Bytes.{blocks_from, book_of};
+ghost use Rattle.book_rules.specs.Bytes.{book_of};
+ghost use Rattle.book_words.specs.Halves.{words_of};
 ghost use Rattle.book_blocks.specs.Faults.{answer_of};
 ghost use Rattle.book.specs.Totals.{total_told, number_in};
 
+use crate::lent::first_blocks;
 use crate::testing::test;
 use book_blocks::fault::Fault;
 use book_blocks::form::{NO_BADGE, badge_of};
+use book_words::Block;
 
-fn live(book: &[u8], n: usize) -> usize
-    requires { 512 * n ≤ length book.now }
-    ensures { result ≡ live (blocks_from book.now 0 n) }
+fn live(blocks: &[Block]) -> usize
+    ensures { result ≡ live (map words_of blocks.now) }
 {
-    (0..n).filter(|k| badge_of(book, *k) != NO_BADGE).count()
+    blocks
+        .iter()
+        .filter(|block| badge_of(block) != NO_BADGE)
+        .count()
 }
 
 // The total, for every lent bytes and every number of blocks in use.
@@ -21,5 +26,5 @@ pub fn total(book: &[u8], used: usize) -> Result<usize, Fault>
     ensures { total_told (answer_of result) (number_in result) (book_of book.now used) ≡ total (book_of book.now used) }
 {
     test(book, used)?;
-    Ok(live(book, used))
+    Ok(live(first_blocks(book, used)))
 }

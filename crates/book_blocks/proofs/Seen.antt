@@ -12,10 +12,11 @@ use Rattle.book_rules.specs.Sums.{word, and_also}
 use Rattle.book_rules.specs.Blocks.{zeros, signed, joined}
 use Rattle.book_rules.specs.Bytes.{word_at, words_from}
 use Rattle.book_rules.specs.Views.{word_of}
+use Rattle.book_words.specs.Halves.{words_of}
 
--- Word i of the block at a byte's index stands 2 i bytes on; m is that index as the code has it.
-pub word_seen : (s : List ℕ) (at i m : ℕ) → i < 256 → at + 2 * i ≡ m → word (words_from s at 256) i ≡ word_at s m
-word_seen s at i m h e = word_of s at 256 i h ∙ ap (λ (j : ℕ). word_at s j) e
+-- Word i of a block stands 2 i bytes on.
+pub word_seen : (s : List ℕ) (i : ℕ) → i < 256 → word (words_of s) i ≡ word_at s (2 * i)
+word_seen s i h = let e : 0 + 2 * i ≡ 2 * i = omega arith in word_of s 0 256 i h ∙ ap (λ (j : ℕ). word_at s j) e
 
 drop_words : (s : List ℕ) (at n j : ℕ) → j ≤ n → drop j (words_from s at n) ≡ words_from s (at + 2 * j) (n - j)
 unfolding words_from
@@ -33,11 +34,11 @@ zeros_front s at (suc n) d =
     let a : suc n + d ≡ suc (n + d) = omega arith in
     ap (λ (m : ℕ). zeros (suc n) (words_from s at m)) a ∙ ap (λ (t : Bool). and_also (eqb (word_at s at) 0) t) (zeros_front s (2 + at) n d)
 
--- n words from word j on, whatever follows them.
-pub zeros_seen : (s : List ℕ) (at j n m : ℕ) → j + n ≤ 256 → at + 2 * j ≡ m → zeros n (drop j (words_from s at 256)) ≡ zeros n (words_from s m n)
-zeros_seen s at j n m h e =
+-- n words from word j on, whatever follows them; m is its byte as the code has it.
+pub zeros_seen : (s : List ℕ) (j n m : ℕ) → j + n ≤ 256 → 0 + 2 * j ≡ m → zeros n (drop j (words_of s)) ≡ zeros n (words_from s m n)
+zeros_seen s j n m h e =
     let a : 256 - j ≡ n + (256 - j - n) = omega arith in
-    ap (zeros n) (drop_words s at 256 j (omega arith)) ∙ ap₂ (λ (i l : ℕ). zeros n (words_from s i l)) e a ∙ zeros_front s m n (256 - j - n)
+    ap (zeros n) (drop_words s 0 256 j (omega arith)) ∙ ap₂ (λ (i l : ℕ). zeros n (words_from s i l)) e a ∙ zeros_front s m n (256 - j - n)
 
 joined_front : (s : List ℕ) (at n d : ℕ) → joined n (words_from s at (2 * n + d)) ≡ joined n (words_from s at (2 * n))
 unfolding joined words_from
@@ -49,11 +50,10 @@ joined_front s at (suc n) d =
     ∙ ap (λ (zs : List ℤ). signed (word_at s at + 65536 * word_at s (2 + at)) ∷ zs) (joined_front s (2 + (2 + at)) n d)
     ∙ ap (λ (m : ℕ). joined (suc n) (words_from s at m)) b
 
-pub joined_seen : (s : List ℕ) (at n m : ℕ) → n ≤ 124 → at + 10 ≡ m → joined n (drop 5 (words_from s at 256)) ≡ joined n (words_from s m (2 * n))
-joined_seen s at n m h e =
+pub joined_seen : (s : List ℕ) (n : ℕ) → n ≤ 124 → joined n (drop 5 (words_of s)) ≡ joined n (words_from s 10 (2 * n))
+joined_seen s n h =
     let a : 251 ≡ 2 * n + (251 - 2 * n) = omega arith in
-    let b : at + 2 * 5 ≡ m = omega arith in
-    ap (joined n) (drop_words s at 256 5 (omega arith)) ∙ ap₂ (λ (i l : ℕ). joined n (words_from s i l)) b a ∙ joined_front s m n (251 - 2 * n)
+    ap (joined n) (drop_words s 0 256 5 (omega arith)) ∙ ap (λ (l : ℕ). joined n (words_from s 10 l)) a ∙ joined_front s 10 n (251 - 2 * n)
 
 pub length_joined : (s : List ℕ) (at n : ℕ) → length (joined n (words_from s at (2 * n))) ≡ n
 unfolding joined words_from

@@ -1,16 +1,18 @@
-// The refusals 12 to 15 of one block by itself. A block begins at a byte's index; its words stand two bytes apart.
+// The refusals 12 to 15 of one block by itself. Its words stand two bytes apart.
 ghost use Rattle.std.specs.Prelude.{◌≡◌, [], ◌+◌, ◌-◌, ◌*◌, ◌≤◌, length, take, drop};
 ghost use Rattle.rules.specs.Services.{rule_in};
 ghost use Rattle.words.specs.Dialects.{dialect_by};
 ghost use Rattle.book_rules.specs.Blocks.{joined, length_in, dialect_in, known, is_accepted, is_rule, live_formed, formed, badge_of, verdict};
-ghost use Rattle.book_rules.specs.Bytes.{words_from, block_at};
+ghost use Rattle.book_rules.specs.Bytes.{words_from};
+ghost use Rattle.book_words.specs.Halves.{words_of};
 ghost use Rattle.book_blocks.specs.Faults.{answer_of};
 
 use crate::fault::Fault;
 use crate::{
-    BADGE_AT, BLOCK, DIALECT_BIT, FOURTH_AT, FROM_LENGTH, FROM_RULE, LENGTH_AT, RULE_AT, VERSION_AT,
+    BADGE_AT, DIALECT_BIT, FOURTH_AT, FROM_LENGTH, FROM_RULE, LENGTH_AT, NUMBER_AT, RULE_AT,
+    VERSION_AT,
 };
-use book_words::{SIGNED_BYTES, are_zero, is_checked, read_words, word_at};
+use book_words::{Block, SIGNED_BYTES, are_zero, is_checked, read_words, word_at};
 use tests::rule_refused_in;
 use words::dialect::{EVERY_PLACE, FIRST_PLACES};
 
@@ -85,75 +87,73 @@ fn is_rule_in(dialect: u32, words: &[i32], m: usize, n: usize) -> bool
     is_rule(dialect, &words[..m], &words[m..n])
 }
 
-// The same of n signed words in lent bytes.
-fn is_rule_at(dialect: u32, s: &[u8], at: usize, m: usize, n: usize) -> bool
+// The same of the n signed words from a block's word 5 on.
+fn is_rule_at(dialect: u32, block: &Block, m: usize, n: usize) -> bool
     requires matcher_in_rule { m ≤ n }
     requires at_most_longest { n ≤ 124 }
-    requires rule_in_bounds { at + 4 * n ≤ length s.now }
-    ensures { result ≡ is_rule dialect (take m (joined n (words_from s.now at (2 * n)))) (drop m (joined n (words_from s.now at (2 * n)))) }
+    ensures { result ≡ is_rule dialect (take m (joined n (words_from block.now 10 (2 * n)))) (drop m (joined n (words_from block.now 10 (2 * n)))) }
 {
     let mut words = [0i32; LONGEST];
-    read_words(s, at, n, &mut words);
+    read_words(block, RULE_AT, n, &mut words);
     is_rule_in(dialect, &words, m, n)
 }
 
 // The form of a live block: its lengths, its unused words, its rule.
-fn is_live_formed(s: &[u8], at: usize) -> bool
-    requires { at + 512 ≤ length s.now }
-    ensures { result ≡ live_formed (words_from s.now at 256) }
+#[tactic(auto, using(crate::proofs::form::Forms::live_rules))]
+fn is_live_formed(block: &Block) -> bool
+    ensures { result ≡ live_formed (words_of block.now) }
 {
-    let n = usize::from(word_at(s, at + LENGTH_AT));
+    let n = usize::from(word_at(block, LENGTH_AT));
     if LONGEST < n {
         return false;
     }
-    let version = word_at(s, at + VERSION_AT);
-    let fourth = word_at(s, at + FOURTH_AT);
+    let version = word_at(block, VERSION_AT);
+    let fourth = word_at(block, FOURTH_AT);
     let m = length_in(version, fourth);
     if n < m {
         return false;
     }
-    if !are_zero(s, at + RULE_AT + SIGNED_BYTES * n, FROM_RULE - 2 * n) {
+    if !are_zero(block, RULE_AT + SIGNED_BYTES * n, FROM_RULE - 2 * n) {
         return false;
     }
-    is_rule_at(dialect_in(version, fourth), s, at + RULE_AT, m, n)
+    is_rule_at(dialect_in(version, fourth), block, m, n)
 }
 
 // 15 of a block by itself; a withdrawn one is zero up to its check.
-fn is_formed(s: &[u8], at: usize) -> bool
-    requires { at + 512 ≤ length s.now }
-    ensures { result ≡ formed (words_from s.now at 256) }
+#[tactic(auto, using(crate::proofs::form::Forms::formed_withdrawn, crate::proofs::form::Forms::formed_live))]
+fn is_formed(block: &Block) -> bool
+    ensures { result ≡ formed (words_of block.now) }
 {
-    if word_at(s, at + BADGE_AT) == NO_BADGE {
-        return are_zero(s, at + LENGTH_AT, FROM_LENGTH);
+    if word_at(block, BADGE_AT) == NO_BADGE {
+        return are_zero(block, LENGTH_AT, FROM_LENGTH);
     }
-    is_live_formed(s, at)
+    is_live_formed(block)
 }
 
-// 12 to 15 of block k by itself, whatever stands before it.
-pub fn own_fault(s: &[u8], k: usize) -> Result<(), Fault>
-    requires { 512 * k + 512 ≤ length s.now }
-    ensures { answer_of result ≡ verdict k [] (block_at s.now k) }
+// 12 to 15 of a block by itself, whatever stands before it, as block k.
+#[tactic(auto, using(crate::proofs::form::Forms::verdict_rules))]
+pub fn own_fault(block: &Block, k: usize) -> Result<(), Fault>
+    ensures { answer_of result ≡ verdict k [] (words_of block.now) }
 {
-    let at = BLOCK * k;
-    if !is_checked(s, at) {
+    if !is_checked(block) {
         return Err(Fault::Check);
     }
-    if usize::from(word_at(s, at)) != k {
+    if usize::from(word_at(block, NUMBER_AT)) != k {
         return Err(Fault::Number);
     }
-    if !is_known(word_at(s, at + VERSION_AT)) {
+    if !is_known(word_at(block, VERSION_AT)) {
         return Err(Fault::Version);
     }
-    if !is_formed(s, at) {
+    if !is_formed(block) {
         return Err(Fault::Form);
     }
     Ok(())
 }
 
-// The badge number of block k: 0 where it is withdrawn.
-pub fn badge_of(s: &[u8], k: usize) -> u16
-    requires { 512 * k + 512 ≤ length s.now }
-    ensures { result ≡ badge_of (block_at s.now k) }
+// The badge number of a block: 0 where it is withdrawn.
+#[tactic(auto, using(crate::proofs::form::Forms::badge_seen))]
+pub fn badge_of(block: &Block) -> u16
+    ensures { result ≡ badge_of (words_of block.now) }
 {
-    word_at(s, BLOCK * k + BADGE_AT)
+    word_at(block, BADGE_AT)
 }

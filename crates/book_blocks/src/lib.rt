@@ -7,9 +7,11 @@ pub mod reading;
 pub mod writing;
 
 // A block's bytes.
-pub const BLOCK: usize = 512;
+pub const BLOCK: usize = book_words::BLOCK;
 
-// Where its words stand: 1 has the version, 2 the badge, 3 the rule's length, 4 the matcher's length and the dialect; then the rule.
+// Where its words stand: 0 has the block's number, 1 the version, 2 the badge, 3 the rule's length, 4 the matcher's length and the dialect; then the rule.
+pub(crate) const NUMBER_AT: usize = 0;
+
 pub(crate) const VERSION_AT: usize = 2;
 
 pub(crate) const BADGE_AT: usize = 4;

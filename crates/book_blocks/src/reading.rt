@@ -1,12 +1,12 @@
 // The rule of a live block.
-ghost use Rattle.std.specs.Prelude.{◌≡◌, true, ◌+◌, ◌*◌, ◌≤◌, length};
+ghost use Rattle.std.specs.Prelude.{◌≡◌, true, ◌≤◌, length};
 ghost use Rattle.book_rules.specs.Blocks.{live_formed, entry_of};
-ghost use Rattle.book_rules.specs.Bytes.{block_at};
+ghost use Rattle.book_words.specs.Halves.{words_of};
 ghost use Rattle.book_blocks.specs.Heads.{ReadAs};
 
 use crate::form::{dialect_in, length_in};
-use crate::{BLOCK, FOURTH_AT, LENGTH_AT, RULE_AT, VERSION_AT};
-use book_words::{read_words, word_at};
+use crate::{FOURTH_AT, LENGTH_AT, RULE_AT, VERSION_AT};
+use book_words::{Block, read_words, word_at};
 
 // What a block says of its rule: the last two are lengths.
 #[derive(Drop)]
@@ -18,18 +18,16 @@ pub struct Head {
 }
 
 // The rule of a live block, its words to the start of a lent slice.
-pub fn read_block(s: &[u8], k: usize, out: &mut [i32]) -> Head
-    requires block_in_bounds { 512 * k + 512 ≤ length s.now }
+pub fn read_block(block: &Block, out: &mut [i32]) -> Head
     requires room { 124 ≤ length out.old }
-    requires live { live_formed (block_at s.now k) ≡ true }
-    ensures { ReadAs (entry_of (block_at s.now k)) result.version result.dialect result.matcher result.pattern out.old out.new }
+    requires live { live_formed (words_of block.now) ≡ true }
+    ensures { ReadAs (entry_of (words_of block.now)) result.version result.dialect result.matcher result.pattern out.old out.new }
 {
-    let at = BLOCK * k;
-    let version = word_at(s, at + VERSION_AT);
-    let fourth = word_at(s, at + FOURTH_AT);
-    let n = usize::from(word_at(s, at + LENGTH_AT));
+    let version = word_at(block, VERSION_AT);
+    let fourth = word_at(block, FOURTH_AT);
+    let n = usize::from(word_at(block, LENGTH_AT));
     let m = length_in(version, fourth);
-    read_words(s, at + RULE_AT, n, out);
+    read_words(block, RULE_AT, n, out);
     Head {
         version,
         dialect: dialect_in(version, fourth),

@@ -17,7 +17,7 @@ use Rattle.book_rules.specs.Sums.{placed, due, said, checked, and_also}
 use Rattle.book_rules.specs.Blocks.{zeros, signed, joined}
 use Rattle.book_rules.specs.Bytes.{word_at, words_from}
 use Rattle.book_rules.specs.Views.{word_of}
-use Rattle.book_words.specs.Halves.{Placed, halves}
+use Rattle.book_words.specs.Halves.{Placed, halves, words_of}
 
 -- ---- A word.
 
@@ -45,54 +45,43 @@ one_placed : (s : List ℕ) (at p n m : ℕ) → placed p (suc n) (words_from s 
 unfolding placed words_from
 one_placed s at p n m = refl
 
-abbrev pub left : List ℕ → ℕ → ℕ → ℕ
-left s at i = placed (1 + i) (254 - i) (words_from s (at + 2 * i) (256 - i))
+-- What the words from the i-th on add to the sum.
+abbrev pub left : List ℕ → ℕ → ℕ
+left s i = placed (1 + i) (254 - i) (words_from s (2 * i) (256 - i))
 
-left_step : (s : List ℕ) (at i : ℕ) → i < 254 → left s at i ≡ (1 + i) * word_at s (at + 2 * i) + left s at (i + 1)
-left_step s at i h =
+left_step : (s : List ℕ) (i : ℕ) → i < 254 → left s i ≡ (1 + i) * word_at s (2 * i) + left s (i + 1)
+left_step s i h =
     let a : 254 - i ≡ suc (254 - (i + 1)) = omega arith in
     let b : 256 - i ≡ suc (256 - (i + 1)) = omega arith in
-    let c : 2 + (at + 2 * i) ≡ at + 2 * (i + 1) = omega arith in
+    let c : 2 + 2 * i ≡ 2 * (i + 1) = omega arith in
     let d : suc (1 + i) ≡ 1 + (i + 1) = omega arith in
-    ap₂ (λ (n m : ℕ). placed (1 + i) n (words_from s (at + 2 * i) m)) a b
-    ∙ one_placed s (at + 2 * i) (1 + i) (254 - (i + 1)) (256 - (i + 1))
-    ∙ ap₂ (λ (p j : ℕ). (1 + i) * word_at s (at + 2 * i) + placed p (254 - (i + 1)) (words_from s j (256 - (i + 1)))) d c
+    ap₂ (λ (n m : ℕ). placed (1 + i) n (words_from s (2 * i) m)) a b
+    ∙ one_placed s (2 * i) (1 + i) (254 - (i + 1)) (256 - (i + 1))
+    ∙ ap₂ (λ (p j : ℕ). (1 + i) * word_at s (2 * i) + placed p (254 - (i + 1)) (words_from s j (256 - (i + 1)))) d c
 
-module _ (s : List ℕ) (at i sum w x t : ℕ) where
-  pub sum_turn : sum + left s at i ≡ t → i < 254 → w ≡ word_at s (at + 2 * i) → Placed i w x → sum + x + left s at (i + 1) ≡ t
-  sum_turn e h k p = let q = left_step s at i h in let r : x ≡ (1 + i) * word_at s (at + 2 * i) = p.is ∙ ap (λ (y : ℕ). (1 + i) * y) k in turned (left s at i) (left s at (i + 1)) ((1 + i) * word_at s (at + 2 * i)) e q r
+module _ (s : List ℕ) (i sum w x t : ℕ) where
+  pub sum_turn : sum + left s i ≡ t → i < 254 → w ≡ word_at s (2 * i) → Placed i w x → sum + x + left s (i + 1) ≡ t
+  sum_turn e h k p = let q = left_step s i h in let r : x ≡ (1 + i) * word_at s (2 * i) = p.is ∙ ap (λ (y : ℕ). (1 + i) * y) k in turned (left s i) (left s (i + 1)) ((1 + i) * word_at s (2 * i)) e q r
     where
       turned : (l m y : ℕ) → sum + l ≡ t → l ≡ y + m → x ≡ y → sum + x + m ≡ t
       turned l m y e q r = omega arith
 
-pub sum_begins : (s : List ℕ) (at : ℕ) → 0 + left s at 0 ≡ placed 1 254 (words_from s at 256)
-sum_begins s at =
-    let a : at + 2 * 0 ≡ at = omega arith in
-    zero_add (left s at 0) ∙ ap (λ (j : ℕ). placed 1 254 (words_from s j 256)) a
-  where
-    zero_add : (n : ℕ) → 0 + n ≡ n
-    zero_add n = omega arith
-
-pub sum_due : (s : List ℕ) (at i sum : ℕ) → sum + left s at i ≡ placed 1 254 (words_from s at 256) → i ≤ 254 → 254 ≤ i → sum % 65537 ≡ due (words_from s at 256)
+pub sum_due : (s : List ℕ) (i sum : ℕ) → sum + left s i ≡ placed 1 254 (words_of s) → i ≤ 254 → 254 ≤ i → sum % 65537 ≡ due (words_of s)
 unfolding due placed
-sum_due s at i sum e h k =
+sum_due s i sum e h k =
     let a : 254 - i ≡ 0 = omega arith in
-    let b : left s at i ≡ 0 = ap (λ (n : ℕ). placed (1 + i) n (words_from s (at + 2 * i) (256 - i))) a in
-    ap (λ (n : ℕ). n % 65537) (whole (left s at i) b e)
+    let b : left s i ≡ 0 = ap (λ (n : ℕ). placed (1 + i) n (words_from s (2 * i) (256 - i))) a in
+    ap (λ (n : ℕ). n % 65537) (whole (left s i) b e)
   where
-    whole : (l : ℕ) → l ≡ 0 → sum + l ≡ placed 1 254 (words_from s at 256) → sum ≡ placed 1 254 (words_from s at 256)
+    whole : (l : ℕ) → l ≡ 0 → sum + l ≡ placed 1 254 (words_of s) → sum ≡ placed 1 254 (words_of s)
     whole l z e = omega arith
 
 -- ---- The check.
 
-pub check_is : (s : List ℕ) (at a b : ℕ) → a ≡ due (words_from s at 256) → b ≡ halves s (at + 508) → eqb a b ≡ checked (words_from s at 256)
+pub check_is : (s : List ℕ) (a b : ℕ) → a ≡ due (words_of s) → b ≡ halves s 508 → eqb a b ≡ checked (words_of s)
 unfolding checked said halves
-check_is s at a b e f =
-    let p : at + 2 * 254 ≡ at + 508 = omega arith in
-    let q : at + 2 * 255 ≡ at + 508 + 2 = omega arith in
-    ap₂ eqb e (f ∙ ap₂ (λ (x y : ℕ). x + 65536 * y)
-    (sym (word_of s at 256 254 (omega arith) ∙ ap (λ (j : ℕ). word_at s j) p))
-    (sym (word_of s at 256 255 (omega arith) ∙ ap (λ (j : ℕ). word_at s j) q)))
+check_is s a b e f =
+    ap₂ eqb e (f ∙ ap₂ (λ (x y : ℕ). x + 65536 * y) (sym (word_of s 0 256 254 (omega arith))) (sym (word_of s 0 256 255 (omega arith))))
 
 -- ---- Zeros.
 

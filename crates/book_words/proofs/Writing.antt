@@ -43,7 +43,7 @@ zero_bytes (suc n) =
     ap (λ (m : ℕ). replicate m 0) a ∙ ap (λ (l : List ℕ). 0 ∷ 0 ∷ l) (zero_bytes n)
 
 -- What a write of bytes to a part of the slice leaves.
-put_sets : (at k : ℕ) (s part bs : List ℕ) → part ≡ bs → k ≡ length bs → at + length bs ≤ length s → put_mid at k s part ≡ sets s at bs
+pub put_sets : (at k : ℕ) (s part bs : List ℕ) → part ≡ bs → k ≡ length bs → at + length bs ≤ length s → put_mid at k s part ≡ sets s at bs
 put_sets at k s part bs e f h =
     put_mid-paste at k s part bs (length bs) e (sym f) refl ∙ paste_all s at bs (length bs) refl
     ∙ sym (append_assoc (take at s) bs (drop (at + length bs) s)) ∙ sym (sets-eq bs s at h)

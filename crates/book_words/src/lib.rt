@@ -1,4 +1,4 @@
-// Document 02, No. 7: 16-bit words in lent bytes, low byte first: read, summed up and written. The words of a block begin at a byte's index.
+// Document 02, No. 7: 16-bit words in lent bytes, low byte first: read, summed up and written. The check is that of a whole block.
 #![tactic(auto)]
 
 ghost use Rattle.std.specs.Prelude.{◌≡◌, ◌∷◌, [], ◌+◌, ◌*◌, ◌/◌, ◌%◌, ◌<◌, ◌≤◌, length, replicate};
@@ -6,7 +6,12 @@ ghost use Rattle.std.proofs.lemmas.List.Edits.{sets};
 ghost use Rattle.book_rules.specs.Sums.{due, checked};
 ghost use Rattle.book_rules.specs.Blocks.{zeros, split, joined};
 ghost use Rattle.book_rules.specs.Bytes.{word_at, words_from, bytes_of};
-ghost use Rattle.book_words.specs.Halves.{Placed, halves};
+ghost use Rattle.book_words.specs.Halves.{Placed, halves, words_of};
+
+// A block's bytes.
+pub const BLOCK: usize = 512;
+
+pub type Block = [u8; BLOCK];
 
 // The bytes of a word, and of a signed word, which is two halves.
 pub const WORD_BYTES: usize = 2;
@@ -38,13 +43,12 @@ fn placed(i: usize, w: u16) -> u32
 }
 
 // What the check of a block must be.
-pub fn due(s: &[u8], at: usize) -> u32
-    requires { at + 512 ≤ length s.now }
-    ensures { result ≡ due (words_from s.now at 256) }
+pub fn due(block: &Block) -> u32
+    ensures { result ≡ due (words_of block.now) }
 {
     let mut sum: u32 = 0;
     for i in 0..SUMMED {
-        sum += placed(i, word_at(s, at + WORD_BYTES * i));
+        sum += placed(i, word_at(block, WORD_BYTES * i));
     }
     sum % MODULUS
 }
@@ -58,11 +62,10 @@ fn both_halves(s: &[u8], at: usize) -> u32
 }
 
 // Whether the check of a block holds.
-pub fn is_checked(s: &[u8], at: usize) -> bool
-    requires { at + 512 ≤ length s.now }
-    ensures { result ≡ checked (words_from s.now at 256) }
+pub fn is_checked(block: &Block) -> bool
+    ensures { result ≡ checked (words_of block.now) }
 {
-    due(s, at) == both_halves(s, at + SUMMED_BYTES)
+    due(block) == both_halves(block, SUMMED_BYTES)
 }
 
 // Whether n words are zero.
@@ -119,10 +122,9 @@ pub fn put_words(s: &mut [u8], at: usize, words: &[i32])
 }
 
 // The check of a block, behind its other words.
-pub fn seal(s: &mut [u8], at: usize)
-    requires { at + 512 ≤ length s.old }
-    ensures { s.new ≡ sets s.old (at + 508) (bytes_of (due (words_from s.old at 256) % 65536 ∷ due (words_from s.old at 256) / 65536 ∷ [])) }
+pub fn seal(block: &mut Block)
+    ensures { block.new ≡ sets block.old 508 (bytes_of (due (words_of block.old) % 65536 ∷ due (words_of block.old) / 65536 ∷ [])) }
 {
-    let c = due(s, at);
-    put_halves(s, at + SUMMED_BYTES, c);
+    let c = due(block);
+    put_halves(block, SUMMED_BYTES, c);
 }

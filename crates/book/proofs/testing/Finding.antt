@@ -4,9 +4,10 @@ use native.Mathlib.Omega.{arith}
 use mathlib.Core.Path.{◌≡◌, refl, sym, ap, ap₂, ◌∙◌}
 use mathlib.Core.Bool.{Bool, true, false, not, cond}
 use mathlib.Core.Option.{Option, none, some}
-use mathlib.Core.List.{List, [], ◌∷◌, ◌++◌}
-use lib.Dec.{eqb}
-use borrow.Author.Tests.{ne_eqb}
+use mathlib.Core.List.{List, [], ◌∷◌, ◌++◌, map}
+use lib.ListN.{length}
+use lib.Dec.{eqb, ltb}
+use borrow.Author.Tests.{ne_eqb, ltb-true, ltb-false, lt-ltb, le-ltb}
 use Rattle.book_rules.specs.Sums.{and_also}
 use Rattle.book_rules.specs.Blocks.{Block, badge_of, holds, taken}
 use Rattle.book_rules.specs.Books.{place}
@@ -16,54 +17,49 @@ use Rattle.book_rules.proofs.Walks.{taken_place, untaken_place}
 use Rattle.book.specs.Testing.{bears, found, before}
 use Rattle.std.specs.Prelude.{Some, None}
 use Rattle.std.specs.Prelude as code
-use Rattle.std.specs.List.{find, range_with_len}
-use Rattle.std.specs.Option.{is_some, option_map}
+use Rattle.std.specs.List.{position, position_or_len}
+use Rattle.std.specs.Option.{is_some}
+use Rattle.book_words.specs.Halves.{words_of}
 
 -- ---- Block after block.
 
-ahead : ℕ → Option ℕ → Option ℕ
-ahead k none = none
-ahead k (some i) = some (k + i)
+abbrev pub tested : ℕ → List ℕ → Bool
+tested x bytes = eqb (badge_of (words_of bytes)) x
+
+-- One place further, in the code and in the document's terms.
+up : code.Option ℕ → code.Option ℕ
+up None = None
+up (Some i) = Some (1 + i)
 
 next : Bool → Option ℕ → Option ℕ
 next t o = elim t [ true ↦ some 0 | false ↦ elim o [ none ↦ none | some i ↦ some (suc i) ] ]
 
-place_step : (s : List ℕ) (x k m : ℕ) → place (bears x) (blocks_from s k (suc m)) ≡ next (eqb (badge_of (block_at s k)) x) (place (bears x) (blocks_from s (suc k) m))
-unfolding place blocks_from bears next
-place_step s x k m = refl
+up_next : (o : Option ℕ) → up (found o) ≡ found (next false o)
+unfolding up found next
+up_next none = refl
+up_next (some i) = let e : 1 + i ≡ suc i = omega arith in ap Some e
 
-further : (k : ℕ) (o : Option ℕ) → ahead k (next false o) ≡ ahead (k + 1) o
-unfolding ahead next
-further k none = refl
-further k (some i) = let e : k + suc i ≡ k + 1 + i = omega arith in ap some e
+up_further : (a : ℕ) (t : Bool) → cond t (Some (1 + a)) None ≡ up (cond t (Some a) None)
+unfolding up
+up_further a true = refl
+up_further a false = refl
 
-abbrev pub tested : List ℕ → ℕ → ℕ → Bool
-tested s x k = eqb (badge_of (block_at s k)) x
+below : (a n : ℕ) (t : Bool) → ltb a n ≡ t → ltb (1 + a) (suc n) ≡ t
+below a n true e = let h = ltb-true a n e in lt-ltb (1 + a) (suc n) (omega arith)
+below a n false e = let h = ltb-false a n e in le-ltb (1 + a) (suc n) (omega arith)
 
--- The blocks from the k-th on, each tested.
-found_from : (s : List ℕ) (x n k : ℕ) → find (tested s x) (range_with_len k n) ≡ found (ahead k (place (bears x) (blocks_from s k n)))
-unfolding found ahead next place blocks_from
-found_from s x zero k = refl
-found_from s x (suc n) k =
-    let e : suc k ≡ k + 1 = omega arith in
-    by (find (tested s x) (range_with_len (k + 1) n)) (found_from s x n (k + 1)) (tested s x k)
-    ∙ sym (ap (λ (o : Option ℕ). found (ahead k o)) (place_step s x k n ∙ ap (λ (j : ℕ). next (tested s x k) (place (bears x) (blocks_from s j n))) e))
+-- The first of the blocks that passes the test.
+first_is : (x : ℕ) (bs : List (List ℕ)) → position (tested x) bs ≡ found (place (bears x) (map words_of bs))
+unfolding place bears found next
+first_is x [] = refl
+first_is x (b ∷ bs) = by (position_or_len (tested x) bs) (length bs) (place (bears x) (map words_of bs)) (first_is x bs) (tested x b)
   where
-    by : (o : code.Option ℕ) → o ≡ found (ahead (k + 1) (place (bears x) (blocks_from s (k + 1) n))) → (t : Bool) → cond t (Some k) o ≡ found (ahead k (next t (place (bears x) (blocks_from s (k + 1) n))))
-    by o h true = let z : k ≡ k + 0 = omega arith in ap Some z
-    by o h false = h ∙ ap found (sym (further k (place (bears x) (blocks_from s (k + 1) n))))
+    by : (a n : ℕ) (o : Option ℕ) → cond (ltb a n) (Some a) None ≡ found o → (t : Bool) → cond (ltb (cond (not t) (1 + a) 0) (suc n)) (Some (cond (not t) (1 + a) 0)) None ≡ found (next t o)
+    by a n o h true = ap (λ (t : Bool). cond t (Some 0) None) (lt-ltb 0 (suc n) (omega arith))
+    by a n o h false = ap (λ (t : Bool). cond t (Some (1 + a)) None) (below a n (ltb a n) refl) ∙ up_further a (ltb a n) ∙ ap up h ∙ up_next o
 
-ahead_none : (o : Option ℕ) → ahead 0 o ≡ o
-unfolding ahead
-ahead_none none = refl
-ahead_none (some i) = let e : 0 + i ≡ i = omega arith in ap some e
-
-same : (o : code.Option ℕ) → option_map (λ x. x) o ≡ o
-same None = refl
-same (Some x) = refl
-
-pub find_is : (s : List ℕ) (x n : ℕ) (r : code.Option ℕ) → option_map (λ i. i) r ≡ find (tested s x) (range_with_len 0 n) → r ≡ found (place (bears x) (blocks_from s 0 n))
-find_is s x n r e = sym (same r) ∙ e ∙ found_from s x n 0 ∙ ap found (ahead_none (place (bears x) (blocks_from s 0 n)))
+pub find_is : (x : ℕ) (bs : List (List ℕ)) (r : code.Option ℕ) → r ≡ position (tested x) bs → r ≡ found (place (bears x) (map words_of bs))
+find_is x bs r e = e ∙ first_is x bs
 
 -- ---- A live badge.
 

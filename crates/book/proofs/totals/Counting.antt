@@ -1,32 +1,30 @@
 -- The live blocks, one after the other. Assumes nothing.
-use Prim.Native.Nat.{ℕ, zero, suc, ◌+◌, ◌*◌, ◌≤◌}
-use native.Mathlib.Omega.{arith}
+use Prim.Native.Nat.{ℕ, zero, suc, ◌*◌, ◌≤◌}
 use mathlib.Core.Path.{◌≡◌, refl, sym, ap, ◌∙◌}
 use mathlib.Core.Bool.{Bool, true, false, not, cond}
-use Rattle.std.specs.List.{filter, range_with_len}
+use Rattle.std.specs.List.{filter}
+use Rattle.book_words.specs.Halves.{words_of}
 use mathlib.Core.Option.{none}
-use mathlib.Core.List.{List, ◌∷◌}
+use mathlib.Core.List.{List, [], ◌∷◌, map}
 use lib.ListN.{length}
 use lib.Dec.{eqb}
 use Rattle.book_rules.specs.Blocks.{badge_of}
 use Rattle.book_rules.specs.Books.{in_use, unless_refused, withdrawn, live, total}
-use Rattle.book_rules.specs.Bytes.{block_at, blocks_from, book_of}
+use Rattle.book_rules.specs.Bytes.{blocks_from, book_of}
 use Rattle.book.specs.Testing.{Answered}
 use Rattle.book.specs.Totals.{total_told}
 use Rattle.book.proofs.Views.{good_fits, good_in_use}
 
-abbrev pub counted : List ℕ → ℕ → Bool
-counted s k = not (eqb (badge_of (block_at s k)) 0)
+abbrev pub counted : List ℕ → Bool
+counted bytes = not (eqb (badge_of (words_of bytes)) 0)
 
--- The blocks from the k-th on, each tested.
-pub count_is : (s : List ℕ) (n k : ℕ) → length (filter (counted s) (range_with_len k n)) ≡ live (blocks_from s k n)
-unfolding live blocks_from withdrawn
-count_is s zero k = refl
-count_is s (suc n) k =
-    let e : suc k ≡ k + 1 = omega arith in
-    by (filter (counted s) (range_with_len (k + 1) n)) (live (blocks_from s (suc k) n)) (count_is s n (k + 1) ∙ ap (λ (j : ℕ). live (blocks_from s j n)) (sym e)) (eqb (badge_of (block_at s k)) 0)
+-- The blocks that are counted.
+pub count_is : (bs : List (List ℕ)) → length (filter counted bs) ≡ live (map words_of bs)
+unfolding live withdrawn
+count_is [] = refl
+count_is (b ∷ bs) = by (filter counted bs) (live (map words_of bs)) (count_is bs) (eqb (badge_of (words_of b)) 0)
   where
-    by : (xs : List ℕ) (m : ℕ) → length xs ≡ m → (t : Bool) → length (cond (not t) (k ∷ xs) xs) ≡ elim t as (λ _. ℕ) [ true ↦ m | false ↦ suc m ]
+    by : (xs : List (List ℕ)) (m : ℕ) → length xs ≡ m → (t : Bool) → length (cond (not t) (b ∷ xs) xs) ≡ elim t as (λ _. ℕ) [ true ↦ m | false ↦ suc m ]
     by xs m h true = h
     by xs m h false = ap suc h
 

@@ -1,7 +1,7 @@
 -- The rule of a live block, as the code asks for it. Assumes nothing.
 use Prim.Native.Nat.{ℕ, ◌+◌, ◌-◌, ◌*◌, ◌≤◌}
 use native.Mathlib.Omega.{arith}
-use mathlib.Core.Path.{◌≡◌, refl, sym, ap, ap₂, ◌∙◌}
+use mathlib.Core.Path.{◌≡◌, sym, ap, ap₂, ◌∙◌}
 use mathlib.Core.Bool.{true}
 use mathlib.Core.List.{List}
 use lib.ListN.{length, drop, take, length-drop, take-append-drop}
@@ -11,39 +11,37 @@ use lib.IntN.{ℤ}
 use borrow.Author.Tests.{leb-true}
 use Rattle.book_rules.specs.Sums.{word}
 use Rattle.book_rules.specs.Blocks.{Block, joined, length_in, dialect_in, entry_of, live_formed}
-use Rattle.book_rules.specs.Bytes.{word_at, words_from, block_at}
+use Rattle.book_rules.specs.Bytes.{word_at, words_from}
+use Rattle.book_words.specs.Halves.{words_of}
 use Rattle.book_rules.proofs.Walks.{and_also_fst, and_also_snd}
 use Rattle.book_blocks.specs.Heads.{ReadAs}
 use Rattle.book_blocks.proofs.Seen.{word_seen, joined_seen, length_joined}
 
 -- ---- The rule.
 
-module _ (s : List ℕ) (k : ℕ) (live : live_formed (block_at s k) ≡ true) (w n : ℕ) (ew : w ≡ word_at s (512 * k + 6)) (en : n ≡ w) where
+module _ (s : List ℕ) (live : live_formed (words_of s) ≡ true) (w n : ℕ) (ew : w ≡ word_at s 6) (en : n ≡ w) where
   abbrev b : Block
-  b = block_at s k
+  b = words_of s
 
   third : word b 3 ≡ n
-  unfolding block_at
-  third = word_seen s (512 * k) 3 (512 * k + 6) (omega arith) (omega arith) ∙ sym (en ∙ ew)
+  third = word_seen s 3 (omega arith) ∙ sym (en ∙ ew)
 
   few : n ≤ 124
   unfolding live_formed
   few = let h : word b 3 ≤ 124 = leb-true (word b 3) 124 (and_also_fst (leb (word b 3) 124) _ live) in omega (arith, third)
 
-  pub fits_in_lem : 512 * k + 512 ≤ length s → 512 * k + 10 + 4 * n ≤ length s
+  pub fits_in_lem : length s ≡ 512 → 10 + 4 * n ≤ length s
   fits_in_lem h = omega (arith, few)
 
   pub fits_out : (out : List ℤ) → 124 ≤ length out → n ≤ length out
   fits_out out h = omega (arith, few)
 
-  module _ (v f m : ℕ) (ev : v ≡ word_at s (512 * k + 2)) (ef : f ≡ word_at s (512 * k + 8)) (em : m ≡ length_in v f) where
+  module _ (v f m : ℕ) (ev : v ≡ word_at s 2) (ef : f ≡ word_at s 8) (em : m ≡ length_in v f) where
     first : word b 1 ≡ v
-    unfolding block_at
-    first = word_seen s (512 * k) 1 (512 * k + 2) (omega arith) (omega arith) ∙ sym ev
+    first = word_seen s 1 (omega arith) ∙ sym ev
 
     fourth : word b 4 ≡ f
-    unfolding block_at
-    fourth = word_seen s (512 * k) 4 (512 * k + 8) (omega arith) (omega arith) ∙ sym ef
+    fourth = word_seen s 4 (omega arith) ∙ sym ef
 
     matcher_is : length_in (word b 1) (word b 4) ≡ m
     matcher_is = ap₂ length_in first fourth ∙ sym em
@@ -56,11 +54,10 @@ module _ (s : List ℕ) (k : ℕ) (live : live_formed (block_at s k) ≡ true) (
         omega (arith, third, matcher_is)
 
     abbrev zs : List ℤ
-    zs = joined n (words_from s (512 * k + 10) (2 * n))
+    zs = joined n (words_from s 10 (2 * n))
 
     words_is : joined (word b 3) (drop 5 b) ≡ zs
-    unfolding block_at
-    words_is = ap (λ (x : ℕ). joined x (drop 5 b)) third ∙ joined_seen s (512 * k) n (512 * k + 10) few refl
+    words_is = ap (λ (x : ℕ). joined x (drop 5 b)) third ∙ joined_seen s n few
 
     pub rule_read : (d : ℕ) (out after : List ℤ) → d ≡ dialect_in v f → after ≡ sets out 0 zs → ReadAs (entry_of b) v d m (n - m) out after
     unfolding entry_of
@@ -68,9 +65,9 @@ module _ (s : List ℕ) (k : ℕ) (live : live_formed (block_at s k) ≡ true) (
       version_is = sym first;
       dialect_is = ed ∙ sym (ap₂ dialect_in first fourth);
       matcher_is = sym (ap₂ (λ (x : ℕ) (l : List ℤ). length (take x l)) matcher_is words_is ∙ length-take-le m zs long);
-      pattern_is = sym (ap₂ (λ (x : ℕ) (l : List ℤ). length (drop x l)) matcher_is words_is ∙ length-drop m zs ∙ ap (λ (x : ℕ). x - m) (length_joined s (512 * k + 10) n));
+      pattern_is = sym (ap₂ (λ (x : ℕ) (l : List ℤ). length (drop x l)) matcher_is words_is ∙ length-drop m zs ∙ ap (λ (x : ℕ). x - m) (length_joined s 10 n));
       words_are = ea ∙ ap (sets out 0) (sym (take-append-drop (length_in (word b 1) (word b 4)) (joined (word b 3) (drop 5 b)) ∙ words_is));
     }
       where
         long : m ≤ length zs
-        long = let l = length_joined s (512 * k + 10) n in let h = short in omega arith
+        long = let l = length_joined s 10 n in let h = short in omega arith

@@ -7,18 +7,20 @@ use Rattle.book.proofs.lookup.read.Goals as goal
 pub returns-in_err-test : goal.returns-in_err-test
 returns-in_err-test c = let p = err_from_is_err_and c.from_residual.result c.from_residual.ensures.1 in rw (p.1, p.2) (read_refused _ _ _ _ _ c.in_err-test.ensures _ _ refl)
 
-pub live_at-requires : goal.live_at-requires
-live_at-requires c = read_room _ _ _ _ c.in_ok-test.ensures refl
+pub first_blocks-requires : goal.first_blocks-requires
+first_blocks-requires c = read_room _ _ _ _ c.in_ok-test.ensures refl
+
+pub block_of-requires : goal.block_of-requires
+block_of-requires c = read_fits _ _ _ _ _ c.in_ok-test.ensures refl _ (rw c.first_blocks.ensures at c.live_at.ensures) _ c.in-Some.is
 
 pub read_block-requires : goal.read_block-requires
 read_block-requires c = record {
-  block_in_bounds = read_fits _ _ _ _ _ c.in_ok-test.ensures refl _ c.live_at.ensures _ c.in-Some.is;
   room = c.requires;
-  live = read_live _ _ _ _ _ c.in_ok-test.ensures refl _ c.live_at.ensures _ c.in-Some.is;
+  live = rw c.block_of.ensures (read_live _ _ _ _ _ c.in_ok-test.ensures refl _ (rw c.first_blocks.ensures at c.live_at.ensures) _ c.in-Some.is);
 }
 
 pub returns-in-Some : goal.returns-in-Some
-returns-in-Some c = read_found _ _ _ _ _ c.in_ok-test.ensures refl _ c.live_at.ensures _ c.in-Some.is _ _ _ c.read_block.ensures
+returns-in-Some c = read_found _ _ _ _ _ c.in_ok-test.ensures refl _ (rw c.first_blocks.ensures at c.live_at.ensures) _ c.in-Some.is _ _ _ (rw c.block_of.ensures at c.read_block.ensures)
 
 pub returns-in-None : goal.returns-in-None
-returns-in-None c = read_none _ _ _ _ _ c.in_ok-test.ensures refl _ c.live_at.ensures _ c.in-None.is
+returns-in-None c = read_none _ _ _ _ _ c.in_ok-test.ensures refl _ (rw c.first_blocks.ensures at c.live_at.ensures) _ c.in-None.is

@@ -1,6 +1,6 @@
 -- `book::totals::live` meets its contract: each block is tested, and those that pass are counted.
-use Rattle.std.proofs.Common.{◌∙◌, rules, tests, arith}
-use Rattle.std.proofs.lemmas.Iterator.{YieldsList-from_range}
+use Rattle.std.proofs.Common.{◌∙◌, rules, tests}
+use Rattle.std.proofs.lemmas.Iterator.{YieldsList-from_slice}
 use Rattle.std.proofs.lemmas.Iterator.Consumers.{YieldsList-from_filter, count_from_yields_List}
 use Rattle.book.proofs.totals.Counting.{counted, count_is}
 use Rattle.book.proofs.totals.live.Goals as goal
@@ -8,5 +8,5 @@ use Rattle.book.proofs.totals.live.Goals as goal
 pub returns : goal.returns
 returns c =
     count_from_yields_List _ _ c.count.ensures.ran
-    (YieldsList-from_filter _ (counted c.args.book.now) (YieldsList-from_range 0 c.args.n c.args.n c.filter.ensures.source (omega arith)) c.filter.ensures.closure (λ x b q k. search (rules, tests)))
-    ∙ count_is c.args.book.now c.args.n 0
+    (YieldsList-from_filter _ counted (YieldsList-from_slice c.args.blocks.now cc) c.filter.ensures.closure (λ x b q k. search (rules, tests)))
+    ∙ count_is c.args.blocks.now

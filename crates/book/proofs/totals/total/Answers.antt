@@ -8,8 +8,8 @@ use Rattle.book.proofs.totals.total.Goals as goal
 pub returns-in_err-test : goal.returns-in_err-test
 returns-in_err-test c = let p = err_from_is_err_and c.from_residual.result c.from_residual.ensures.1 in rw (p.1, p.2) (total_refused _ _ _ _ c.in_err-test.ensures (refused _))
 
-pub live-requires : goal.live-requires
-live-requires c = total_fits _ _ _ _ c.in_ok-test.ensures refl
+pub first_blocks-requires : goal.first_blocks-requires
+first_blocks-requires c = total_fits _ _ _ _ c.in_ok-test.ensures refl
 
 pub returns : goal.returns
-returns c = total_good _ _ _ _ c.in_ok-test.ensures _ refl c.live.ensures
+returns c = total_good _ _ _ _ c.in_ok-test.ensures _ refl (rw c.first_blocks.ensures at c.live.ensures)

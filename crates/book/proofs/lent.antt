@@ -1,0 +1,2 @@
+-- What cutting the lent bytes into blocks uses.
+pub mod Chunks
