@@ -22,6 +22,7 @@ use words::dialect::{EVERY_PLACE, FIRST_PLACES};
 const NUMBERS: usize = 65536;
 
 // The block that a new rule takes: the lowest withdrawn, else the next that is lent.
+#[tactic(auto, using(crate::proofs::adding::Refusals::slot_rules))]
 fn slot(book: &[u8], used: usize) -> Option<usize>
     requires { 512 * used ≤ length book.now }
     ensures { result ≡ found (slot (book_of book.now used)) }
@@ -49,6 +50,7 @@ fn is_dialect(version: u16, dialect: u32) -> bool
 }
 
 // 15 of an add: badge 0, the dialect, review's 1 to 4 in that dialect.
+#[tactic(auto, unfolding(book_rules::specs::Books::proper, book_rules::specs::Sums::and_also))]
 fn is_proper(e: Entry) -> bool
     ensures { result ≡ proper (rule_of e.entry) }
 {
@@ -62,6 +64,7 @@ fn is_proper(e: Entry) -> bool
 }
 
 // 14 and 15 of an add, then 16 and 18.
+#[tactic(auto, unfolding(crate::specs::Changes::own_refusal, book_rules::specs::Blocks::or_else, book_rules::specs::Blocks::unless, book_rules::specs::Blocks::counts))]
 fn own_refusal(blocks: &[Block], e: Entry) -> Result<(), Fault>
     ensures { answer_of result ≡ own_refusal (rule_of e.entry) (map words_of blocks.now) }
 {

@@ -16,6 +16,7 @@ use book_blocks::reading::{Head, read_block};
 use book_words::Block;
 
 // The block that holds a live badge; 0 is none's.
+#[tactic(auto, using(crate::proofs::lookup::Rules::live_none, crate::proofs::lookup::Rules::live_some))]
 pub fn live_at(blocks: &[Block], badge: u16) -> Option<usize>
     ensures { result ≡ found (place (holds badge) (map words_of blocks.now)) }
 {

@@ -21,6 +21,7 @@ pub fn find(blocks: &[Block], badge: u16) -> Option<usize>
 }
 
 // Whether a live rule of this badge stands in the blocks; 0 is none's.
+#[tactic(auto, using(crate::proofs::testing::Finding::taken_none, crate::proofs::testing::Finding::taken_is))]
 pub fn is_taken(blocks: &[Block], badge: u16) -> bool
     ensures { result ≡ taken badge (map words_of blocks.now) }
 {

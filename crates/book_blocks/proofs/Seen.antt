@@ -40,6 +40,10 @@ zeros_seen s j n m h e =
     let a : 256 - j ≡ n + (256 - j - n) = omega arith in
     ap (zeros n) (drop_words s 0 256 j (omega arith)) ∙ ap₂ (λ (i l : ℕ). zeros n (words_from s i l)) e a ∙ zeros_front s m n (256 - j - n)
 
+-- The words of a withdrawn block.
+pub withdrawn_seen : (s : List ℕ) → zeros 251 (drop 3 (words_of s)) ≡ zeros 251 (words_from s 6 251)
+withdrawn_seen s = zeros_seen s 3 251 6 (omega arith) (omega arith)
+
 joined_front : (s : List ℕ) (at n d : ℕ) → joined n (words_from s at (2 * n + d)) ≡ joined n (words_from s at (2 * n))
 unfolding joined words_from
 joined_front s at zero d = refl

@@ -120,7 +120,7 @@ fn is_live_formed(block: &Block) -> bool
 }
 
 // 15 of a block by itself; a withdrawn one is zero up to its check.
-#[tactic(auto, using(crate::proofs::form::Forms::formed_withdrawn, crate::proofs::form::Forms::formed_live))]
+#[tactic(auto, using(crate::proofs::Seen::word_seen, crate::proofs::Seen::withdrawn_seen), unfolding(book_rules::specs::Blocks::formed))]
 fn is_formed(block: &Block) -> bool
     ensures { result ≡ formed (words_of block.now) }
 {
@@ -131,7 +131,7 @@ fn is_formed(block: &Block) -> bool
 }
 
 // 12 to 15 of a block by itself, whatever stands before it, as block k.
-#[tactic(auto, using(crate::proofs::form::Forms::verdict_rules))]
+#[tactic(auto, using(crate::proofs::Seen::word_seen), unfolding(book_rules::specs::Blocks::verdict, book_rules::specs::Blocks::or_else, book_rules::specs::Blocks::unless, book_rules::specs::Blocks::taken, book_rules::specs::Sums::and_also))]
 pub fn own_fault(block: &Block, k: usize) -> Result<(), Fault>
     ensures { answer_of result ≡ verdict k [] (words_of block.now) }
 {
@@ -151,7 +151,7 @@ pub fn own_fault(block: &Block, k: usize) -> Result<(), Fault>
 }
 
 // The badge number of a block: 0 where it is withdrawn.
-#[tactic(auto, using(crate::proofs::form::Forms::badge_seen))]
+#[tactic(auto, using(crate::proofs::Seen::word_seen))]
 pub fn badge_of(block: &Block) -> u16
     ensures { result ≡ badge_of (words_of block.now) }
 {

@@ -1,23 +1,23 @@
--- The tests of one block, each answer as the code asks for it. Assumes nothing.
+-- The test of a live block, each answer as the code asks for it. Assumes nothing.
 use Prim.Native.Nat.{ℕ, ◌+◌, ◌-◌, ◌*◌, ◌≤◌, ◌<◌}
 use native.Mathlib.Omega.{arith}
 use mathlib.Core.Path.{◌≡◌, refl, sym, ap, ap₂, ◌∙◌}
 use mathlib.Core.Bool.{Bool, true, false, not}
-use mathlib.Core.List.{List, []}
+use mathlib.Core.List.{List}
 use lib.ListN.{length, drop, take}
 use lib.Seq.{sets}
-use lib.Dec.{eqb, leb}
+use lib.Dec.{leb}
 use lib.IntN.{ℤ}
 use borrow.Author.Rules.{rules}
-use borrow.Author.Tests.{eq-eqb, ne_eqb, le-leb, lt-leb}
+use borrow.Author.Tests.{le-leb, lt-leb}
 use Rattle.rules.specs.Services.{Judged, Rule}
 use Rattle.tests.specs.Judgements.{told, judgement}
 use Rattle.tests.specs.declared.Refusal.{Refusal}
 use Rattle.tests.proofs.Told.{was_accepted, was_refused}
 use Rattle.std.specs.Prelude.{Result, Ok, Err}
 use Rattle.std.specs.Result.{is_ok}
-use Rattle.book_rules.specs.Sums.{word, checked, and_also}
-use Rattle.book_rules.specs.Blocks.{Block, joined, length_in, dialect_in, known, unless, or_else, zeros, is_accepted, is_rule, entry_of, live_formed, formed, badge_of, taken, verdict}
+use Rattle.book_rules.specs.Sums.{word, and_also}
+use Rattle.book_rules.specs.Blocks.{Block, joined, length_in, dialect_in, zeros, is_accepted, is_rule, entry_of, live_formed}
 use Rattle.book_rules.specs.Bytes.{word_at, words_from}
 use Rattle.book_words.specs.Halves.{words_of}
 use Rattle.book_blocks.proofs.Seen.{word_seen, zeros_seen, joined_seen, length_joined, first_part, second_part}
@@ -98,85 +98,5 @@ module _ (s : List ℕ) (w n : ℕ) (e : w ≡ word_at s 6) (l : n ≡ w) where
           by : (y : Bool) → not y ≡ false → and_also y (is_rule (dialect_in v f) (take m (joined n (words_from s 10 (2 * n)))) (drop m (joined n (words_from s 10 (2 * n))))) ≡ is_rule (dialect_in v f) (take m (joined n (words_from s 10 (2 * n)))) (drop m (joined n (words_from s 10 (2 * n))))
           by true t = unfold and_also in refl
           by false t = let q : ◌≡◌ {A = ℕ} 0 1 = cc in absurd (omega arith)
-
--- ---- A block, live or withdrawn.
-
-module _ (s : List ℕ) (w : ℕ) (e : w ≡ word_at s 4) where
-  badge_is : badge_of (words_of s) ≡ w
-  badge_is = word_seen s 2 (omega arith) ∙ sym e
-
-  pub formed_withdrawn : w ≡ 0 → (r : Bool) → r ≡ zeros 251 (words_from s 6 251) → r ≡ formed (words_of s)
-  unfolding formed
-  formed_withdrawn z r q = rw (eq-eqb (badge_of (words_of s)) 0 (badge_is ∙ z), formed) (q ∙ sym (zeros_seen s 3 251 6 (omega arith) (omega arith)))
-
-  pub formed_live : (w ≡ 0 → ⊥) → (r : Bool) → r ≡ live_formed (words_of s) → r ≡ formed (words_of s)
-  unfolding formed
-  formed_live n r q = rw (ne_eqb (badge_of (words_of s)) 0 (λ z. n (sym badge_is ∙ z)), formed) q
-
--- ---- 12 to 15.
-
-chain : (c n v f : Bool) → ℕ
-chain c n v f = or_else (unless c 12) (or_else (unless n 13) (or_else (unless v 14) (unless f 15)))
-
-verdict_is : (k : ℕ) (b : Block) → verdict k [] b ≡ chain (checked b) (eqb (word b 0) k) (known (word b 1)) (formed b)
-unfolding verdict chain taken
-verdict_is k b = ap (λ (t : Bool). chain (checked b) (eqb (word b 0) k) (known (word b 1)) t) (alone (formed b))
-  where
-    alone : (t : Bool) → and_also t (not false) ≡ t
-    alone true = unfold and_also in refl
-    alone false = unfold and_also in refl
-
-refuted : (t : Bool) → not t ≡ true → t ≡ false
-refuted true h = let z : ◌≡◌ {A = ℕ} 0 1 = cc in absurd (omega arith)
-refuted false h = refl
-
-upheld : (t : Bool) → not t ≡ false → t ≡ true
-upheld true h = refl
-upheld false h = let z : ◌≡◌ {A = ℕ} 0 1 = cc in absurd (omega arith)
-
-module _ (s : List ℕ) (k : ℕ) (c : Bool) (ec : c ≡ checked (words_of s)) where
-  in_bytes : verdict k [] (words_of s) ≡ chain c (eqb (word (words_of s) 0) k) (known (word (words_of s) 1)) (formed (words_of s))
-  in_bytes = verdict_is k (words_of s) ∙ ap (λ (t : Bool). chain t (eqb (word (words_of s) 0) k) (known (word (words_of s) 1)) (formed (words_of s))) (sym ec)
-
-  pub told_check : not c ≡ true → 12 ≡ verdict k [] (words_of s)
-  unfolding chain unless or_else
-  told_check t = sym (in_bytes ∙ rw (refuted c t))
-
-  module _ (oc : not c ≡ false) (w x : ℕ) (ew : w ≡ word_at s 0) (ex : x ≡ w) where
-    first : word (words_of s) 0 ≡ x
-    first = word_seen s 0 (omega arith) ∙ sym (ex ∙ ew)
-
-    past_check : verdict k [] (words_of s) ≡ chain true (eqb x k) (known (word (words_of s) 1)) (formed (words_of s))
-    past_check = in_bytes ∙ ap₂ (λ (t : Bool) (y : ℕ). chain t (eqb y k) (known (word (words_of s) 1)) (formed (words_of s))) (upheld c oc) first
-
-    pub told_number : (x ≡ k → ⊥) → 13 ≡ verdict k [] (words_of s)
-    unfolding chain unless or_else
-    told_number n = sym (past_check ∙ rw (ne_eqb x k n))
-
-    module _ (en : x ≡ k) (v : ℕ) (y : Bool) (ev : v ≡ word_at s 2) (ey : y ≡ known v) where
-      past_number : verdict k [] (words_of s) ≡ chain true true y (formed (words_of s))
-      past_number = past_check ∙ ap₂ (λ (t u : Bool). chain true t u (formed (words_of s))) (eq-eqb x k en)
-          (ap known (word_seen s 1 (omega arith) ∙ sym ev) ∙ sym ey)
-
-      pub told_version : not y ≡ true → 14 ≡ verdict k [] (words_of s)
-      unfolding chain unless or_else
-      told_version t = sym (past_number ∙ rw (refuted y t))
-
-      module _ (oy : not y ≡ false) (f : Bool) (ef : f ≡ formed (words_of s)) where
-        past_version : verdict k [] (words_of s) ≡ chain true true true f
-        past_version = past_number ∙ ap₂ (λ (t u : Bool). chain true true t u) (upheld y oy) (sym ef)
-
-        pub told_form : not f ≡ true → 15 ≡ verdict k [] (words_of s)
-        unfolding chain unless or_else
-        told_form t = sym (past_version ∙ rw (refuted f t))
-
-        pub told_good : not f ≡ false → 0 ≡ verdict k [] (words_of s)
-        unfolding chain unless or_else
-        told_good t = sym (past_version ∙ rw (upheld f t))
-
-pub badge_seen : (s : List ℕ) (w : ℕ) → w ≡ word_at s 4 → w ≡ badge_of (words_of s)
-badge_seen s w e = e ∙ sym (word_seen s 2 (omega arith))
-
-pub ruleset verdict_rules = (told_check, told_number, told_version, told_form, told_good, rules)
 
 pub ruleset live_rules = (live_over, live_long, live_unused, live_rule, rules)
