@@ -75,6 +75,7 @@ fn badge_and_head(told: Result<Option<Shown>, Fault>) -> (u16, Option<Head>)
 }
 
 // Adds a rule: answer, 0, and the number of blocks in use then.
+#[tactic(auto, using(crate::proofs::books::Calls::add_number), unfolding(crate::specs::Books::changing, crate::specs::Books::changed, crate::specs::Books::book_numbers))]
 #[unsafe(no_mangle)]
 pub extern "C" fn lozhbinor_book_add(
     book: &mut [u8],
@@ -105,6 +106,7 @@ pub extern "C" fn lozhbinor_book_add(
 }
 
 // Withdraws a badge: answer, 0, and the number of blocks in use, which stays.
+#[tactic(auto, using(crate::proofs::books::Calls::withdraw_number), unfolding(crate::specs::Books::changing, crate::specs::Books::changed, crate::specs::Books::book_numbers))]
 #[unsafe(no_mangle)]
 pub extern "C" fn lozhbinor_book_withdraw(
     book: &mut [u8],
@@ -124,6 +126,7 @@ pub extern "C" fn lozhbinor_book_withdraw(
 }
 
 // The number of live rules: answer, number, blocks in use.
+#[tactic(auto, using(crate::proofs::books::Calls::number_is), unfolding(crate::specs::Books::telling, crate::specs::Books::told, crate::specs::Books::book_numbers, book::specs::Totals::total_told, book_rules::specs::Bytes::book_of))]
 #[unsafe(no_mangle)]
 pub extern "C" fn lozhbinor_book_total(book: &[u8], used: u32, numbers: &mut [u8]) -> u32
     ensures { called result [] numbers.new ≡ telling (total (book_of book.now used)) numbers.old }
@@ -139,6 +142,7 @@ pub extern "C" fn lozhbinor_book_total(book: &[u8], used: u32, numbers: &mut [u8
 }
 
 // The refusal of the whole book: answer, the number of the first block that is refused, blocks in use.
+#[tactic(auto, unfolding(crate::specs::Books::check_called, crate::specs::Books::checked, book_rules::specs::Bytes::book_of))]
 #[unsafe(no_mangle)]
 pub extern "C" fn lozhbinor_book_check(book: &[u8], used: u32, numbers: &mut [u8]) -> u32
     ensures { called result [] numbers.new ≡ check_called (book_of book.now used) numbers.old }
@@ -152,6 +156,7 @@ pub extern "C" fn lozhbinor_book_check(book: &[u8], used: u32, numbers: &mut [u8
 }
 
 // A live rule by its badge: answer, 1 if it is found, version, dialect, the matcher's length and the pattern's; its words to `words`.
+#[tactic(auto, unfolding(crate::specs::Books::read_called, crate::specs::Books::showing))]
 #[unsafe(no_mangle)]
 pub extern "C" fn lozhbinor_book_read(
     book: &[u8],
@@ -181,6 +186,7 @@ pub extern "C" fn lozhbinor_book_read(
 }
 
 // One block by itself: answer, badge, version, dialect, the matcher's length and the pattern's. A book that was tested is listed so.
+#[tactic(auto, unfolding(crate::specs::Books::block_called, crate::specs::Books::showing))]
 #[unsafe(no_mangle)]
 pub extern "C" fn lozhbinor_book_block(
     book: &[u8],

@@ -58,6 +58,7 @@ pub extern "C" fn lozhbinor_version() -> u32
     VERSION
 }
 
+#[tactic(auto, unfolding(crate::specs::Border::match_called, crate::specs::Border::match_told, crate::specs::Border::match_numbers, services::specs::Matches::told))]
 #[unsafe(no_mangle)]
 pub extern "C" fn lozhbinor_match(
     matcher: &[i32],
@@ -77,6 +78,7 @@ pub extern "C" fn lozhbinor_match(
 }
 
 // Match with its rows in the form, and in the dialect, that the caller picks: 20 where that form is unknown, and 22 where that dialect is.
+#[tactic(auto, unfolding(crate::specs::Border::match_with_called, crate::specs::Border::match_told, crate::specs::Border::match_numbers, services::specs::Matches::told))]
 #[unsafe(no_mangle)]
 pub extern "C" fn lozhbinor_match_with(
     form: u32,
@@ -97,6 +99,7 @@ pub extern "C" fn lozhbinor_match_with(
     tell(m, numbers)
 }
 
+#[tactic(auto, unfolding(crate::specs::Border::review_called, crate::specs::Border::review_told, crate::specs::Border::review_numbers, services::specs::Reviews::reviewed))]
 #[unsafe(no_mangle)]
 pub extern "C" fn lozhbinor_review(
     matcher: &[i32],
@@ -114,6 +117,7 @@ pub extern "C" fn lozhbinor_review(
 }
 
 // Review in the dialect that the caller picks: 22 where that is unknown.
+#[tactic(auto, unfolding(crate::specs::Border::review_with_called, crate::specs::Border::review_told, crate::specs::Border::review_numbers, services::specs::Reviews::reviewed))]
 #[unsafe(no_mangle)]
 pub extern "C" fn lozhbinor_review_with(
     dialect: u32,

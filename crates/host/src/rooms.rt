@@ -10,6 +10,7 @@ use service_room::room;
 // The bytes of three numbers.
 const ROOM_BYTES: usize = 24;
 
+#[tactic(auto, unfolding(crate::specs::Rooms::room_called, crate::specs::Rooms::room_told, crate::specs::Rooms::room_numbers, service_room::specs::Told::roomed))]
 #[unsafe(no_mangle)]
 pub extern "C" fn lozhbinor_room(
     form: u32,

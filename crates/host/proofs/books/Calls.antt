@@ -1,19 +1,17 @@
 -- The calls on a book by what crate `book` gives. Assumes nothing.
-use Prim.Native.Nat.{ℕ, zero, suc, ◌≤◌, ◌<◌}
+use Prim.Native.Nat.{ℕ, zero, suc, ◌≤◌}
 use mathlib.Core.Path.{◌≡◌, refl, sym, ap, ap₂, ◌∙◌}
 use mathlib.Core.Bool.{Bool}
 use mathlib.Core.Option.{Option, none, some}
 use mathlib.Core.List.{List, [], ◌∷◌}
 use lib.ListN.{length, get_or}
 use lib.IntN.{ℤ}
-use borrow.Author.Tests.{lt-ltb, le-ltb}
+use borrow.Author.Tests.{le-ltb}
 use Rattle.book_rules.specs.Blocks.{Entry, badge_of, entry_of, unless, or_else, holds, taken}
 use Rattle.book_rules.specs.Books.{Book, Told, in_use, fault, passed, unless_refused, place, withdraw_from, withdraw, slot, add_fault, add_in, add, total, read}
 use Rattle.book_rules.specs.Books as paper
-use Rattle.book_rules.specs.Bytes.{block_at, holding, book_of}
-use Rattle.book.specs.Testing.{Answered}
-use Rattle.book.specs.Totals.{total_told, number_in}
-use Rattle.book.specs.Changes.{ChangeTold}
+use Rattle.book_rules.specs.Bytes.{block_at}
+use Rattle.book.specs.Totals.{number_in}
 use Rattle.book.specs.Lookup.{Read, nothing, rule, head_in, found_in, RuleTold, block_fault, badge_unless, rule_unless, badge_in, rule_in, shown_in, BlockTold}
 use Rattle.std.specs.Prelude.{Some, None, Result, Ok, Err}
 use Rattle.std.specs.Option.{is_some}
@@ -26,7 +24,7 @@ use Rattle.book_blocks.specs.Faults.{answer_of}
 use Rattle.book.specs.declared.lookup.Shown.{Shown}
 use Rattle.host_numbers.specs.Numbers.{bytes_of, over}
 use Rattle.host.specs.Border.{called}
-use Rattle.host.specs.Books.{book_called, book_numbers, changed, changing, told, telling, checked, check_called, rule_numbers, head_numbers, rule_words, shown, showing, read_called, block_called}
+use Rattle.host.specs.Books.{rule_numbers, head_numbers, rule_words, shown, showing, read_called, block_called}
 
 -- ---- Add and withdraw tell no number.
 
@@ -52,23 +50,6 @@ module _ (b : Book) where
       either none = unfold withdraw_from paper.changed in refl
       either (some i) = unfold withdraw_from paper.changed in refl
 
--- ---- Add and withdraw.
-
-module _ (t : Told) (s numbers : List ℕ) where
-  pub change_short : length numbers < 24 → book_called 24 s numbers ≡ changing t s numbers
-  unfolding changing
-  change_short h = rw (lt-ltb (length numbers) 24 h)
-
-  pub change_told : t.number ≡ 0 → (at a k u r : ℕ) (after out ns : List ℕ) → 24 ≤ length numbers → ChangeTold t at a k u s after → r ≡ a → ns ≡ a ∷ 0 ∷ u ∷ []
-      → out ≡ over (bytes_of ns) numbers → book_called r after out ≡ changing t s numbers
-  unfolding changing changed book_numbers
-  change_told z at a k u r after out ns h w er en o =
-      rw (le-ltb (length numbers) 24 h) (
-      ap₂ (λ (x : ℕ) (y : List ℕ). book_called x y out) (er ∙ w.answer_is) w.bytes_are
-      ∙ ap (λ (y : List ℕ). book_called t.answer (holding s t.book.lent) y) (o ∙ ap (λ (l : List ℕ). over (bytes_of l) numbers) en
-      ∙ ap₂ (λ (x y : ℕ). over (bytes_of (x ∷ 0 ∷ y ∷ [])) numbers) w.answer_is w.used_is
-      ∙ ap (λ (x : ℕ). over (bytes_of (t.answer ∷ x ∷ t.book.used ∷ [])) numbers) (sym z)))
-
 -- ---- What is told where there is no refusal.
 
 pub number_is : (r : Result ℕ Fault) (n : ℕ) → n ≡ unwrap_or r 0 → n ≡ number_in r
@@ -83,36 +64,6 @@ pub found_is : (o : code.Option Head) (b : Bool) (n : ℕ) → b ≡ is_some o �
 found_is None b n e f = f ∙ ap bool_byte e
 found_is (Some h) b n e f = f ∙ ap bool_byte e
 
--- ---- Total and check.
-
-module _ (s : List ℕ) (used : ℕ) (numbers : List ℕ) where
-  abbrev b : Book
-  b = book_of s used
-
-  pub total_short : length numbers < 24 → called 24 [] numbers ≡ telling (total b) numbers
-  unfolding telling
-  total_short h = rw (lt-ltb (length numbers) 24 h)
-
-  pub total_told_lem : (x n r a m u : ℕ) (out : List ℕ) → 24 ≤ length numbers → total_told x n b ≡ total b → r ≡ x → a ≡ r → m ≡ n → u ≡ used
-      → out ≡ over (bytes_of (a ∷ m ∷ u ∷ [])) numbers → called r [] out ≡ telling (total b) numbers
-  unfolding telling told book_numbers total_told book_of
-  total_told_lem x n r a m u out h e er ea em eu o =
-      rw (le-ltb (length numbers) 24 h) (
-      ap₂ (λ (y : ℕ) (z : List ℕ). called y [] z) er (o ∙ ap₂ (λ (y z : ℕ). over (bytes_of (y ∷ z ∷ u ∷ [])) numbers) (ea ∙ er) em ∙ ap (λ (y : ℕ). over (bytes_of (x ∷ n ∷ y ∷ [])) numbers) eu)
-      ∙ ap (λ (t : Told). told t numbers) e)
-
-  pub check_short : length numbers < 24 → called 24 [] numbers ≡ check_called b numbers
-  unfolding check_called
-  check_short h = rw (lt-ltb (length numbers) 24 h)
-
-  pub check_told : (x n r a m u : ℕ) (out : List ℕ) → 24 ≤ length numbers → Answered b x n → r ≡ x → a ≡ r → m ≡ n → u ≡ used
-      → out ≡ over (bytes_of (a ∷ m ∷ u ∷ [])) numbers → called r [] out ≡ check_called b numbers
-  unfolding check_called checked book_of
-  check_told x n r a m u out h w er ea em eu o =
-      rw (le-ltb (length numbers) 24 h) (
-      ap₂ (λ (y : ℕ) (z : List ℕ). called y [] z) (er ∙ w.answer_is)
-      (o ∙ ap₂ (λ (y z : ℕ). over (bytes_of (y ∷ z ∷ u ∷ [])) numbers) (ea ∙ er ∙ w.answer_is) (em ∙ w.block_is) ∙ ap (λ (y : ℕ). over (bytes_of (fault b ∷ passed 0 [] (in_use b) ∷ y ∷ [])) numbers) eu))
-
 -- ---- A rule that is read.
 
 rule_told : {found : Option Entry} {head : code.Option Head} {words after : List ℤ} → Read found head words after → (rule_numbers found ≡ head_numbers head) × (rule_words found words ≡ after)
@@ -126,14 +77,6 @@ four None ns e = rw e
 four (Some h) ns e = rw e
 
 module _ (x n : ℕ) (found : Option Entry) (words : List ℤ) (numbers : List ℕ) where
-  pub show_short : length numbers < 48 → called 24 words numbers ≡ showing x n found words numbers
-  unfolding showing
-  show_short h = rw (lt-ltb (length numbers) 48 h)
-
-  pub show_narrow : 48 ≤ length numbers → length words < 124 → called 24 words numbers ≡ showing x n found words numbers
-  unfolding showing
-  show_narrow h k = rw (le-ltb (length numbers) 48 h, lt-ltb (length words) 124 k)
-
   pub show_told : (head : code.Option Head) (after : List ℤ) (out : List ℕ) → 48 ≤ length numbers → 124 ≤ length words → Read found head words after
       → out ≡ over (bytes_of (x ∷ n ∷ head_numbers head)) numbers → called x after out ≡ showing x n found words numbers
   unfolding showing shown
@@ -143,14 +86,6 @@ module _ (x n : ℕ) (found : Option Entry) (words : List ℤ) (numbers : List �
       (ap₂ (λ (y : List ℤ) (z : List ℕ). called x y z) (sym r.1) (o ∙ ap (λ (l : List ℕ). over (bytes_of (x ∷ n ∷ l)) numbers) (sym r.0)))
 
 module _ (x : ℕ) (b : Book) (words : List ℤ) (numbers : List ℕ) where
-  pub read_short : length numbers < 48 → called 24 words numbers ≡ read_called x b words numbers
-  unfolding read_called
-  read_short h = show_short (read x b).answer (read x b).number (read x b).found words numbers h
-
-  pub read_narrow : 48 ≤ length numbers → length words < 124 → called 24 words numbers ≡ read_called x b words numbers
-  unfolding read_called
-  read_narrow h k = show_narrow (read x b).answer (read x b).number (read x b).found words numbers h k
-
   pub read_told : (r : Result (code.Option Head) Fault) (after : List ℤ) (out : List ℕ) (g a f : ℕ) (ns : List ℕ) → 48 ≤ length numbers → 124 ≤ length words → RuleTold (read x b) r words after
       → g ≡ answer_of r → a ≡ g → f ≡ found_in (head_in r) → ns ≡ head_numbers (head_in r)
       → out ≡ over (bytes_of (a ∷ f ∷ ns)) numbers → called g after out ≡ read_called x b words numbers
@@ -161,14 +96,6 @@ module _ (x : ℕ) (b : Book) (words : List ℤ) (numbers : List ℕ) where
       (o ∙ ap (λ (l : List ℕ). over (bytes_of (a ∷ f ∷ l)) numbers) en ∙ ap₂ (λ (y z : ℕ). over (bytes_of (y ∷ z ∷ head_numbers (head_in r))) numbers) (ea ∙ eg ∙ w.answer_is) (ef ∙ w.found_is))
 
 module _ (s : List ℕ) (j : ℕ) (words : List ℤ) (numbers : List ℕ) where
-  pub block_short : length numbers < 48 → called 24 words numbers ≡ block_called s j words numbers
-  unfolding block_called
-  block_short h = show_short (block_fault s j) (badge_unless (block_fault s j) (badge_of (block_at s j))) (rule_unless (block_fault s j) (badge_of (block_at s j)) (entry_of (block_at s j))) words numbers h
-
-  pub block_narrow : 48 ≤ length numbers → length words < 124 → called 24 words numbers ≡ block_called s j words numbers
-  unfolding block_called
-  block_narrow h k = show_narrow (block_fault s j) (badge_unless (block_fault s j) (badge_of (block_at s j))) (rule_unless (block_fault s j) (badge_of (block_at s j)) (entry_of (block_at s j))) words numbers h k
-
   pub block_told : (r : Result (code.Option Shown) Fault) (after : List ℤ) (out : List ℕ) (g a f : ℕ) (ns : List ℕ) → 48 ≤ length numbers → 124 ≤ length words → BlockTold s j r words after
       → g ≡ answer_of r → a ≡ g → f ≡ badge_in (shown_in r) → ns ≡ head_numbers (rule_in (shown_in r))
       → out ≡ over (bytes_of (a ∷ f ∷ ns)) numbers → called g after out ≡ block_called s j words numbers

@@ -1,15 +1,8 @@
 -- `host::books::lozhbinor_book_block` meets its contract: 24 where the slices are too short, else what crate `book` gives, every byte.
-use borrow.Author.Rules.{rules}
 use Rattle.std.proofs.Common.{◌∙◌, ap}
 use Rattle.host.specs.Books.{head_numbers}
-use Rattle.host.proofs.books.Calls.{block_short, block_narrow, block_told, four}
+use Rattle.host.proofs.books.Calls.{block_told, four}
 use Rattle.host.proofs.books.lozhbinor_book_block.Goals as goal
-
-pub returns-then-numbers-lt-RULE_BYTES : goal.returns-then-numbers-lt-RULE_BYTES
-returns-then-numbers-lt-RULE_BYTES c = search (block_short, rules)
-
-pub returns-then-words-lt-LONGEST : goal.returns-then-words-lt-LONGEST
-returns-then-words-lt-LONGEST c = search (block_narrow, rules)
 
 pub returns : goal.returns
 returns c =
