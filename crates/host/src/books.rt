@@ -27,7 +27,7 @@ const BOOK_BYTES: usize = 24;
 
 const RULE_BYTES: usize = 48;
 
-// What is told of a change: answer, 0, and the number of blocks in use then.
+// What is told of a change, in the order in which C reads it: answer, 0, and the number of blocks in use then.
 fn change_numbers(told: Result<Changed, Fault>, used: u32) -> [u64; 3]
     ensures { result ≡ answer_of told ∷ 0 ∷ used_in told used ∷ [] }
 {
@@ -48,7 +48,7 @@ fn check_numbers(told: Result<(), Refused>, used: u32) -> (u32, u64)
     }
 }
 
-// A rule's numbers, all 0 where there is none.
+// A rule's numbers, in the order in which C reads them; all 0 where there is none.
 fn head_numbers(head: Option<Head>) -> [u64; 4]
     ensures { result ≡ head_numbers head }
 {

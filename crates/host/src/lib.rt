@@ -20,7 +20,8 @@ const REVIEW_BYTES: usize = 24;
 // The numbers of a match are written, and its answer is given back.
 pub fn tell(m: Matched, numbers: &mut [u8]) -> u32
     requires { 48 ≤ length numbers.old }
-    ensures { (result ≡ m.answer) × (numbers.new ≡ over (bytes_of (m.answer ∷ m.place ∷ m.rows ∷ m.steps ∷ m.words ∷ m.cause ∷ [])) numbers.old) }
+    ensures answer { result ≡ m.answer }
+    ensures written { numbers.new ≡ over (bytes_of (m.answer ∷ m.place ∷ m.rows ∷ m.steps ∷ m.words ∷ m.cause ∷ [])) numbers.old }
 {
     put_numbers(
         numbers,
@@ -39,7 +40,8 @@ pub fn tell(m: Matched, numbers: &mut [u8]) -> u32
 // The numbers of a review are written, and its answer is given back.
 fn tell_review(m: Reviewed, numbers: &mut [u8]) -> u32
     requires { 24 ≤ length numbers.old }
-    ensures { (result ≡ m.answer) × (numbers.new ≡ over (bytes_of (m.answer ∷ m.place ∷ m.count ∷ [])) numbers.old) }
+    ensures answer { result ≡ m.answer }
+    ensures written { numbers.new ≡ over (bytes_of (m.answer ∷ m.place ∷ m.count ∷ [])) numbers.old }
 {
     put_numbers(numbers, &[u64::from(m.answer), m.place as u64, m.count]);
     m.answer

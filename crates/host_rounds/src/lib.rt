@@ -15,6 +15,7 @@ const BYTES: usize = 48;
 const SHORT: u32 = 24;
 
 // Match in the other search order, with its rows in the form, and in the dialect, that the caller picks; what is left in the table is of no account.
+#[tactic(auto, unfolding(crate::specs::Rounds::rounds_called, host::specs::Border::match_told, host::specs::Border::match_numbers, services::specs::Matches::told))]
 #[unsafe(no_mangle)]
 pub extern "C" fn lozhbinor_rounds(
     form: u32,

@@ -10,7 +10,7 @@ use service_runs::opening::opened;
 use service_runs::run::{Run, advanced};
 use value_rows::Binding;
 
-// The run that a call leaves, and the answer that it gives back.
+// The run that a call leaves, and the answer that it gives back, which is C's number.
 #[repr(C)]
 #[derive(Drop)]
 pub struct Called {
@@ -27,6 +27,7 @@ const OPEN_BYTES: usize = 24;
 const ADVANCE_BYTES: usize = 48;
 
 // An opening with the run by value.
+#[tactic(auto, using(crate::proofs::Calls::open_rules))]
 pub fn open_called(
     run: Run,
     form: u32,
@@ -59,6 +60,7 @@ pub fn open_called(
 }
 
 // An advance with the run by value.
+#[tactic(auto, using(crate::proofs::Calls::advance_rules))]
 pub fn advance_called(run: Run, steps: u32, room: &mut [i32], numbers: &mut [u8]) -> Called
     ensures { AdvanceCalls run steps room.old numbers.old result room.new numbers.new }
 {

@@ -39,54 +39,64 @@ fn budget_of(steps: u64, portion: u32) -> u64
 fn search_on(
     from: Progress,
     terms: Terms,
-    m: &[i32],
-    t: &[i32],
+    words: Words,
     lines: &Lines,
     slots: &mut Slots,
     room: &mut [i32],
 ) -> Progress
-    requires target { Target t.now }
-    requires fine { Fine (env_by (columns_of lines.now) m.now t.now terms) }
-    requires valid { Valid (env_by (columns_of lines.now) m.now t.now terms) (run from.state (view_of (columns_of lines.now).arg slots.old) from.binds room.old) }
-    requires fresh { Fresh m.now 1 t.now 0 terms.fresh }
-    ensures { run result.state (view_of (columns_of lines.now).arg slots.new) result.binds room.new ≡ run_of (env_by (columns_of lines.now) m.now t.now terms) (terms.budget - from.state.steps) (run from.state (view_of (columns_of lines.now).arg slots.old) from.binds room.old) }
+    requires target { Target words.target.now }
+    requires fine { Fine (env_by (columns_of lines.now) words.matcher.now words.target.now terms) }
+    requires valid { Valid (env_by (columns_of lines.now) words.matcher.now words.target.now terms) (run from.state (view_of (columns_of lines.now).arg slots.old) from.binds room.old) }
+    requires fresh { Fresh words.matcher.now 1 words.target.now 0 terms.fresh }
+    ensures { run result.state (view_of (columns_of lines.now).arg slots.new) result.binds room.new ≡ run_of (env_by (columns_of lines.now) words.entry.matcher.now words.entry.target.now terms) (terms.budget - from.state.steps) (run from.state (view_of (columns_of lines.now).arg slots.old) from.binds room.old) }
 {
-    let units = Units { words: t };
+    let units = Units {
+        words: words.target,
+    };
     let mut places = no_places();
     places_of(units, &mut places);
     let mut waiting = *slots;
-    let last = advance(from, terms, m, units, &places, lines, &mut waiting, room);
+    let last = advance(
+        from,
+        terms,
+        words.matcher,
+        units,
+        &places,
+        lines,
+        &mut waiting,
+        room,
+    );
     *slots = waiting;
     last
 }
 
 // The search, if the run is sound. It is called from two places, once for each row form: then the compiler keeps it a function of its own, and its numbers in registers.
+#[tactic(auto, using(crate::proofs::Steady::try_rules))]
 fn try_on(
     from: Progress,
     terms: Terms,
-    m: &[i32],
-    t: &[i32],
+    words: Words,
     lines: &Lines,
     slots: &mut Slots,
     room: &mut [i32],
 ) -> Option<Progress>
-    requires target { Target t.now }
-    requires fine { Fine (env_by (columns_of lines.now) m.now t.now terms) }
+    requires target { Target words.target.now }
+    requires fine { Fine (env_by (columns_of lines.now) words.matcher.now words.target.now terms) }
     requires numbered { Numbered (columns_of lines.now).arg slots.old }
     requires closes { Closes (columns_of lines.now).op (columns_of lines.now).arg }
     requires stands { from.state.live ≡ 1 }
-    requires fresh { Fresh m.now 1 t.now 0 terms.fresh }
-    ensures tries { Tries (env_by (columns_of lines.now) m.now t.now terms) (terms.budget - from.state.steps) (run from.state (view_of (columns_of lines.now).arg slots.old) from.binds room.old) result slots.new room.new }
+    requires fresh { Fresh words.matcher.now 1 words.target.now 0 terms.fresh }
+    ensures tries { Tries (env_by (columns_of lines.now) words.entry.matcher.now words.entry.target.now terms) (terms.budget - from.state.steps) (run from.state (view_of (columns_of lines.now).arg slots.old) from.binds room.old) result slots.new room.new }
     ensures still { Still result slots.old slots.new room.old room.new }
 {
     let b = from.binds;
-    if !is_sound(from.state, b, room.len(), t, lines, slots) {
+    if !is_sound(from.state, b, room.len(), words.target, lines, slots) {
         return None;
     }
     if terms.origins {
-        return Some(search_on(from, terms, m, t, lines, slots, room));
+        return Some(search_on(from, terms, words, lines, slots, room));
     }
-    Some(search_on(from, terms, m, t, lines, slots, room))
+    Some(search_on(from, terms, words, lines, slots, room))
 }
 
 // What the opening was told: the form of the rows, and the dialect of the rule.
@@ -119,13 +129,5 @@ pub fn carry_on(
         firsts: picks.dialect.takes_firsts(),
         fresh: 0,
     };
-    try_on(
-        from,
-        terms,
-        words.matcher,
-        words.target,
-        &lines,
-        slots,
-        room,
-    )
+    try_on(from, terms, words, &lines, slots, room)
 }

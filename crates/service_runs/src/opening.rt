@@ -14,7 +14,7 @@ use tables::slot::no_slots;
 use value_places::places::Units;
 use value_rows::{Binding, VARIABLES};
 
-// The refusal, or 0; and the run.
+// The run, and the refusal or 0 as C's numbers.
 #[repr(C)]
 #[derive(Drop)]
 pub struct Start {
@@ -125,14 +125,21 @@ fn judged(form: u32, dialect: u32, words: Words) -> Result<(), Refused>
     Ok(())
 }
 
-// An opening, by value, for any words.
-pub fn opened(form: u32, dialect: u32, m: &[i32], p: &[i32], t: &[i32], size: u32) -> Start
-    ensures { Opens form dialect m.now p.now t.now size result }
+// An opening, by value, for any words, which come one by one as C lends them.
+pub fn opened(
+    form: u32,
+    dialect: u32,
+    matcher: &[i32],
+    pattern: &[i32],
+    target: &[i32],
+    size: u32,
+) -> Start
+    ensures { Opens form dialect matcher.now pattern.now target.now size result }
 {
     let words = Words {
-        matcher: m,
-        pattern: p,
-        target: t,
+        matcher,
+        pattern,
+        target,
     };
     match judged(form, dialect, words) {
         Ok(()) => begun(form, dialect, words, size),

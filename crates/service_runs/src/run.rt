@@ -112,6 +112,7 @@ fn are_lengths(matcher: usize, pattern: usize, target: usize) -> bool
 }
 
 // The same over the words that a run keeps, from where it stands.
+#[tactic(auto, using(crate::proofs::Lending::over_rules, crate::proofs::Lending::over_picked))]
 fn on_words(run: &Run, portion: u32, slots: &mut Slots, room: &mut [i32]) -> Option<Progress>
     requires stands { run.now.state.live ≡ 1 }
     requires slots_long { length slots.old ≡ 5 * slot_count }
@@ -140,6 +141,7 @@ fn on_words(run: &Run, portion: u32, slots: &mut Slots, room: &mut [i32]) -> Opt
 }
 
 // What a run tells that was not refused.
+#[tactic(auto, using(crate::proofs::Lending::tell_rules), unfolding(crate::specs::Kept::told))]
 fn told_of(x: State) -> Told
     ensures { told result ≡ numbers_of x }
 {
@@ -169,12 +171,12 @@ fn refused(answer: u32, place: usize, cause: u32) -> Told
         return unlike();
     }
     Told {
-        answer: answer,
-        place: place,
+        answer,
+        place,
         rows: 0,
         steps: 0,
         words: 0,
-        cause: cause,
+        cause,
     }
 }
 
@@ -219,5 +221,5 @@ pub fn advanced(mut run: Run, portion: u32, room: &mut [i32]) -> Out
             }
         }
     }
-    Out { run: run, told: t }
+    Out { run, told: t }
 }
