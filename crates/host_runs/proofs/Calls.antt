@@ -1,7 +1,7 @@
 -- The calls on a lent run, by value, as the code asks for them. Assumes nothing.
 use Prim.Native.Nat.{ℕ, ◌≤◌, ◌<◌}
 use native.Mathlib.Omega.{arith}
-use mathlib.Core.Path.{◌≡◌, refl, ap, ◌∙◌}
+use mathlib.Core.Path.{◌≡◌, refl, ◌∙◌}
 use mathlib.Core.List.{List, [], ◌∷◌}
 use lib.ListN.{length}
 use lib.IntN.{ℤ}
@@ -10,11 +10,9 @@ use Rattle.host_numbers.specs.Numbers.{bytes_of, over}
 use Rattle.service_runs.specs.Kept.{Advances}
 use Rattle.service_runs.specs.Opens.{Opens}
 use Rattle.service_runs.specs.declared.run.Run.{Run}
-use Rattle.service_runs.specs.declared.run.Told.{Told}
 use Rattle.service_runs.specs.declared.run.Out.{Out}
 use Rattle.service_runs.specs.declared.opening.Start.{Start}
-use Rattle.host_runs.specs.Runs.{both, start_numbers, Starts, OpenCalls, told_numbers, Goes, AdvanceCalls}
-use Rattle.host_runs.specs.declared.Called.{Called}
+use Rattle.host_runs.specs.Runs.{start_numbers, OpenCalls, told_numbers, AdvanceCalls}
 
 module _ (r : Run) (form dialect : ℕ) (ms ps ts : List ℤ) (size : ℕ) (numbers : List ℕ) where
   pub open_short : length numbers < 24 → OpenCalls r form dialect ms ps ts size numbers (record { run = r; answer = 24 }) numbers
