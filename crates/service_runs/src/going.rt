@@ -1,10 +1,10 @@
 // An advance of a run in which a state stands: its lines and places are computed again, and it is tested before the search goes on from it.
-ghost use Rattle.std.specs.Prelude.{◌≡◌, ◌-◌, ◌*◌, length};
+ghost use Rattle.std.specs.Prelude.{◌≡◌, ◌-◌};
 ghost use Rattle.run_rules.specs.Lent.{allowed};
 ghost use Rattle.services.specs.Matches.{Admitted};
 ghost use Rattle.services.specs.Picks.{dialect_in};
 ghost use Rattle.tables.specs.Line.{columns_of};
-ghost use Rattle.tables.specs.Slot.{slot_count, view_of};
+ghost use Rattle.tables.specs.Slot.{view_of};
 ghost use Rattle.value_places.specs.Places.{Target};
 ghost use Rattle.value_firsts.specs.Firsts.{Fresh};
 ghost use Rattle.search.specs.Run.{run, run_of};
@@ -117,7 +117,6 @@ pub fn carry_on(
 ) -> Option<Progress>
     requires admitted { Admitted (dialect_in picks.dialect) words.matcher.now words.pattern.now words.target.now }
     requires stands { from.state.live ≡ 1 }
-    requires slots_long { length slots.old ≡ 5 * slot_count }
     ensures { Carries (terms_by picks) words.entry.matcher.now words.entry.pattern.now words.entry.target.now portion from.state slots.old from.binds room.old result slots.new room.new }
 {
     let mut lines = no_lines();

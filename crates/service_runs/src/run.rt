@@ -1,6 +1,5 @@
 // A run that is lent by the game, as a struct by value: what it holds, and an advance of it.
-ghost use Rattle.std.specs.Prelude.{◌≡◌, ◌*◌, length};
-ghost use Rattle.tables.specs.Slot.{slot_count};
+ghost use Rattle.std.specs.Prelude.{◌≡◌};
 ghost use Rattle.run_sound.specs.Tested.{Decides};
 ghost use Rattle.service_runs.specs.Going.{terms_by};
 ghost use Rattle.service_runs.specs.Kept.{Goes, Over, Lengths, Refusal, Refuses, Advances, told, unlike_numbers, picks_in};
@@ -95,7 +94,6 @@ fn go_on(
     room: &mut [i32],
 ) -> Option<Progress>
     requires stands { from.state.live ≡ 1 }
-    requires slots_long { length slots.old ≡ 5 * slot_count }
     ensures { Goes (terms_by picks) words.entry.matcher.now words.entry.pattern.now words.entry.target.now portion from.state slots.old from.binds room.old result slots.new room.new }
 {
     if tested(picks.dialect, words).is_err() {
@@ -115,7 +113,6 @@ fn are_lengths(matcher: usize, pattern: usize, target: usize) -> bool
 #[tactic(auto, using(crate::proofs::Lending::over_rules, crate::proofs::Lending::over_picked))]
 fn on_words(run: &Run, portion: u32, slots: &mut Slots, room: &mut [i32]) -> Option<Progress>
     requires stands { run.now.state.live ≡ 1 }
-    requires slots_long { length slots.old ≡ 5 * slot_count }
     ensures { Over (terms_by (picks_in run.now.form run.now.dialect)) run.now.matchers run.now.matcher run.now.patterns run.now.pattern run.now.targets run.now.target portion run.now.state slots.old run.now.binds room.old result slots.new room.new }
 {
     if !are_lengths(run.matcher, run.pattern, run.target) {

@@ -9,7 +9,6 @@ pub carry_on-requires : goal.carry_on-requires
 carry_on-requires c = record {
   admitted = is_admitted _ _ _ _ _ c.tested.ensures (sym c.is_err.ensures.value ∙ c.if-is_err.false);
   stands = c.requires.stands;
-  slots_long = c.requires.slots_long;
 }
 
 pub returns : goal.returns
