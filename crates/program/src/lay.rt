@@ -9,7 +9,9 @@ ghost use Rattle.program.specs.Pass.{Waits, outcome_of};
 use program_lay::ends::{close, other};
 use program_lay::{divide, leaf, put};
 use program_parts::tags::{op_of, operands, reserved};
-use program_parts::{Part, Parts, behind_by, first_under, from_by, second_under, slot_by};
+use program_parts::{
+    Matcher, Part, Parts, Pattern, behind_by, first_under, from_by, second_under, slot_by,
+};
 use tables::instruction::{END, NIL};
 use tables::line::Lines;
 use words::tag_at;
@@ -23,23 +25,21 @@ pub struct Cursor {
 }
 
 // The lines of the next tag, and of the ends that wait no longer after it. Where nothing waits then, the words that are left are passed over.
-fn lay_next(c: Cursor, m: &[i32], p: &[i32], parts: &mut Parts, lines: &mut Lines) -> Cursor
-    requires brief { length m.now ≤ 64 }
-    requires short { length p.now ≤ 256 }
-    requires inside { c.at < length p.now }
+fn lay_next(c: Cursor, m: Matcher, p: Pattern, parts: &mut Parts, lines: &mut Lines) -> Cursor
+    requires inside { c.at < length p.words.now }
     requires within { Waits (stack_of parts.old) c }
-    requires low { (outcome_of m.now p.now (stack_of parts.old) c (columns_of lines.old)).lines < entries }
+    requires low { (outcome_of m.words.now p.words.now (stack_of parts.old) c (columns_of lines.old)).lines < entries }
     ensures further { c.at < result.at }
     ensures within { Waits (stack_of parts.new) result }
-    ensures same { outcome_of m.now p.now (stack_of parts.new) result (columns_of lines.new) ≡ outcome_of m.now p.now (stack_of parts.old) c (columns_of lines.old) }
+    ensures same { outcome_of m.entry.words.now p.entry.words.now (stack_of parts.new) result (columns_of lines.new) ≡ outcome_of m.entry.words.now p.entry.words.now (stack_of parts.old) c (columns_of lines.old) }
 {
-    let k = tag_at(m, usize::from(c.i));
-    let o = op_of(tag_at(p, c.at), k);
+    let k = tag_at(m.words, usize::from(c.i));
+    let o = op_of(tag_at(p.words, c.at), k);
     let f = parts.top().slot;
     let at = c.at + 1;
     let next = at + operands(o);
     if NIL < o {
-        let e = reserved(p, at, o);
+        let e = reserved(p.words, at, o);
         let j = first_under(o, c.i);
         let part = Part {
             slot: slot_by(o, c.pc, f),
@@ -53,11 +53,11 @@ fn lay_next(c: Cursor, m: &[i32], p: &[i32], parts: &mut Parts, lines: &mut Line
             i: j,
         };
     }
-    let q = leaf(p, at, k, o, c.i, f, c.pc, lines);
+    let q = leaf(p.words, at, k, o, c.i, f, c.pc, lines);
     let end = close(parts, q, lines);
     if parts.is_empty() {
         return Cursor {
-            at: p.len(),
+            at: p.words.len(),
             pc: end,
             i: 0,
         };
@@ -73,15 +73,13 @@ fn lay_next(c: Cursor, m: &[i32], p: &[i32], parts: &mut Parts, lines: &mut Line
 }
 
 // The rule's lines from the first entry on: the place of the last. Each step is as long as the words say, so it is along no range.
-pub fn lay(m: &[i32], p: &[i32], lines: &mut Lines) -> usize
-    requires brief { length m.now ≤ 64 }
-    requires short { length p.now ≤ 256 }
-    ensures last { suc result ≡ length (lines_of m.now p.now) }
-    ensures lines { columns_of lines.new ≡ laid 0 (lines_of m.now p.now) (columns_of lines.old) }
+pub fn lay(m: Matcher, p: Pattern, lines: &mut Lines) -> usize
+    ensures last { suc result ≡ length (lines_of m.entry.words.now p.entry.words.now) }
+    ensures lines { columns_of lines.new ≡ laid 0 (lines_of m.entry.words.now p.entry.words.now) (columns_of lines.old) }
 {
     let mut parts = Parts::none();
     let mut c = Cursor { at: 0, pc: 0, i: 0 };
-    while c.at < p.len() {
+    while c.at < p.words.len() {
         c = lay_next(c, m, p, &mut parts, lines);
     }
     put(c.pc, END, 0, 0, 0, 0, lines);

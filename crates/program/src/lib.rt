@@ -15,15 +15,14 @@ ghost use Rattle.program_rules.specs.Link.{ops_in, bindings_in, linked_in};
 use lay::lay;
 use link::link;
 use number::number;
+use program_parts::{Matcher, Pattern};
 use tables::line::Lines;
 
 // The rule's program: how many variables it has, its lines from the first entry on, and for each the place where the next state stands.
 #[tactic(auto, using(crate::proofs::Both::both_rules))]
-pub fn compile(m: &[i32], p: &[i32], lines: &mut Lines) -> usize
-    requires brief { length m.now ≤ 64 }
-    requires short { length p.now ≤ 256 }
-    ensures value { result ≡ bindings_in (ops_in (columns_of lines.new).op 0 (length (lines_of m.now p.now))) }
-    ensures lines { columns_of lines.new ≡ linked_in (length (lines_of m.now p.now)) (numbered (length (lines_of m.now p.now)) (laid 0 (lines_of m.now p.now) (columns_of lines.old))) }
+pub fn compile(m: Matcher, p: Pattern, lines: &mut Lines) -> usize
+    ensures value { result ≡ bindings_in (ops_in (columns_of lines.new).op 0 (length (lines_of m.entry.words.now p.entry.words.now))) }
+    ensures lines { columns_of lines.new ≡ linked_in (length (lines_of m.entry.words.now p.entry.words.now)) (numbered (length (lines_of m.entry.words.now p.entry.words.now)) (laid 0 (lines_of m.entry.words.now p.entry.words.now) (columns_of lines.old))) }
 {
     let last = lay(m, p, lines);
     number(last, lines);

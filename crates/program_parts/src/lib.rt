@@ -19,13 +19,26 @@ pub const END_OF_OR: u8 = 4;
 
 pub const END_OF_NOT: u8 = 5;
 
+// A matcher's words, of which a byte tells the index.
+#[derive(Clone, Copy)]
+pub struct Matcher<'a> {
+    pub words: &'a [i32],
+    ghost brief: { length words.now ≤ 64 },
+}
+
+// A pattern's words.
+#[derive(Clone, Copy)]
+pub struct Pattern<'a> {
+    pub words: &'a [i32],
+    ghost short: { length words.now ≤ 256 },
+}
+
 // Where the matcher ends whose tag is at an index.
 #[tactic(auto, using(crate::proofs::Laws::end_rules))]
-pub fn end_of(m: &[i32], i: u8) -> u8
-    requires { length m.now ≤ 64 }
-    ensures { result ≡ matcher_end m.now i }
+pub fn end_of(m: Matcher, i: u8) -> u8
+    ensures { result ≡ matcher_end m.entry.words.now i }
 {
-    let e = matcher_end(m, usize::from(i));
+    let e = matcher_end(m.words, usize::from(i));
     e as u8
 }
 
@@ -49,10 +62,9 @@ pub fn first_under(o: u16, i: u8) -> u8
 
 // The matcher of a second part.
 #[tactic(auto, using(crate::proofs::Laws::under_rules))]
-pub fn second_under(m: &[i32], o: u16, i: u8) -> u8
-    requires brief { length m.now ≤ 64 }
-    requires instruction { ((o ≡ 10 → ⊥) → o ≤ 13 → i + 2 < 256) }
-    ensures { result ≡ second_under m.now o i }
+pub fn second_under(m: Matcher, o: u16, i: u8) -> u8
+    requires { ((o ≡ 10 → ⊥) → o ≤ 13 → i + 2 < 256) }
+    ensures { result ≡ second_under m.entry.words.now o i }
 {
     if o == PAIR {
         return end_of(m, i + 2);
@@ -166,12 +178,11 @@ impl Parts {
 
     // The part on top waits no longer: the one behind it does, or what lies below.
     #[tactic(auto, using(crate::proofs::Laws::pop_rules))]
-    pub fn pop(&mut self, m: &[i32])
-        requires brief { length m.now ≤ 64 }
+    pub fn pop(&mut self, m: Matcher)
         requires some { 0 < self.old.depth }
         requires shallow { self.old.depth < 257 }
         requires low { get_or (stack_of self.old).slots self.old.depth 0 < 1000 }
-        ensures { stack_of self.new ≡ popped m.now (stack_of self.old) }
+        ensures { stack_of self.new ≡ popped m.entry.words.now (stack_of self.old) }
     {
         let d = self.depth;
         let part = self.waiting[d];

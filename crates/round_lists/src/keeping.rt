@@ -5,7 +5,7 @@ ghost use Rattle.tables.specs.Slot.{view_of};
 ghost use Rattle.round_table.specs.Entries.{Saved};
 ghost use Rattle.round_lists.specs.Lists.{waits_as, binds_as, Headed, Topped, Framed, Stored};
 
-use crate::{FIRST, HEAD};
+use crate::{FIRST, HEAD, Used};
 use round_table::slots::waiting_at;
 use round_table::{ENTRIES, put_entry};
 use search_step::State;
@@ -15,13 +15,11 @@ use value_rows::Binding;
 
 // The values that wait.
 #[tactic(auto, using(crate::proofs::Laws::own_rules))]
-fn keep_slots(table: &mut [i32], base: usize, used: usize, slots: &Slots)
-    requires all_bindings { 16 ≤ used }
-    requires few_slots { used ≤ 272 }
+fn keep_slots(table: &mut [i32], base: usize, used: Used, slots: &Slots)
     requires table_long { 3 * (base + 275) ≤ length table.old }
-    ensures { Saved table.old table.new base 16 used (waits_as slots.now) }
+    ensures { Saved table.old table.new base 16 used.slots (waits_as slots.now) }
 {
-    for j in FIRST..used {
+    for j in FIRST..used.slots {
         put_entry(table, base + HEAD + j, waiting_at(slots, j));
     }
 }
@@ -98,17 +96,15 @@ pub fn keep(
     b: [Binding; 16],
     r: usize,
     n: usize,
-    used: usize,
+    used: Used,
     lines: &Lines,
     slots: &Slots,
     table: &mut [i32],
 )
     requires framed { Framed (columns_of lines.now).arg slots.now x.top }
     requires few_variables { n ≤ 16 }
-    requires all_bindings { 16 ≤ used }
-    requires few_slots { used ≤ 272 }
     requires table_long { 825 * r + 825 ≤ length table.old }
-    ensures { Stored table.old table.new r n used x (view_of (columns_of lines.now).arg slots.now) slots.now b }
+    ensures { Stored table.old table.new r n used.slots x (view_of (columns_of lines.now).arg slots.now) slots.now b }
 {
     let base = r * ENTRIES;
     keep_first(table, base, x, lines, slots);

@@ -4,6 +4,16 @@
 pub mod keeping;
 pub mod taking;
 
+ghost use Rattle.std.specs.Prelude.{◌≤◌};
+
+// How many slots a rule's lines use, those of the variables among them.
+#[derive(Clone, Copy)]
+pub struct Used {
+    pub slots: usize,
+    ghost bindings: { 16 ≤ slots },
+    ghost most: { slots ≤ 272 },
+}
+
 // The first number of a slot that is no variable's.
 const FIRST: usize = 16;
 

@@ -5,7 +5,7 @@ ghost use Rattle.tables.specs.Slot.{view_of, Slotted, Alone};
 ghost use Rattle.round_table.specs.Entries.{entry_at};
 ghost use Rattle.round_lists.specs.Taken.{Waited, Shut, Rebound, TakenOut, reopened};
 
-use crate::{FIRST, HEAD};
+use crate::{FIRST, HEAD, Used};
 use round_table::slots::{put_alone, put_waiting};
 use round_table::{ENTRIES, entry_at};
 use tables::line::Lines;
@@ -14,26 +14,23 @@ use value_rows::Binding;
 
 // The values wait in their slots.
 #[tactic(auto, using(crate::proofs::Outs::own_rules))]
-fn take_slots(table: &[i32], base: usize, used: usize, slots: &mut Slots)
-    requires all_bindings { 16 ≤ used }
-    requires few_slots { used ≤ 272 }
+fn take_slots(table: &[i32], base: usize, used: Used, slots: &mut Slots)
     requires table_long { 3 * (base + 275) ≤ length table.now }
     requires slots_long { 1360 ≤ length slots.old }
-    ensures { Waited table.now base used slots.old slots.new }
+    ensures { Waited table.now base used.slots slots.old slots.new }
 {
-    for j in FIRST..used {
+    for j in FIRST..used.slots {
         put_waiting(slots, j, entry_at(table, base + HEAD + j));
     }
 }
 
 // No frame is below any.
 #[tactic(auto, using(crate::proofs::Outs::own_rules))]
-fn shut_slots(used: usize, slots: &mut Slots)
-    requires few_slots { used ≤ 272 }
+fn shut_slots(used: Used, slots: &mut Slots)
     requires slots_long { 1360 ≤ length slots.old }
-    ensures { Shut used slots.old slots.new }
+    ensures { Shut used.slots slots.old slots.new }
 {
-    for j in 0..used {
+    for j in 0..used.slots {
         put_alone(slots, j);
     }
 }
@@ -62,16 +59,14 @@ pub fn take_out(
     table: &[i32],
     r: usize,
     n: usize,
-    used: usize,
+    used: Used,
     given: [Binding; 16],
     slots: &mut Slots,
 ) -> [Binding; 16]
     requires few_variables { n ≤ 16 }
-    requires all_bindings { 16 ≤ used }
-    requires few_slots { used ≤ 272 }
     requires table_long { 825 * r + 825 ≤ length table.now }
     requires slots_long { 1360 ≤ length slots.old }
-    ensures { TakenOut table.now r n used slots.old slots.new given result }
+    ensures { TakenOut table.now r n used.slots slots.old slots.new given result }
 {
     let base = r * ENTRIES;
     shut_slots(used, slots);

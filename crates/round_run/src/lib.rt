@@ -11,6 +11,7 @@ ghost use Rattle.search.specs.Told.{env_by};
 ghost use Rattle.round_states.specs.Ruled.{Ruled};
 ghost use Rattle.round_run.specs.Runs.{no_table, ByRounds};
 
+use round_lists::Used;
 use round_lists::keeping::keep;
 use rounds::{Round, rounds};
 use search::{Report, Terms, open};
@@ -61,7 +62,9 @@ pub fn search_rounds(
     let mut places = no_places();
     places_of(units, &mut places);
     let mut slots = no_slots();
-    let used = slots_used(lines);
+    let used = Used {
+        slots: slots_used(lines),
+    };
     let first = open(units);
     let x = first.state;
     let b = first.binds;

@@ -5,6 +5,7 @@ ghost use Rattle.search.specs.Told.{env_by};
 ghost use Rattle.search.specs.Valid.{Given};
 ghost use Rattle.round_run.specs.Courses.{halted_at, Begins, Rounded, Starts, Arrived};
 
+use round_lists::Used;
 use round_sweep::pull::pull;
 use round_sweep::sweep::sweep;
 use round_sweep::turn::Sweep;
@@ -47,7 +48,7 @@ fn halt(x: State, b: Bindings, answer: u32) -> Round
 pub fn take_round(
     r: Round,
     terms: Terms,
-    used: usize,
+    used: Used,
     mt: &[i32],
     units: Units,
     places: &Places,
@@ -57,9 +58,9 @@ pub fn take_round(
     room: &mut [i32],
 ) -> Round
     requires given { Given units.words.now places.now }
-    requires begins { Begins (env_by (columns_of lines.now) mt.now units.words.now terms) used terms.budget r table.old slots.old room.old }
+    requires begins { Begins (env_by (columns_of lines.now) mt.now units.words.now terms) used.slots terms.budget r table.old slots.old room.old }
     requires budget_fits { terms.budget < 2 ^ 63 }
-    ensures { Rounded (env_by (columns_of lines.now) mt.now units.entry.words.now terms) used terms.budget r table.old slots.old room.old result table.new slots.new room.new }
+    ensures { Rounded (env_by (columns_of lines.now) mt.now units.entry.words.now terms) used.slots terms.budget r table.old slots.old room.old result table.new slots.new room.new }
 {
     let many = r.many;
     let x = r.state;
@@ -95,7 +96,7 @@ pub fn rounds(
     first: Round,
     limit: usize,
     terms: Terms,
-    used: usize,
+    used: Used,
     mt: &[i32],
     units: Units,
     places: &Places,
@@ -105,9 +106,9 @@ pub fn rounds(
     room: &mut [i32],
 ) -> Round
     requires given { Given units.words.now places.now }
-    requires starts { Starts (env_by (columns_of lines.now) mt.now units.words.now terms) used terms.budget limit first table.old slots.old room.old }
+    requires starts { Starts (env_by (columns_of lines.now) mt.now units.words.now terms) used.slots terms.budget limit first table.old slots.old room.old }
     requires budget_fits { terms.budget < 2 ^ 63 }
-    ensures { Arrived (env_by (columns_of lines.now) mt.now units.entry.words.now terms) used terms.budget limit first table.old slots.old room.old result table.new slots.new room.new }
+    ensures { Arrived (env_by (columns_of lines.now) mt.now units.entry.words.now terms) used.slots terms.budget limit first table.old slots.old room.old result table.new slots.new room.new }
 {
     let mut r = first;
     while r.many != 0 {

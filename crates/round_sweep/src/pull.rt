@@ -2,16 +2,15 @@
 ghost use Rattle.std.specs.Prelude.{◌+◌, ◌*◌, ◌≤◌, length};
 ghost use Rattle.round_sweep.specs.Pulls.{Pulled};
 
-use round_lists::HEAD;
+use round_lists::{HEAD, Used};
 use round_table::{ENTRIES, copy};
 
 // From the lists behind `many` on, `left` of them, to those behind `fresh`; of each the entries that the rule uses.
 #[tactic(auto, using(crate::proofs::Pulls::own_rules))]
-pub fn pull(table: &mut [i32], many: usize, fresh: usize, left: usize, used: usize)
+pub fn pull(table: &mut [i32], many: usize, fresh: usize, left: usize, used: Used)
     requires fresh { fresh ≤ many }
-    requires few_slots { used ≤ 272 }
     requires table_long { 825 * (many + left) ≤ length table.old }
-    ensures { Pulled table.old table.new many fresh left used }
+    ensures { Pulled table.old table.new many fresh left used.slots }
 {
     if fresh == many {
         return;
@@ -21,7 +20,7 @@ pub fn pull(table: &mut [i32], many: usize, fresh: usize, left: usize, used: usi
             table,
             (many + k) * ENTRIES,
             (fresh + k) * ENTRIES,
-            HEAD + used,
+            HEAD + used.slots,
         );
     }
 }

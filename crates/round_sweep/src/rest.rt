@@ -5,6 +5,7 @@ ghost use Rattle.search.specs.Told.{env_by};
 ghost use Rattle.search.specs.Valid.{Given};
 ghost use Rattle.round_sweep.specs.Rests.{Rests, Rested};
 
+use round_lists::Used;
 use round_table::{ENTRIES, entry_at};
 use search::Terms;
 use search_rounds::remainder::remain;
@@ -29,7 +30,7 @@ pub fn put_rest(
     i: usize,
     to: usize,
     terms: Terms,
-    used: usize,
+    used: Used,
     mt: &[i32],
     units: Units,
     places: &Places,
@@ -38,8 +39,8 @@ pub fn put_rest(
     table: &mut [i32],
 ) -> Rest
     requires given { Given units.words.now places.now }
-    requires rests { Rests (env_by (columns_of lines.now) mt.now units.words.now terms) used table.old i to x slots.old given }
-    ensures { Rested (env_by (columns_of lines.now) mt.now units.entry.words.now terms) used table.old table.new i to result.more slots.old slots.new given result.binds }
+    requires rests { Rests (env_by (columns_of lines.now) mt.now units.words.now terms) used.slots table.old i to x slots.old given }
+    ensures { Rested (env_by (columns_of lines.now) mt.now units.entry.words.now terms) used.slots table.old table.new i to result.more slots.old slots.new given result.binds }
 {
     let one = entry_at(table, i * ENTRIES + 1);
     if one.at == 0 {

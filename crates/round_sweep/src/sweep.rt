@@ -7,6 +7,7 @@ ghost use Rattle.round_sweep.specs.Turns.{Sweeps, SweptBy};
 
 use super::pull::pull;
 use super::turn::{Sweep, turn};
+use round_lists::Used;
 use search::Terms;
 use tables::line::Lines;
 use tables::place::Places;
@@ -18,7 +19,7 @@ pub fn sweep(
     first: Sweep,
     many: usize,
     terms: Terms,
-    used: usize,
+    used: Used,
     mt: &[i32],
     units: Units,
     places: &Places,
@@ -28,9 +29,9 @@ pub fn sweep(
     room: &mut [i32],
 ) -> Sweep
     requires given { Given units.words.now places.now }
-    requires sweeps { Sweeps (env_by (columns_of lines.now) mt.now units.words.now terms) used terms.budget many first table.old slots.old room.old }
+    requires sweeps { Sweeps (env_by (columns_of lines.now) mt.now units.words.now terms) used.slots terms.budget many first table.old slots.old room.old }
     requires budget_fits { terms.budget < 2 ^ 63 }
-    ensures { SweptBy (env_by (columns_of lines.now) mt.now units.entry.words.now terms) used terms.budget many first table.old slots.old room.old result table.new slots.new room.new }
+    ensures { SweptBy (env_by (columns_of lines.now) mt.now units.entry.words.now terms) used.slots terms.budget many first table.old slots.old room.old result table.new slots.new room.new }
 {
     let mut w = first;
     for i in 0..many {

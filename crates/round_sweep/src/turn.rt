@@ -7,6 +7,7 @@ ghost use Rattle.round_sweep.specs.Turns.{stopped_at, Following, Followed, Turni
 
 use super::count::choices_left;
 use super::rest::put_rest;
+use round_lists::Used;
 use round_lists::keeping::keep;
 use search::Terms;
 use search_rounds::first::{Taken, take_first};
@@ -55,15 +56,15 @@ fn follow(
     left: usize,
     waiting: usize,
     terms: Terms,
-    used: usize,
+    used: Used,
     mt: &[i32],
     s: &[i32],
     lines: &Lines,
     slots: &Slots,
     table: &mut [i32],
 ) -> Sweep
-    requires { Following (env_by (columns_of lines.now) mt.now s.now terms) used t fresh left waiting table.old slots.now }
-    ensures { Followed (env_by (columns_of lines.now) mt.now s.now terms) used t fresh left waiting table.old table.new slots.now result }
+    requires { Following (env_by (columns_of lines.now) mt.now s.now terms) used.slots t fresh left waiting table.old slots.now }
+    ensures { Followed (env_by (columns_of lines.now) mt.now s.now terms) used.slots t fresh left waiting table.old table.new slots.now result }
 {
     let x = t.state;
     let b = t.binds;
@@ -109,7 +110,7 @@ fn give_up(
     i: usize,
     many: usize,
     terms: Terms,
-    used: usize,
+    used: Used,
     mt: &[i32],
     units: Units,
     places: &Places,
@@ -119,10 +120,10 @@ fn give_up(
     room: &mut [i32],
 ) -> Halfway
     requires given { Given units.words.now places.now }
-    requires turning { Turning (env_by (columns_of lines.now) mt.now units.words.now terms) used terms.budget many i w table.old slots.old room.old }
+    requires turning { Turning (env_by (columns_of lines.now) mt.now units.words.now terms) used.slots terms.budget many i w table.old slots.old room.old }
     requires budget_left { w.state.steps < terms.budget }
     requires budget_fits { terms.budget < 2 ^ 63 }
-    ensures { GivenUp (env_by (columns_of lines.now) mt.now units.entry.words.now terms) used terms.budget many i w table.old slots.old room.old result.taken result.more table.new slots.new room.new }
+    ensures { GivenUp (env_by (columns_of lines.now) mt.now units.entry.words.now terms) used.slots terms.budget many i w table.old slots.old room.old result.taken result.more table.new slots.new room.new }
 {
     let x = w.state;
     let b = w.binds;
@@ -156,7 +157,7 @@ pub fn turn(
     i: usize,
     many: usize,
     terms: Terms,
-    used: usize,
+    used: Used,
     mt: &[i32],
     units: Units,
     places: &Places,
@@ -166,9 +167,9 @@ pub fn turn(
     room: &mut [i32],
 ) -> Sweep
     requires given { Given units.words.now places.now }
-    requires turning { Turning (env_by (columns_of lines.now) mt.now units.words.now terms) used terms.budget many i w table.old slots.old room.old }
+    requires turning { Turning (env_by (columns_of lines.now) mt.now units.words.now terms) used.slots terms.budget many i w table.old slots.old room.old }
     requires budget_fits { terms.budget < 2 ^ 63 }
-    ensures { Turned (env_by (columns_of lines.now) mt.now units.entry.words.now terms) used terms.budget many i w table.old slots.old room.old result table.new slots.new room.new }
+    ensures { Turned (env_by (columns_of lines.now) mt.now units.entry.words.now terms) used.slots terms.budget many i w table.old slots.old room.old result table.new slots.new room.new }
 {
     let x = w.state;
     if terms.budget <= x.steps {

@@ -7,6 +7,7 @@ ghost use Rattle.search.specs.Told.{env_by};
 ghost use Rattle.search.specs.Valid.{Given, Fine, Valid};
 ghost use Rattle.search_rounds.specs.Firsts.{alone_in, Inside, LeftBy, Firsts, TookBy};
 
+use round_lists::Used;
 use round_lists::taking::take_out;
 use round_table::{ENTRIES, entry_at};
 use search::{Progress, Terms, advance};
@@ -133,7 +134,7 @@ pub fn take_first(
     given: [Binding; 16],
     r: usize,
     terms: Terms,
-    used: usize,
+    used: Used,
     mt: &[i32],
     units: Units,
     places: &Places,
@@ -143,9 +144,9 @@ pub fn take_first(
     room: &mut [i32],
 ) -> Taken
     requires given { Given units.words.now places.now }
-    requires firsts { Firsts (env_by (columns_of lines.now) mt.now units.words.now terms) used table.now r terms.budget x slots.old given room.old }
+    requires firsts { Firsts (env_by (columns_of lines.now) mt.now units.words.now terms) used.slots table.now r terms.budget x slots.old given room.old }
     requires budget_fits { terms.budget < 2 ^ 63 }
-    ensures { TookBy (env_by (columns_of lines.now) mt.now units.entry.words.now terms) used table.now r terms.budget x slots.old given room.old result.spent result.state slots.new result.binds room.new }
+    ensures { TookBy (env_by (columns_of lines.now) mt.now units.entry.words.now terms) used.slots table.now r terms.budget x slots.old given room.old result.spent result.state slots.new result.binds room.new }
 {
     let b = take_out(table, r, terms.vars, used, given, slots);
     let y = alone_of(x, r, table);

@@ -5,6 +5,7 @@ ghost use Rattle.search.specs.Told.{env_by};
 ghost use Rattle.search.specs.Valid.{Given};
 ghost use Rattle.search_rounds.specs.Remaining.{Listed, head_in, Remained};
 
+use round_lists::Used;
 use round_lists::keeping::keep;
 use round_lists::taking::{reopen, take_out};
 use round_table::{ENTRIES, entry_at};
@@ -47,7 +48,7 @@ pub fn remain(
     r: usize,
     to: usize,
     terms: Terms,
-    used: usize,
+    used: Used,
     mt: &[i32],
     units: Units,
     places: &Places,
@@ -56,8 +57,8 @@ pub fn remain(
     table: &mut [i32],
 ) -> [Binding; 16]
     requires given { Given units.words.now places.now }
-    requires listed { Listed (env_by (columns_of lines.now) mt.now units.words.now terms) used table.old r to x slots.old given }
-    ensures { Remained (env_by (columns_of lines.now) mt.now units.entry.words.now terms) used table.old table.new r to slots.old slots.new given result }
+    requires listed { Listed (env_by (columns_of lines.now) mt.now units.words.now terms) used.slots table.old r to x slots.old given }
+    ensures { Remained (env_by (columns_of lines.now) mt.now units.entry.words.now terms) used.slots table.old table.new r to slots.old slots.new given result }
 {
     let n = terms.vars;
     let b = take_out(table, r, n, used, given, slots);

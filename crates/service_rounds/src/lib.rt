@@ -7,6 +7,7 @@ ghost use Rattle.services.specs.Picks.{form_in, dialect_in};
 ghost use Rattle.services.specs.Matches.{Admitted, told, reported, matched_by};
 
 use program::compile;
+use program_parts::{Matcher, Pattern};
 use round_run::search_rounds;
 use search::{Report, Terms};
 use services::matching::Matched;
@@ -28,7 +29,13 @@ fn carry_out(
     ensures { told (reported result) room.new ≡ match_rounds (dialect_in dialect) (form_in form) words.entry.matcher.now words.entry.pattern.now words.entry.target.now (states_in 825 (length table.old)) budget room.old }
 {
     let mut lines = no_lines();
-    let vars = compile(words.matcher, words.pattern, &mut lines);
+    let matcher = Matcher {
+        words: words.matcher,
+    };
+    let pattern = Pattern {
+        words: words.pattern,
+    };
+    let vars = compile(matcher, pattern, &mut lines);
     let terms = Terms {
         budget: u64::from(budget),
         vars,

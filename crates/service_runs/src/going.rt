@@ -14,6 +14,7 @@ ghost use Rattle.run_sound.specs.Sound.{Numbered, Closes};
 ghost use Rattle.service_runs.specs.Going.{Tries, Still, terms_by, Carries};
 
 use program::compile;
+use program_parts::{Matcher, Pattern};
 use run_sound::is_sound;
 use search::{Progress, Terms, advance};
 use services::picks::{Dialect, RowForm};
@@ -120,7 +121,13 @@ pub fn carry_on(
     ensures { Carries (terms_by picks) words.entry.matcher.now words.entry.pattern.now words.entry.target.now portion from.state slots.old from.binds room.old result slots.new room.new }
 {
     let mut lines = no_lines();
-    let vars = compile(words.matcher, words.pattern, &mut lines);
+    let matcher = Matcher {
+        words: words.matcher,
+    };
+    let pattern = Pattern {
+        words: words.pattern,
+    };
+    let vars = compile(matcher, pattern, &mut lines);
     let terms = Terms {
         budget: budget_of(from.state.steps, portion),
         vars,

@@ -8,6 +8,7 @@ use crate::picks::{Dialect, RowForm};
 use crate::refusal::Refused;
 use crate::testing::{Words, tested};
 use program::compile;
+use program_parts::{Matcher, Pattern};
 use search::{Report, Terms, search};
 use tables::line::no_lines;
 use value_places::places::Units;
@@ -56,7 +57,13 @@ fn carry_out(dialect: Dialect, form: RowForm, words: Words, budget: u32, room: &
     ensures { told (reported result) room.new ≡ match_of (dialect_in dialect) (form_in form) words.entry.matcher.now words.entry.pattern.now words.entry.target.now budget room.old }
 {
     let mut lines = no_lines();
-    let vars = compile(words.matcher, words.pattern, &mut lines);
+    let matcher = Matcher {
+        words: words.matcher,
+    };
+    let pattern = Pattern {
+        words: words.pattern,
+    };
+    let vars = compile(matcher, pattern, &mut lines);
     let terms = Terms {
         budget: u64::from(budget),
         vars,

@@ -9,6 +9,7 @@ ghost use Rattle.services.specs.Reviews.{Sound, counted_by, rows_by, rows_picked
 use crate::picks::Dialect;
 use crate::refusal::Refused;
 use program::compile;
+use program_parts::{Matcher, Pattern};
 use review_count::always::always_true;
 use review_count::count::{Tally, tallied};
 use tables::line::{Lines, no_lines};
@@ -68,6 +69,8 @@ fn of_rule(matcher: &[i32], pattern: &[i32], cap: i32) -> Result<Tally, Refused>
     ensures rows_value { (reviewed_by result).rows ≡ rows_reviewed cap (rule_of matcher.now pattern.now) }
 {
     let mut lines = no_lines();
+    let matcher = Matcher { words: matcher };
+    let pattern = Pattern { words: pattern };
     compile(matcher, pattern, &mut lines);
     if always_true(&lines) {
         return Err(Refused::AlwaysTrue);

@@ -6,8 +6,11 @@ use Rattle.services.proofs.Matches.{matcher_few, pattern_few}
 use Rattle.service_rounds.proofs.Matches.{ready_ruled, picked_rounds}
 use Rattle.service_rounds.proofs.carry_out.Goals as goal
 
-pub compile-vars-requires : goal.compile-vars-requires
-compile-vars-requires c = record { brief = matcher_few _ _ _ c.requires.ready; short = pattern_few _ _ _ c.requires.ready }
+pub invariant_of-matcher : goal.invariant_of-matcher
+invariant_of-matcher c = record { brief = matcher_few _ _ _ c.requires.ready }
+
+pub invariant_of-pattern : goal.invariant_of-pattern
+invariant_of-pattern c = record { short = pattern_few _ _ _ c.requires.ready }
 
 pub search_rounds-requires : goal.search_rounds-requires
 search_rounds-requires c = record {

@@ -16,7 +16,7 @@ pub returns-then-w-ne0 : goal.returns-then-w-ne0
 returns-then-w-ne0 c = let P = c.requires.begins in round_halts P.going P.some P.steps c.sweep-w.ensures c.if-w-ne0.true _ c.halt.ensures
 
 pub pull-requires : goal.pull-requires
-pull-requires c = let P = c.requires.begins in record { fresh = begins_fresh P c.sweep-w.ensures c.if-w-ne0.false; few_slots = P.journey.uses.most; table_long = begins_there P c.sweep-w.ensures c.if-w-ne0.false }
+pull-requires c = let P = c.requires.begins in record { fresh = begins_fresh P c.sweep-w.ensures c.if-w-ne0.false; table_long = begins_there P c.sweep-w.ensures c.if-w-ne0.false }
 
 pub overflow_add-result : goal.overflow_add-result
 overflow_add-result c = let P = c.requires.begins in

@@ -12,7 +12,7 @@ pub returns-then-x-eq-ENDED : goal.returns-then-x-eq-ENDED
 returns-then-x-eq-ENDED c = follow_none c.if-t.false c.if-x-eq-ENDED.true
 
 pub keep-requires : goal.keep-requires
-keep-requires c = record { framed = follow_framed c.if-t.false c.if-x-eq-FULL.false c.if-x-eq-ENDED.false c.requires; few_variables = c.requires.course.ruled.fine.few; all_bindings = c.requires.course.uses.variables; few_slots = c.requires.course.uses.most; table_long = c.requires.mid.place }
+keep-requires c = record { framed = follow_framed c.if-t.false c.if-x-eq-FULL.false c.if-x-eq-ENDED.false c.requires; few_variables = c.requires.course.ruled.fine.few; table_long = c.requires.mid.place }
 
 pub choices_left-more-requires : goal.choices_left-more-requires
 choices_left-more-requires c = follow_framing c.if-t.false c.if-x-eq-FULL.false c.if-x-eq-ENDED.false c.requires

@@ -2,7 +2,7 @@ use Rattle.search_rounds.proofs.Laws.{list_there, list_top, list_slotted, list_a
 use Rattle.search_rounds.proofs.remainder.remain.Goals as goal
 
 pub take_out-b-requires : goal.take_out-b-requires
-take_out-b-requires c = let L = c.requires.listed in record { few_variables = L.ruled.fine.few; all_bindings = L.uses.variables; few_slots = L.uses.most; table_long = list_there L; slots_long = L.clean.long }
+take_out-b-requires c = let L = c.requires.listed in record { few_variables = L.ruled.fine.few; table_long = list_there L; slots_long = L.clean.long }
 
 pub head_of-y-requires : goal.head_of-y-requires
 head_of-y-requires c = list_there c.requires.listed
@@ -18,7 +18,7 @@ settle-z-requires c = let g = c.requires.given in
     let L = c.requires.listed in record { placed = g.placed; named = list_named L c.take_out-b.ensures c.head_of-y.ensures c.reopen.new.slots c.reopen.ensures; picks_if = list_picks L c.take_out-b.ensures c.head_of-y.ensures c.reopen.new.slots c.reopen.ensures }
 
 pub keep-requires : goal.keep-requires
-keep-requires c = let L = c.requires.listed in record { framed = list_framed L c.take_out-b.ensures c.head_of-y.ensures c.reopen.new.slots c.reopen.ensures c.settle-z.result c.settle-z.new.slots c.settle-z.ensures; few_variables = L.ruled.fine.few; all_bindings = L.uses.variables; few_slots = L.uses.most; table_long = L.there }
+keep-requires c = let L = c.requires.listed in record { framed = list_framed L c.take_out-b.ensures c.head_of-y.ensures c.reopen.new.slots c.reopen.ensures c.settle-z.result c.settle-z.new.slots c.settle-z.ensures; few_variables = L.ruled.fine.few; table_long = L.there }
 
 pub returns : goal.returns
 returns c = remained c.requires.listed c.take_out-b.ensures c.head_of-y.ensures c.reopen.new.slots c.reopen.ensures c.settle-z.result c.settle-z.new.slots c.settle-z.ensures c.keep.ensures

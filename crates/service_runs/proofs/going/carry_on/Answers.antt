@@ -5,8 +5,11 @@ use Rattle.services.proofs.Matches.{ready_target, ready_fine, matcher_few, patte
 use Rattle.service_runs.proofs.Steady.{lines_close, slots_numbered, carry_picked}
 use Rattle.service_runs.proofs.going.carry_on.Goals as goal
 
-pub compile-vars-requires : goal.compile-vars-requires
-compile-vars-requires c = record { brief = matcher_few _ _ _ c.requires.admitted.ready; short = pattern_few _ _ _ c.requires.admitted.ready }
+pub invariant_of-matcher : goal.invariant_of-matcher
+invariant_of-matcher c = record { brief = matcher_few _ _ _ c.requires.admitted.ready }
+
+pub invariant_of-pattern : goal.invariant_of-pattern
+invariant_of-pattern c = record { short = pattern_few _ _ _ c.requires.admitted.ready }
 
 pub try_on-requires : goal.try_on-requires
 try_on-requires c = record {

@@ -4,8 +4,11 @@ use Rattle.services.specs.Matches.{told, reported}
 use Rattle.services.proofs.Matches.{matcher_few, pattern_few, ready_target, ready_some, ready_fine, ready_picked}
 use Rattle.services.proofs.matching.carry_out.Goals as goal
 
-pub compile-vars-requires : goal.compile-vars-requires
-compile-vars-requires c = record { brief = matcher_few _ _ _ c.requires.ready; short = pattern_few _ _ _ c.requires.ready }
+pub invariant_of-matcher : goal.invariant_of-matcher
+invariant_of-matcher c = record { brief = matcher_few _ _ _ c.requires.ready }
+
+pub invariant_of-pattern : goal.invariant_of-pattern
+invariant_of-pattern c = record { short = pattern_few _ _ _ c.requires.ready }
 
 pub invariant_of-units : goal.invariant_of-units
 invariant_of-units c = record { target = ready_target _ _ _ c.requires.ready }

@@ -7,8 +7,11 @@ use Rattle.services.specs.Reviews.{reviewed, reviewed_by}
 use Rattle.services.proofs.Rules.{matcher_few, pattern_few, always_given, always_rows, counted_given, counted_rows}
 use Rattle.services.proofs.review.of_rule.Goals as goal
 
-pub compile-requires : goal.compile-requires
-compile-requires c = record { brief = matcher_few _ _ c.requires; short = pattern_few _ _ c.requires }
+pub invariant_of-matcher : goal.invariant_of-matcher
+invariant_of-matcher c = record { brief = matcher_few _ _ c.requires }
+
+pub invariant_of-pattern : goal.invariant_of-pattern
+invariant_of-pattern c = record { short = pattern_few _ _ c.requires }
 
 pub returns-then-always_true : goal.returns-then-always_true
 unfolding reviewed reviewed_by refused_numbers declined
