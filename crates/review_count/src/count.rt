@@ -56,25 +56,30 @@ fn step(o: u16, earlier: u64) -> u64
     }
 }
 
+// The most elements of a collection.
+#[derive(Clone, Copy)]
+pub struct Cap {
+    pub most: u64,
+    ghost few: { most ≤ 64 },
+}
+
 // The factor of a line, so many conses being taken from the collection there.
 #[tactic(auto, unfolding(crate::specs::Tally::factor_of))]
-fn factor(o: u16, taken: u16, cap: u64) -> u64
-    requires { cap ≤ 64 }
-    ensures { result ≡ factor_of cap taken o }
+fn factor(o: u16, taken: u16, cap: Cap) -> u64
+    ensures { result ≡ factor_of cap.most taken o }
 {
     match o {
-        MULTISET_CONS => cap.saturating_sub(u64::from(taken)),
-        JOIN => cap + 1,
+        MULTISET_CONS => cap.most.saturating_sub(u64::from(taken)),
+        JOIN => cap.most + 1,
         _ => 1,
     }
 }
 
 // The product of the factors before the next line, `last` being the product that was laid aside with what was taken last.
 #[tactic(auto, unfolding(crate::specs::Tally::next_of, crate::specs::Tally::factor_of))]
-fn product(o: u16, earlier: u64, taken: u16, last: u64, cap: u64) -> u64
-    requires cap { cap ≤ 64 }
+fn product(o: u16, earlier: u64, taken: u16, last: u64, cap: Cap) -> u64
     requires sum_fits { earlier + last ≤ 281474976710656 }
-    ensures { result ≡ next_of cap o earlier taken last }
+    ensures { result ≡ next_of cap.most o earlier taken last }
 {
     match o {
         NOT_END | OR_OTHER => last,
@@ -173,10 +178,9 @@ fn depth_after(t: Turn, depth: usize) -> usize
 
 // The count for a largest collection of `cap` elements, none where it is too big. The sum never falls, so the first sum that is too big decides. `waits` is
 // what waits, up to a depth.
-#[tactic(auto, using(crate::proofs::count::Sums::own_rules, crate::proofs::count::Sums::own_rules))]
-pub fn tallied(lines: &Lines, cap: u64) -> Option<Tally>
-    requires { cap ≤ 64 }
-    ensures { result ≡ within (whole_sum cap (columns_of lines.now).op) (whole_product cap (columns_of lines.now).op) }
+#[tactic(auto, using(crate::proofs::count::Sums::own_rules))]
+pub fn tallied(lines: &Lines, cap: Cap) -> Option<Tally>
+    ensures { result ≡ within (whole_sum cap.most (columns_of lines.now).op) (whole_product cap.most (columns_of lines.now).op) }
 {
     let mut waits = [NOTHING; ENTRIES];
     let mut depth: usize = 0;

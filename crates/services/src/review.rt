@@ -11,7 +11,7 @@ use crate::refusal::Refused;
 use program::compile;
 use program_parts::{Matcher, Pattern};
 use review_count::always::always_true;
-use review_count::count::{Tally, tallied};
+use review_count::count::{Cap, Tally, tallied};
 use tables::line::{Lines, no_lines};
 use tests::rule_refused_in;
 use words::tag_of;
@@ -59,7 +59,10 @@ fn counted(lines: &Lines, cap: i32) -> Result<Tally, Refused>
     if MOST < most {
         return Err(Refused::Cap);
     }
-    tallied(lines, u64::from(most)).ok_or(Refused::TooBig)
+    let cap = Cap {
+        most: u64::from(most),
+    };
+    tallied(lines, cap).ok_or(Refused::TooBig)
 }
 
 // Test 11, and then 9 and 10, for a rule that was accepted.

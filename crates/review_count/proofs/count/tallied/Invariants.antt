@@ -4,4 +4,4 @@ use Rattle.review_count.proofs.count.Sums.{Here}
 use Rattle.review_count.proofs.count.tallied.Given as goal
 
 abbrev pub invariant-loop-pc : goal.invariant-loop-pc
-invariant-loop-pc l = Here (whole_sum l.cap (columns_of l.lines).op) (whole_product l.cap (columns_of l.lines).op) l.cap (columns_of l.lines).op l.waits l.depth l.total l.earlier l.last l.taken l.skip l.pc
+invariant-loop-pc l = Here (whole_sum l.cap.most (columns_of l.lines).op) (whole_product l.cap.most (columns_of l.lines).op) l.cap.most (columns_of l.lines).op l.waits l.depth l.total l.earlier l.last l.taken l.skip l.pc
