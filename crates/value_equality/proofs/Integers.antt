@@ -11,13 +11,11 @@ use lib.Dec.{eqb}
 use lib.ListN.{get_or}
 use lib.IntN.{ℤ, pos}
 use lib.Count.{count_trailing_zeros}
-use lib.Pow.{pow_pos}
 use Rattle.rules.specs.Numbers.{same}
 use Rattle.rules.specs.Forms.{integer}
 use Rattle.rules.specs.Equality.{equal}
 use Rattle.words.specs.Words.{tag_at}
 use Rattle.words.specs.Marks.{clear}
-use Rattle.words.proofs.marks.Places.{low_digit, clear_is}
 use Rattle.matchers.specs.Places.{matcher_at}
 use Rattle.matchers.proofs.Matchers.{matcher_1}
 use Rattle.value_places.specs.Places.{value_at, elements, count_at, Target, Tag, element_at}
@@ -125,20 +123,14 @@ module _ (s : List ℤ) (b z : ℕ) (w : Marks s b z) where
     pub marked_element : (k x : ℕ) → k ≡ count_trailing_zeros 64 z → x ≡ element_at s b k → Tag s x
     marked_element k x d p = rw (p, d) (low_tag s b z g w h)
 
-    pub marked_less : (z' : ℕ) → z' ≡ clear (count_trailing_zeros 64 z) z → z' < z
-    marked_less z' c =
-        let i = clear_is (count_trailing_zeros 64 z) z (low_digit 64 z h (marks_64 s b z g w)) in
-        let p = pow_pos (count_trailing_zeros 64 z) in
-        omega (arith, c, i)
-
-pub ruleset first_rules = (first_out, first_here, first_on, marked_tag, marked_on, marked_in, marked_element, marked_less, rules)
+pub ruleset first_rules = (first_out, first_here, first_on, marked_tag, marked_on, marked_in, marked_element, rules)
 
 -- ---- Two multisets; w is what they are to give, o what is known while one is left.
 
 module _ (s : List ℤ) (a x b y : ℕ) (w : Bool) (q : w ≡ integers_paired s a x b y) where
-  pub paired_out : x ≤ 0 → eqb y 0 ≡ w
+  pub paired_out : x ≡ 0 → eqb y 0 ≡ w
   unfolding integers_paired
-  paired_out h = let z : x ≡ 0 = omega arith in sym (q ∙ rw (eq-eqb x 0 z))
+  paired_out h = sym (q ∙ rw (eq-eqb x 0 h))
 
   module _ (g : Target s) (o : Both s a x b y) (h : 0 < x) (j e k : ℕ) (d : j ≡ count_trailing_zeros 64 x) (p : e ≡ element_at s a j) (u : k ≡ first_integer s e b y) where
     next_pair : w ≡ cond (eqb k 64) false (left_paired one 0 s a (clear (count_trailing_zeros 64 x) x) b (clear k y))
@@ -179,14 +171,11 @@ module _ (s : List ℤ) (a x b y : ℕ) (o : Both s a x b y) (h : 0 < x) where
   pub paired_element : Target s → (j e : ℕ) → j ≡ count_trailing_zeros 64 x → e ≡ element_at s a j → Tag s e
   paired_element g j e d p = marked_element s a x (o.firsts h) g h j e d p
 
-  pub paired_less : Target s → (x' : ℕ) → x' ≡ clear (count_trailing_zeros 64 x) x → x' < x
-  paired_less g x' n = marked_less s a x (o.firsts h) g h x' n
-
 pub paired_64 : (s : List ℤ) (e b y k : ℕ) → k ≡ first_integer s e b y → (k ≡ 64 → ⊥) → k < 64
 unfolding first_integer
 paired_64 s e b y k u f = (first_found (equal integer (value_at s e)) (elements (value_at s b)) y k u f).1
 
-pub ruleset paired_rules = (paired_out, paired_none, paired_on, paired_both, paired_tag, paired_second, paired_in, paired_element, paired_less, paired_64, rules)
+pub ruleset paired_rules = (paired_out, paired_none, paired_on, paired_both, paired_tag, paired_second, paired_in, paired_element, paired_64, rules)
 
 -- ---- In the comparison.
 

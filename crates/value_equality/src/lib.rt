@@ -13,7 +13,7 @@ ghost use Rattle.value_equality.specs.Levels.{ended_of, outcome_of, level_of, on
 use matchers::{matcher_end, width_at};
 use tables::place::Places;
 use value_places::places::{Units, count_at, element, number_at, whole};
-use words::marks::{full, lowest, rest, without};
+use words::marks::{Positions, full, lowest, rest, without};
 use words::{is_total, tag_at};
 
 // Whether the integer whose tag stands at a, plus c, is the integer at b.
@@ -260,14 +260,11 @@ fn first_integer(units: Units, places: &Places, e: usize, b: usize, y: u64) -> u
     requires marks { Marks units.words.now b y }
     ensures { result ≡ first_integer units.entry.words.now e b y }
 {
-    let mut z = y;
-    while 0 < z {
-        let k = lowest(z);
+    for k in Positions::of(y) {
         let f = element(units, places, b, k);
         if same_integers(units, e, f) {
             return k;
         }
-        z = rest(z);
     }
     64
 }
@@ -279,16 +276,14 @@ fn paired_integers(units: Units, places: &Places, a: usize, am: u64, b: usize, b
     requires both { Both units.words.now a am b bm }
     ensures { result ≡ integers_paired units.entry.words.now a am b bm }
 {
-    let mut x = am;
     let mut y = bm;
-    while 0 < x {
-        let e = element(units, places, a, lowest(x));
+    for j in Positions::of(am) {
+        let e = element(units, places, a, j);
         let k = first_integer(units, places, e, b, y);
         if k == 64 {
             return false;
         }
         y = without(y, k);
-        x = rest(x);
     }
     y == 0
 }

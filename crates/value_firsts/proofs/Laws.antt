@@ -67,9 +67,9 @@ pub ruleset value_rules = (values_integer, values_equal, values_held, rules)
 -- ---- Whether one before is equal.
 
 module _ (mt : List ℤ) (i : ℕ) (s : List ℤ) (at k : ℕ) (z : ℕ) (v : Bool) (q : v ≡ before_at mt i s at z k) where
-  pub before_out : z ≤ 0 → false ≡ v
+  pub before_out : z ≡ 0 → false ≡ v
   unfolding before_at before_of any_equal
-  before_out h = let y : z ≡ 0 = omega arith in sym (q ∙ rw y)
+  before_out h = sym (q ∙ rw h)
 
   module _ (g : Target s) (w : Held s at z) (h : 0 < z) (u : k < count_at s at) (e j f : ℕ) (r : Bool) (ee : e ≡ element_at s at k) (d : j ≡ count_trailing_zeros 64 z) (ef : f ≡ element_at s at j)
       (er : r ≡ wholes_equal mt i s f e) where

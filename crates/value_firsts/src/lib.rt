@@ -14,7 +14,7 @@ ghost use Rattle.value_firsts.specs.Firsts.{firsts_at, before_at, kept_with, Low
 use tables::place::Places;
 use value_equality::{equal, same_integers};
 use value_places::places::{Units, element, whole};
-use words::marks::{lowest, one, rest, without};
+use words::marks::{Positions, one, without};
 use words::{matcher, tag_at};
 
 // The highest place marked.
@@ -49,14 +49,11 @@ fn is_before(mt: &[i32], i: usize, units: Units, places: &Places, at: usize, m: 
     ensures { result ≡ before_at mt.now i units.entry.words.now at m k }
 {
     let e = element(units, places, at, k);
-    let mut z = m;
-    while 0 < z {
-        let j = lowest(z);
+    for j in Positions::of(m) {
         let f = element(units, places, at, j);
         if same_values(mt, i, units, places, f, e) {
             return true;
         }
-        z = rest(z);
     }
     false
 }

@@ -26,10 +26,13 @@ use Rattle.value_places.proofs.Ends.{ends_done, ends_base, ends_tag, ends_in, en
 pub fill_from : (s : List ℤ) (at from : ℕ) → at ≡ hops s (from - from) at
 fill_from s at from = hop_none s (from - from) at (omega arith)
 
-module _ (s : List ℤ) (old new : Sections) (at from n o e left : ℕ) (g : Target s) (q : EndsFrom s old.ends at) (w : Standing s n at)
-    (r : Standing s left e) (h : 0 < left) (i : e ≡ hops s (o - from) at) (l : from ≤ o) (z : o + left ≡ from + n) where
+pub fill_first : (s : List ℤ) (at from n : ℕ) → Standing s n at → Standing s (from + n - from) at
+fill_first s at from n w = let z : from + n - from ≡ n = omega arith in rw z w
+
+module _ (s : List ℤ) (old new : Sections) (at from n o e : ℕ) (g : Target s) (q : EndsFrom s old.ends at) (w : Standing s n at)
+    (r : Standing s (from + n - o) e) (i : e ≡ hops s (o - from) at) (l : from ≤ o) (h : o < from + n) where
   here_tag : Tag s e
-  here_tag = standing_tag s left e g r h
+  here_tag = standing_tag s (from + n - o) e g r (omega arith)
 
   pub fill_half : e / 2 < 512
   fill_half = tag_half s e g here_tag
@@ -45,8 +48,10 @@ module _ (s : List ℤ) (old new : Sections) (at from n o e left : ℕ) (g : Tar
           d ∙ ap (λ (y : Sections). get_or y.ends (e / 2) 0) p ∙ ap (λ l. get_or l (e / 2) 0) f.ends
           ∙ q.are e here_tag (omega (arith, i, hop_after s (o - from) at))
 
-      pub fill_next_standing : Standing s (left - 1) x
-      fill_next_standing = rw fill_end (standing_next s left e g r h)
+      pub fill_next_standing : Standing s (from + n - (o + 1)) x
+      fill_next_standing =
+          let z : from + n - (o + 1) ≡ from + n - o - 1 = omega arith in
+          rw (fill_end, z) (standing_next s (from + n - o) e g r (omega arith))
 
       pub fill_next_hops : x ≡ hops s (o + 1 - from) at
       fill_next_hops =
@@ -71,7 +76,7 @@ module _ (s : List ℤ) (old new : Sections) (at from n o e left : ℕ) (g : Tar
             let b : k ≡ o - from = omega arith in
             rw (a, b) (get_or-set_same new.places o e 0 (omega arith) ∙ i)
 
-module _ (s : List ℤ) (at from n o left : ℕ) (l : from ≤ o) (z : o + left ≡ from + n) (h : left ≤ 0) where
+module _ (s : List ℤ) (at from n o : ℕ) (l : from ≤ o) (z : o ≤ from + n) (h : from + n ≤ o) where
   all_done : o - from ≡ n
   all_done = omega arith
 
@@ -84,7 +89,7 @@ module _ (s : List ℤ) (at from n o left : ℕ) (l : from ≤ o) (z : o + left 
 pub fill_whole : (s : List ℤ) (at n from : ℕ) (old new : Sections) → Filled s at n from old new → Whole old → Whole new
 fill_whole s at n from old new f v = record { ends = ap length f.ends ∙ v.ends; bases = ap length f.bases ∙ v.bases; places = f.long ∙ v.places }
 
-pub ruleset fill_rules = (fill_from, fill_half, fill_small, fill_next_standing, fill_next_hops, fill_turn, fill_out, fill_all, place_whole, rules)
+pub ruleset fill_rules = (fill_from, fill_first, fill_half, fill_small, fill_next_standing, fill_next_hops, fill_turn, fill_out, fill_all, place_whole, rules)
 
 -- ---- The places of the elements and parts of all values, from the right.
 

@@ -71,13 +71,9 @@ fn fill(units: Units, places: &mut Places, at: usize, n: u32, from: usize) -> us
     ensures { (result ≡ hops units.entry.words.now n at) × Filled units.entry.words.now at n from (sections_of places.old) (sections_of places.new) }
 {
     let mut e = at;
-    let mut o = from;
-    let mut left = n;
-    while 0 < left {
+    for o in from..from + n as usize {
         put_place(places, o, e);
         e = end_at(places, e);
-        o += 1;
-        left -= 1;
     }
     e
 }

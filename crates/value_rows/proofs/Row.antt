@@ -107,9 +107,9 @@ two_room s at from l b = omega (arith, two_words (value_at s at))
 
 pub ruleset put_whole_rules = (tag_small, second, integer_end, integer_words, two_room, find_half, whole_le, whole_fits, copied_room, copied_end, copied, length_put, rules)
 
-pub size_done : (s : List ℤ) (at m n x : ℕ) → x ≡ n + size_left s at m → m ≤ 0 → n ≡ x
+pub size_done : (s : List ℤ) (at m n x : ℕ) → x ≡ n + size_left s at m → m ≡ 0 → n ≡ x
 unfolding size_left size_all
-size_done s at m n x e h = omega (arith, ap size_all (left_none s at m h))
+size_done s at m n x e h = omega (arith, ap size_all (left_none s at m (omega arith)))
 
 -- The next element.
 module _ (s : List ℤ) (at m k e : ℕ) (g : Target s) (w : Held s at m) (d : k ≡ count_trailing_zeros 64 m) (h : 0 < m) (i : e ≡ element_at s at k) where
@@ -158,9 +158,9 @@ pub ruleset size_rules = (size_int, size_tuple, size_collection, size_held, size
 
 -- ---- The words of a held value.
 
-pub put_done : (s room x : List ℤ) (at m o : ℕ) → x ≡ put room o (words_left s at m) → m ≤ 0 → room ≡ x
+pub put_done : (s room x : List ℤ) (at m o : ℕ) → x ≡ put room o (words_left s at m) → m ≡ 0 → room ≡ x
 unfolding words_left words_all
-put_done s room x at m o a h = sym (a ∙ rw (left_none s at m h) (put_none room o))
+put_done s room x at m o a h = sym (a ∙ rw (left_none s at m (omega arith)) (put_none room o))
 
 pub ruleset left_rules = (put_turn, put_size, put_room, put_done, size_done, length_put, held_tag, next_tag, next_in, next_less, held_clear, rules)
 

@@ -16,7 +16,7 @@ ghost use Rattle.value_rows.specs.Row.{form_by, told_at, bound, Bound};
 use origins::put_origin;
 use tables::place::{Places, end_at};
 use value_places::places::{Units, element, number_at};
-use words::marks::{count, lowest, rest};
+use words::marks::{Positions, count};
 
 // The most variables of a rule.
 pub const VARIABLES: usize = 16;
@@ -57,13 +57,10 @@ fn size_of(units: Units, places: &Places, at: usize, m: u64) -> usize
         return size_at(units, places, at);
     }
     let mut n: usize = 2;
-    let mut left = m;
-    while 0 < left {
-        let k = lowest(left);
+    for k in Positions::of(m) {
         let e = element(units, places, at, k);
         let end = end_at(places, e);
         n += end - e;
-        left = rest(left);
     }
     n
 }
@@ -131,12 +128,9 @@ fn put_left(
     ensures { (result ≡ from + size_left units.entry.words.now at m) × (room.new ≡ put room.old from (words_left units.entry.words.now at m)) }
 {
     let mut o = from;
-    let mut left = m;
-    while 0 < left {
-        let k = lowest(left);
+    for k in Positions::of(m) {
         let e = element(units, places, at, k);
         o = put_whole(units, places, e, room, o);
-        left = rest(left);
     }
     o
 }

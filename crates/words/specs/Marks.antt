@@ -1,6 +1,6 @@
 -- Marks: a number below 2 ^ 64 whose binary digit k, lowest first, says that element k is left. Which places are marked, in order; marks with one
 -- place cleared; the ways to part marks into a front and a back.
-use Rattle.std.specs.Prelude.{ℕ, zero, suc, ◌+◌, ◌*◌, ◌/◌, ◌%◌, ◌^◌, List, [], ◌∷◌, map, ◌≡◌}
+use Rattle.std.specs.Prelude.{ℕ, zero, suc, ◌+◌, ◌*◌, ◌/◌, ◌%◌, ◌^◌, ◌<◌, List, [], ◌∷◌, map, ◌≡◌, Option, MatchOption}
 use Rattle.std.specs.Int.Count.{count_trailing_zeros}
 
 -- Digit k of m.
@@ -25,6 +25,10 @@ zero_if (suc d) l = 0 ∷ l
 unfoldable pub positions : ℕ → ℕ → List ℕ
 positions zero m = []
 positions (suc k) m = zero_if (m % 2) (map suc (positions k (m / 2)))
+
+-- From marks m an iterator goes on to marks n: it gives the lowest place, which n lacks; where no place is marked, it gives none and stays.
+abbrev pub TakesLowest : ℕ → Option ℕ → ℕ → Type 0
+TakesLowest m r n = MatchOption r ((m ≡ 0) × (n ≡ 0)) (λ k. (0 < m) × (k ≡ count_trailing_zeros 64 m) × (n ≡ clear (count_trailing_zeros 64 m) m))
 
 -- The marks in two: a front, and a back above it; the shortest front first.
 pub record Split : Type 0 where

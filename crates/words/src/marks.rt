@@ -1,7 +1,7 @@
 // Document 01, "A collection has at most 64 elements": what is left of a collection is 64 marks.
 ghost use Rattle.std.specs.Prelude.{◌≡◌, ◌+◌, ◌-◌, ◌^◌, ◌<◌, ◌≤◌};
 ghost use Rattle.std.specs.Int.Count.{ones, count_trailing_zeros};
-ghost use Rattle.words.specs.Marks.{clear, Longer};
+ghost use Rattle.words.specs.Marks.{clear, TakesLowest, Longer};
 
 // The lowest place marked; 64 where none is.
 pub fn lowest(m: u64) -> u32
@@ -51,6 +51,42 @@ pub fn rest(m: u64) -> u64
     ensures { result ≡ clear (count_trailing_zeros 64 m) m }
 {
     m & (m - 1)
+}
+
+// The places that are marked, the lowest first.
+#[derive(Drop)]
+pub struct Positions {
+    left: u64,
+}
+
+impl Positions {
+    // The places marked in m.
+    pub fn of(m: u64) -> Positions
+        ensures { result.left ≡ m }
+    {
+        Positions { left: m }
+    }
+}
+
+impl Iterator for Positions {
+    ghost use Rattle.std.specs.Iterator.{at_most};
+
+    type Item = u32;
+
+    ghost next_gives = { λ old r new. TakesLowest old.left r new.left };
+
+    ghost remaining = { λ s. at_most (ones s.left) };
+
+    #[inline(always)]
+    #[tactic(auto, using(crate::proofs::marks::Places::ones_low))]
+    fn next(&mut self) -> Option<u32> {
+        if self.left == 0 {
+            return None;
+        }
+        let k = lowest(self.left);
+        self.left = rest(self.left);
+        Some(k)
+    }
 }
 
 // The marks of a join in two: a front, and a back above it.

@@ -3,8 +3,5 @@ use Rattle.value_equality.specs.Equality.{first_integer}
 use Rattle.value_equality.specs.Levels.{Marks}
 use Rattle.value_equality.proofs.first_integer.Given as goal
 
-abbrev pub invariant-loop-z : goal.invariant-loop-z
-invariant-loop-z l = (first_integer l.units.words.now l.e l.b l.y ≡ first_integer l.units.words.now l.e l.b l.z) × Marks l.units.words.now l.b l.z
-
-abbrev pub decreases-loop-z : goal.decreases-loop-z
-decreases-loop-z l = l.z
+abbrev pub invariant-loop-k : goal.invariant-loop-k
+invariant-loop-k l = (first_integer l.units.words.now l.e l.b l.y ≡ first_integer l.units.words.now l.e l.b l.k-iterator.left) × Marks l.units.words.now l.b l.k-iterator.left

@@ -3,8 +3,5 @@ use Rattle.value_equality.specs.Equality.{integers_paired}
 use Rattle.value_equality.specs.Levels.{Both}
 use Rattle.value_equality.proofs.paired_integers.Given as goal
 
-abbrev pub invariant-loop-x : goal.invariant-loop-x
-invariant-loop-x l = (integers_paired l.units.words.now l.a l.am l.b l.bm ≡ integers_paired l.units.words.now l.a l.x l.b l.y) × Both l.units.words.now l.a l.x l.b l.y
-
-abbrev pub decreases-loop-x : goal.decreases-loop-x
-decreases-loop-x l = l.x
+abbrev pub invariant-loop-j : goal.invariant-loop-j
+invariant-loop-j l = (integers_paired l.units.words.now l.a l.am l.b l.bm ≡ integers_paired l.units.words.now l.a l.j-iterator.left l.b l.y) × Both l.units.words.now l.a l.j-iterator.left l.b l.y

@@ -3,10 +3,13 @@ use Rattle.value_firsts.proofs.Laws.{before_rules}
 use Rattle.value_firsts.proofs.is_before.Goals as goal
 
 pub element-f-requires : goal.element-f-requires
-element-f-requires c = search before_rules
+element-f-requires c = let h = c.in-Some.ensures.steps in search before_rules
 
 pub same_values-requires : goal.same_values-requires
-same_values-requires c = search before_rules
+same_values-requires c = let h = c.in-Some.ensures.steps in search before_rules
 
-pub loop-z-preserved : goal.loop-z-preserved
-loop-z-preserved c = search before_rules
+pub loop-j-preserved : goal.loop-j-preserved
+loop-j-preserved c = let h = c.in-Some.ensures.steps in search before_rules
+
+pub returns : goal.returns
+returns c = let h = c.in-None.ensures.steps in search before_rules

@@ -171,6 +171,12 @@ count_positions (suc k) m h = by_digit_lem _ m
     (λ e. rw (ones_step m, e, length-map (positions k (m / 2)) suc, count_positions k (m / 2) (half_lt k m h)) (omega arith))
     (λ e. rw (ones_step m, e, length-map (positions k (m / 2)) suc, count_positions k (m / 2) (half_lt k m h)) (omega arith))
 
+pub ones_low : (k m : ℕ) → 0 < m → m < 2 ^ k → ones (clear (count_trailing_zeros k m) m) < ones m
+ones_low k m h l =
+    let t = count_trailing_zeros k m in
+    let e = rw (positions_low k m h l) at (count_positions k m l) in
+    omega (arith, e, count_positions k (clear t m) (clear_lt k t m l))
+
 -- ---- All of n.
 
 pub full_odd : (n : ℕ) → (2 ^ suc n - 1) % 2 ≡ 1

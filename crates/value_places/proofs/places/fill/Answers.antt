@@ -7,5 +7,5 @@ put_place-requires c = search fill_rules
 pub end_at-e-requires : goal.end_at-e-requires
 end_at-e-requires c = search fill_rules
 
-pub loop-left-preserved : goal.loop-left-preserved
-loop-left-preserved c = (search fill_rules, search fill_rules, search fill_rules, search fill_rules, search fill_rules, search fill_rules)
+pub loop-o-preserved : goal.loop-o-preserved
+loop-o-preserved c = (search fill_rules, search fill_rules, search fill_rules, search fill_rules, search fill_rules, search fill_rules)
