@@ -82,6 +82,7 @@ fn take_sums(
     let mut rows = first.rows;
     let mut words = first.words;
     let mut more = rest(left);
+    // Not over positions: the marks that are left are told at each return, and end it one mark early.
     while 0 < more {
         if end < steps {
             return tally_of(left, steps, rows, words);
@@ -146,6 +147,7 @@ fn take_all(
     let mut words = first.words;
     let mut last = part.value;
     let mut next = rest(left);
+    // Not over positions: the marks that are left are told at each return, and end it one mark early.
     while 0 < next {
         if budget - steps < 5 {
             return taken_of(left, steps, rows, words, last);

@@ -45,6 +45,7 @@ pub fn seek(
     let mut left = first.left;
     let mut steps = first.steps;
     let mut more = rest(left);
+    // Not over positions: the marks that are left are the answer, and end it one mark early.
     while 0 < more {
         let k = lowest(left);
         let e = element(units, places, at, k);

@@ -89,6 +89,7 @@ pub fn seek_pairs(
     let mut steps = first.steps;
     let mut last: usize = 0;
     let mut more = rest(left);
+    // Not over positions: the marks that are left are the answer, and end it one mark early.
     while 0 < more {
         let k = lowest(left);
         let e = element(units, places, at, k);

@@ -315,6 +315,7 @@ fn compared(
     let mut l = begun(kind, at, a, x, b, y);
     let mut levels = [l; 8];
     let mut depth: usize = 0;
+    // Each turn opens a level or closes one, and the last one closed ends it: there is nothing to go over.
     loop {
         let done = ended(l.x, l.z);
         if done {

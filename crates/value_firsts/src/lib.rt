@@ -120,6 +120,7 @@ pub fn firsts_above(
 {
     let mut left = span.marks;
     let mut out: u64 = 0;
+    // Not over positions: what is left at each turn is what the element is compared with, and is counted down all the same.
     while span.stop < left {
         let k = highest(left);
         left = left - one(k);

@@ -1,7 +1,7 @@
 -- The places of values, as the code asks: of values that stand one after the other, of all elements and parts, and one found. Assumes nothing.
 use mathlib.Core.Path.{◌≡◌, ◌∙◌, ap}
 use mathlib.Core.List.{List}
-use Prim.Native.Nat.{ℕ, zero, suc, ◌+◌, ◌-◌, ◌/◌, ◌%◌, ◌<◌, ◌≤◌}
+use Prim.Native.Nat.{ℕ, zero, suc, ◌+◌, ◌-◌, ◌*◌, ◌/◌, ◌<◌, ◌≤◌}
 use native.Mathlib.Decide.{dec_lt}
 use native.Mathlib.Omega.{arith}
 use borrow.Author.Rules.{rules}
@@ -112,65 +112,67 @@ count_step s at g w =
     rw (forest_at s at g w) (count_node (tag_at s at) (get_or s (at + 1) (negsuc 0)) (forest (drop (at + 2) s)) (standing_at s at g w (count_at s at) (omega arith)).some)
 
 -- At the end of the words there are no values.
-pub from_start : (s : List ℤ) → Target s → 0 + count (forest (drop (length s) s)) + length s / 2 ≤ 512
+pub from_start : (s : List ℤ) → Target s → 0 + count (forest (drop (2 * (length s / 2)) s)) + length s / 2 ≤ 512
 unfolding forest count
-from_start s g = rw (drop-length s) (let l = g.short in omega arith)
+from_start s g =
+    let z : 2 * (length s / 2) ≡ length s = omega (arith, even_length s g) in
+    rw (z, drop-length s) (let l = g.short in omega arith)
 
 -- An end that is put leaves the places.
 pub from_end : (s : List ℤ) (at used i v : ℕ) (x y : Sections) → y ≡ put_end i v x → PlacesFrom s x at used → PlacesFrom s y at used
 unfolding put_end
 from_end s at used i v x y b p = rw b (record { low = p.low; are = p.are })
 
-module _ (s : List ℤ) (at used n : ℕ) (g : Target s) (e : at % 2 ≡ 0) (l : at ≤ length s) (h : 1 < at) (c : n ≡ count_at s (at - 2))
-    (u : used + count (forest (drop at s)) + at / 2 ≤ 512) where
+module _ (s : List ℤ) (pairs used n : ℕ) (g : Target s) (l : pairs ≤ length s / 2) (h : 0 < pairs) (c : n ≡ count_at s (2 * (pairs - 1)))
+    (u : used + count (forest (drop (2 * pairs) s)) + pairs ≤ 512) where
   pub from_room : used + n ≤ 512
-  from_room = let z : at - 2 + 2 ≡ at = omega arith in omega (arith, rw z at (ends_standing s at g e l h n c).some)
+  from_room = let z : 2 * (pairs - 1) + 2 ≡ 2 * pairs = omega arith in omega (arith, rw z at (ends_standing s pairs g l h n c).some)
 
-  from_step : used + n + count (forest (drop (at - 2) s)) + (at - 2) / 2 ≤ 512
-  from_step = let z : at - 2 + 2 ≡ at = omega arith in omega (arith, rw z at (count_step s (at - 2) g (ends_tag s at g e l h)))
+  from_step : used + n + count (forest (drop (2 * (pairs - 1)) s)) + (pairs - 1) ≤ 512
+  from_step = let z : 2 * (pairs - 1) + 2 ≡ 2 * pairs = omega arith in omega (arith, rw z at (count_step s (2 * (pairs - 1)) g (ends_tag s pairs g l h)))
 
-  pub from_turn : (k : ℕ) → k ≡ n → used + k + count (forest (drop (at - 2) s)) + (at - 2) / 2 ≤ 512
+  pub from_turn : (k : ℕ) → k ≡ n → used + k + count (forest (drop (2 * (pairs - 1)) s)) + (pairs - 1) ≤ 512
   from_turn k d = rw d from_step
 
   module _ (z : n ≡ 0) where
-    pub from_none_turn : used + count (forest (drop (at - 2) s)) + (at - 2) / 2 ≤ 512
+    pub from_none_turn : used + count (forest (drop (2 * (pairs - 1)) s)) + (pairs - 1) ≤ 512
     from_none_turn = omega (arith, from_step)
 
-    pub from_none : (x : Sections) → PlacesFrom s x at used → PlacesFrom s x (at - 2) used
+    pub from_none : (x : Sections) → PlacesFrom s x (2 * pairs) used → PlacesFrom s x (2 * (pairs - 1)) used
     from_none x p = record { low = λ a j w m o. p.low a j w (after a j w m o) o; are = λ a j w m o. p.are a j w (after a j w m o) o }
       where
-        after : (a j : ℕ) → Tag s a → at - 2 ≤ a → j < count_at s a → at ≤ a
-        after a j = one_more s at g e l h (λ a. j < count_at s a → at ≤ a) (λ a w m o. m) (λ o. absurd (omega arith)) a
+        after : (a j : ℕ) → Tag s a → 2 * (pairs - 1) ≤ a → j < count_at s a → 2 * pairs ≤ a
+        after a j = one_more s pairs g l h (λ a. j < count_at s a → 2 * pairs ≤ a) (λ a w m o. m) (λ o. absurd (omega arith)) a
 
-  module _ (x y z : Sections) (b : y ≡ put_base ((at - 2) / 2) used x) (f : Filled s (at - 2 + 2) n used y z) where
-    pub from_some : (k : ℕ) → k ≡ n → Whole x → PlacesFrom s x at used → PlacesFrom s z (at - 2) (used + k)
+  module _ (x y z : Sections) (b : y ≡ put_base (2 * (pairs - 1) / 2) used x) (f : Filled s (2 * (pairs - 1) + 2) n used y z) where
+    pub from_some : (k : ℕ) → k ≡ n → Whole x → PlacesFrom s x (2 * pairs) used → PlacesFrom s z (2 * (pairs - 1)) (used + k)
     unfolding put_base element_at
     from_some k i v p = rw i (record {
-      low = λ a j w m. one_more s at g e l h (λ a. j < count_at s a → get_or z.bases (a / 2) 0 + j < used + n)
+      low = λ a j w m. one_more s pairs g l h (λ a. j < count_at s a → get_or z.bases (a / 2) 0 + j < used + n)
           (λ a w m o. rw (other a m) (let d = p.low a j w m o in omega arith))
           (λ o. rw same (omega arith))
           a w m;
-      are = λ a j w m. one_more s at g e l h (λ a. j < count_at s a → get_or z.places (get_or z.bases (a / 2) 0 + j) 0 ≡ element_at s a j)
+      are = λ a j w m. one_more s pairs g l h (λ a. j < count_at s a → get_or z.places (get_or z.bases (a / 2) 0 + j) 0 ≡ element_at s a j)
           (λ a w m o. rw (other a m) (below (get_or x.bases (a / 2) 0 + j) (p.low a j w m o) ∙ p.are a j w m o))
           (λ o. rw same (f.written j (omega arith)))
           a w m;
     })
       where
-        based : (a : ℕ) → get_or z.bases (a / 2) 0 ≡ get_or (set x.bases ((at - 2) / 2) used) (a / 2) 0
+        based : (a : ℕ) → get_or z.bases (a / 2) 0 ≡ get_or (set x.bases (2 * (pairs - 1) / 2) used) (a / 2) 0
         based a = ap (λ l. get_or l (a / 2) 0) (f.bases ∙ ap (λ (t : Sections). t.bases) b)
 
-        same : get_or z.bases ((at - 2) / 2) 0 ≡ used
-        same = based (at - 2) ∙ get_or-set_same x.bases ((at - 2) / 2) used 0 (omega (arith, v.bases, ends_in s at g e l h))
+        same : get_or z.bases (2 * (pairs - 1) / 2) 0 ≡ used
+        same = based (2 * (pairs - 1)) ∙ get_or-set_same x.bases (2 * (pairs - 1) / 2) used 0 (omega (arith, v.bases, ends_in s pairs g l h))
 
-        other : (a : ℕ) → at ≤ a → get_or z.bases (a / 2) 0 ≡ get_or x.bases (a / 2) 0
-        other a m = based a ∙ get_or-set_other x.bases ((at - 2) / 2) (a / 2) used 0 (λ y. omega arith)
+        other : (a : ℕ) → 2 * pairs ≤ a → get_or z.bases (a / 2) 0 ≡ get_or x.bases (a / 2) 0
+        other a m = based a ∙ get_or-set_other x.bases (2 * (pairs - 1) / 2) (a / 2) used 0 (λ y. omega arith)
 
         below : (j : ℕ) → j < used → get_or z.places j 0 ≡ get_or x.places j 0
         below j m = f.below j m ∙ ap (λ (t : Sections). get_or t.places j 0) b
 
-pub from_done : (s : List ℤ) (t : List ℕ) (at used : ℕ) → Ends s (sections_of t).ends → PlacesFrom s (sections_of t) at used → at ≤ 1 → at % 2 ≡ 0
-    → used + count (forest (drop at s)) + at / 2 ≤ 512 → Placed s t
-from_done s t at used q p h e u = record {
+pub from_done : (s : List ℤ) (t : List ℕ) (pairs used : ℕ) → Ends s (sections_of t).ends → PlacesFrom s (sections_of t) (2 * pairs) used → pairs ≤ 0
+    → used + count (forest (drop (2 * pairs) s)) + pairs ≤ 512 → Placed s t
+from_done s t pairs used q p h u = record {
   ends = q;
   low = λ a k w c. let d = p.low a k w (omega arith) c in omega arith;
   are = λ a k w c. p.are a k w (omega arith) c;

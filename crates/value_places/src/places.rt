@@ -84,10 +84,9 @@ pub fn places_of(units: Units, places: &mut Places)
     requires { Whole (sections_of places.old) }
     ensures { Placed units.entry.words.now places.new }
 {
-    let mut at = units.words.len();
     let mut used: usize = 0;
-    while 1 < at {
-        at -= 2;
+    for pair in (0..units.words.len() / 2).rev() {
+        let at = 2 * pair;
         let n = count_at(units, at);
         if n == 0 {
             put_end(places, at, at + 2);
