@@ -9,6 +9,7 @@ use lib.Seq.{get_or-set_same, get_or-set_other, set-get_or, set-set, set_comm}
 use lib.Count.{count_trailing_zeros}
 use lib.IntN.{ℤ, pos}
 use borrow.Author.Tests.{ne_eqb}
+use Rattle.std.specs.Prelude.{Option, Some, None}
 use Rattle.words.specs.Marks.{clear}
 use Rattle.value_places.specs.Places.{element_at}
 use Rattle.value_rows.specs.Row.{nothing}
@@ -19,7 +20,8 @@ use Rattle.search_atom.specs.Leaves.{when, is_wide, stored, part_marks, part_hel
 use Rattle.search_step.specs.declared.State.{State}
 use Rattle.search_step.specs.Steps.{counted, moved, lived, dropped, apart_at, apart_ats, apart_backs, apart_of}
 use Rattle.search_seek.specs.Passed.{later, timed}
-use Rattle.search_seek.specs.Pairs.{is_part, cost_of, lowest_in, PassedPairs, stays, over, waiting}
+use Rattle.search_seek.specs.Pairs.{is_part, second_cost, cost_of, lowest_in, PassedPairs, stays, over, waiting}
+use Rattle.search_seek.specs.declared.pairs.Sum.{Sum}
 use Rattle.search_seek.specs.declared.pairs.Wanted.{Wanted}
 use Rattle.search_seek.proofs.Passing.{element_some}
 use Rattle.search.specs.Plain.{divide_of, step_by, step_of}
@@ -37,11 +39,11 @@ take_apart e x t b room z f = rw (z, f)
 
 -- What is asked of the pair behind line j, the cons: the line of its first part asks for one integer; and the one after it, where both are asked for, for
 -- another, of what waits at the pair's line.
-pub record Then (e : Env) (b : List Binding) (j : ℕ) (w : Wanted) : Type 0 where
+pub record Then (e : Env) (b : List Binding) (j : ℕ) (q : Sum) : Type 0 where
   pub waits : get_or e.from (j + 1 + 1) 0 ≡ j + 1
   pub line : get_or e.op (get_or e.to (j + 1 + 1) 0) 0 ≡ 5
-  pub at : w.second.at ≡ (get_or b (get_or e.arg (get_or e.to (j + 1 + 1) 0) 0) nothing).at
-  pub plus : w.second.plus ≡ get_or e.con (get_or e.to (j + 1 + 1) 0) (pos 0)
+  pub at : q.at ≡ (get_or b (get_or e.arg (get_or e.to (j + 1 + 1) 0) 0) nothing).at
+  pub plus : q.plus ≡ get_or e.con (get_or e.to (j + 1 + 1) 0) (pos 0)
 
 pub record Wants (e : Env) (b : List Binding) (j : ℕ) (w : Wanted) : Type 0 where
   pub cons : get_or e.op j 0 ≡ 9
@@ -49,7 +51,7 @@ pub record Wants (e : Env) (b : List Binding) (j : ℕ) (w : Wanted) : Type 0 wh
   pub line : get_or e.op (j + 1 + 1) 0 ≡ 5
   pub at : w.first.at ≡ (get_or b (get_or e.arg (j + 1 + 1) 0) nothing).at
   pub plus : w.first.plus ≡ get_or e.con (j + 1 + 1) (pos 0)
-  pub also : w.both ≡ true → Then e b j w
+  pub also : (q : Sum) → w.second ≡ Some q → Then e b j q
 
 module _ (e : Env) (b : List Binding) (j : ℕ) (w : Wanted) (wants : Wants e b j w) (room : List ℤ) where
   -- ---- One choice: the frame at j is the last that is open, with c left to choose from, not only one.
@@ -105,7 +107,7 @@ module _ (e : Env) (b : List Binding) (j : ℕ) (w : Wanted) (wants : Wants e b 
           ∙ ap (settled e) (take_fails e at_first in_first b room wants.line (first_asked false f))
           ∙ fallen 2 (counted at_first) refl refl (omega arith) refl)
 
-      module _ (also : Then e b j w) where
+      module _ (q : Sum) (also : Then e b j q) where
         at_second : State
         at_second = dropped e.from e.to in_first.ats in_first.backs (counted at_first)
 
@@ -113,7 +115,7 @@ module _ (e : Env) (b : List Binding) (j : ℕ) (w : Wanted) (wants : Wants e b 
         unfolding at_second dropped moved counted at_first in_first in_pair chosen put_held part_held
         second_at = rw also.waits (get_or-set_same t.ats (j + 1) (element_at e.words lowest 1) 0 inside)
 
-        over_second : is_part e.words w.first lowest 0 ≡ true → is_part e.words w.second lowest 1 ≡ false → settled e (passed 3) ≡ run_of e 3 (settled e (run x t b room))
+        over_second : is_part e.words w.first lowest 0 ≡ true → is_part e.words q lowest 1 ≡ false → settled e (passed 3) ≡ run_of e 3 (settled e (run x t b room))
         unfolding is_part at_second dropped at_first at_pair stood moved counted run_of
         over_second f s = sym (parted 2
             ∙ turn e 1 (run at_first in_first b room) (run at_second in_first b room) refl (take_holds e at_first in_first b room wants.line (first_asked true f)) refl
@@ -122,17 +124,20 @@ module _ (e : Env) (b : List Binding) (j : ℕ) (w : Wanted) (wants : Wants e b 
             ∙ fallen 3 (counted at_second) refl refl (omega arith) refl)
 
     over_lowest : 0 < cost_of e.words w lowest → Turns e (run x t b room) (passed (cost_of e.words w lowest))
-    unfolding cost_of when timed
-    over_lowest = go (is_wide e.words lowest 1) refl (is_part e.words w.first lowest 0) refl w.both refl (is_part e.words w.second lowest 1) refl
+    unfolding cost_of second_cost when timed
+    over_lowest = go (is_wide e.words lowest 1) refl (is_part e.words w.first lowest 0) refl w.second refl
       where
-        go : (d : Bool) → is_wide e.words lowest 1 ≡ d → (f : Bool) → is_part e.words w.first lowest 0 ≡ f → (o : Bool) → w.both ≡ o
-            → (s : Bool) → is_part e.words w.second lowest 1 ≡ s → 0 < when d (when f (when o (when s 0 3) 0) 2) 0
-            → Turns e (run x t b room) (passed (when d (when f (when o (when s 0 3) 0) 2) 0))
-        go true d false f o q s r h = record { more = 2; steps = refl; are = over_first d f }
-        go true d true f true o false r h = record { more = 3; steps = refl; are = over_second d (wants.also o) f r }
-        go true d true f true o true r h = absurd (omega (arith, h))
-        go true d true f false o s r h = absurd (omega (arith, h))
-        go false d f p o q s r h = absurd (omega (arith, h))
+        at_second : (q : Sum) → Then e b j q → is_wide e.words lowest 1 ≡ true → is_part e.words w.first lowest 0 ≡ true → (s : Bool) → is_part e.words q lowest 1 ≡ s
+            → 0 < when s 0 3 → Turns e (run x t b room) (passed (when s 0 3))
+        at_second q also d f false r h = record { more = 3; steps = refl; are = over_second d q also f r }
+        at_second q also d f true r h = absurd (omega (arith, h))
+
+        go : (d : Bool) → is_wide e.words lowest 1 ≡ d → (f : Bool) → is_part e.words w.first lowest 0 ≡ f → (o : Option Sum) → w.second ≡ o
+            → 0 < when d (when f (second_cost e.words o lowest) 2) 0 → Turns e (run x t b room) (passed (when d (when f (second_cost e.words o lowest) 2) 0))
+        go true d true f (Some q) o h = at_second q (wants.also q o) d f (is_part e.words q lowest 1) refl h
+        go true d true f None o h = absurd (omega (arith, h))
+        go true d false f o p h = record { more = 2; steps = refl; are = over_first d f }
+        go false d f p o q h = absurd (omega (arith, h))
 
     over_turns : (l : ℕ) → lowest ≡ l → 0 < cost_of e.words w l
         → Turns e (run x t b room) (run (timed x (x.steps + cost_of e.words w l)) (put_left j (clear (count_trailing_zeros 64 c) c) (put_held (j + 1) (part_held e.words l 1) t)) b room)

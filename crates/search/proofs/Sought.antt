@@ -9,6 +9,7 @@ use lib.ListN.{length, get_or, length-set}
 use lib.Seq.{get_or-set_same, get_or-set_other}
 use lib.Dec.{eqb}
 use lib.IntN.{ℤ}
+use Rattle.std.specs.Prelude.{Some}
 use borrow.Author.Tests.{eq-eqb, ne_eqb, eqb-true, eqb-false}
 use Rattle.words.specs.Words.{entries}
 use Rattle.value_places.specs.Places.{Target}
@@ -21,8 +22,9 @@ use Rattle.search_step.specs.declared.State.{State}
 use Rattle.search_choice.specs.Choices.{Frame, cons_by, cons_of, choice_of, pick_of}
 use Rattle.search_seek.specs.Passed.{timed, Over}
 use Rattle.search_seek.specs.Pairs.{waiting, OverPairs}
-use Rattle.search_seek.specs.Asked.{first_of, second_of, asked_of, sum_of, wanted_by, wanted_of, Opens, Seeking}
+use Rattle.search_seek.specs.Asked.{first_of, second_of, asked_of, sum_of, sum_if, wanted_by, wanted_of, Opens, Seeking}
 use Rattle.search_seek.specs.declared.asked.Asking.{Asking}
+use Rattle.search_seek.specs.declared.pairs.Sum.{Sum}
 use Rattle.search_seek.proofs.Laws.{passed_some, passed_le}
 use Rattle.search_seek.proofs.Lines.{Asks, first_asks, Also, second_asks, first_line_lem}
 use Rattle.search_seek.proofs.Passing.{pairs_some, pairs_le}
@@ -202,18 +204,22 @@ module _ (e : Env) (w : Run) (budget : ℕ) (room₀ : List ℤ) (r : Run) (h : 
         first_line_is : y.top - 1 + 1 + 1 ≡ a.first
         first_line_is = let q = (pair_lines other).0 in let z = top_line in omega (arith, q, z)
 
-        then : not (eqb a.first a.second) ≡ true → Then e b (y.top - 1) (wanted_of e.con a first_at second_at)
-        unfolding wanted_of wanted_by sum_of
-        then both = go (second_asks e.op e.from e.to y.top a.first a.second second_is)
+        then : (z : Sum) → (wanted_of e.con a first_at second_at).second ≡ Some z → Then e b (y.top - 1) z
+        unfolding wanted_of wanted_by sum_if sum_of
+        then z is = go (eqb a.first a.second) refl is
           where
-            go : (a.second ≡ a.first) ⊎ Also e.op e.from e.to y.top a.first a.second → Then e b (y.top - 1) (wanted_of e.con a first_at second_at)
-            go (inl q) = let z : ◌≡◌ {A = Bool} (not true) true = sym (ap not (eq-eqb a.first a.second (sym q))) ∙ both in let f : ◌≡◌ {A = ℕ} 0 1 = cc in absurd (omega (arith, f))
-            go (inr q) = record {
+            by : (a.first ≡ a.second → ⊥) → sum_of e.con a.second second_at ≡ z → (a.second ≡ a.first) ⊎ Also e.op e.from e.to y.top a.first a.second → Then e b (y.top - 1) z
+            by n m (inl q) = absurd (n (sym q))
+            by n m (inr q) = record {
               waits = rw (first_line_is, top_line) q.waits;
               line = rw (first_line_is, ← q.next) q.line;
-              at = rw (first_line_is, ← q.next) (ap (λ (z : ℕ). (get_or b z nothing).at) p₂);
-              plus = rw (first_line_is, ← q.next) refl;
+              at = rw (← m, first_line_is, ← q.next) (ap (λ (z : ℕ). (get_or b z nothing).at) p₂);
+              plus = rw (← m, first_line_is, ← q.next) refl;
             }
+
+            go : (d : Bool) → eqb a.first a.second ≡ d → sum_if e.con a.second second_at (not d) ≡ Some z → Then e b (y.top - 1) z
+            go true d h = absurd (cc)
+            go false d h = by (eqb-false _ _ d) (cc) (second_asks e.op e.from e.to y.top a.first a.second second_is)
 
         wants : Wants e b (y.top - 1) (wanted_of e.con a first_at second_at)
         unfolding wanted_of wanted_by sum_of

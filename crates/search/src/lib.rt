@@ -22,7 +22,7 @@ use search_choice::settle;
 use search_leaf::lines::leaf_at;
 use search_leaf::{last_of, take};
 use search_seek::asked::{asked_at, pass};
-use search_step::{Asked, ENDED, FULL, STANDS, State};
+use search_step::{ENDED, FULL, STANDS, State};
 use tables::instruction::{BIND, DROP, END, MULTISET_CONS, NIL, SUM};
 use tables::line::{Lines, arg_at, op_at};
 use tables::place::{Places, no_places};
@@ -88,7 +88,7 @@ pub fn advance(
         if o == END {
             x = take_end(x, b, terms, units, places, room);
         } else {
-            x = x.step(Asked { same: same }, units, places, lines, slots);
+            x = x.step(same, units, places, lines, slots);
             if o == MULTISET_CONS {
                 narrow(terms, x, mt, units, places, lines, slots);
                 let a = asked_at(x, lines);

@@ -215,12 +215,10 @@ pub fn take(
 {
     let o = op_at(lines, i);
     let v = arg_at(lines, i);
-    let mut words = [0i32; VARIABLES];
-    let told = told_of(by.shape, b, v, but_of(o, v), units, &mut words);
-    let y = told.value;
-    if !told.all {
+    let y = b[v];
+    let Some(words) = told_of(by.shape, &b, but_of(o, v), units) else {
         return Leaves { state: x, last: y };
-    }
+    };
     let j = x.top - 1;
     let f = frame_at(slots, lines, j);
     let first = Tally {

@@ -6,8 +6,9 @@ use mathlib.Core.List.{List}
 use Prim.Native.Nat.{ℕ, ◌+◌, ◌-◌, ◌<◌, ◌≤◌}
 use native.Mathlib.Omega.{arith}
 use borrow.Author.Rules.{rules}
+use Rattle.std.specs.Prelude.{Some, None}
 use borrow.Author.Tests.{eq-eqb, ne_eqb, eqb-true, eqb-false, lt-ltb, le-ltb}
-use lib.ListN.{get_or}
+use lib.ListN.{length, get_or}
 use lib.Dec.{eqb, ltb}
 use lib.IntN.{ℤ, pos}
 use mir.Syntax.{w64}
@@ -16,9 +17,10 @@ use Rattle.words.specs.Words.{entries}
 use Rattle.tables.specs.Slot.{Tables, view_of}
 use Rattle.search_atom.specs.Leaves.{when}
 use Rattle.search_step.specs.declared.State.{State}
-use Rattle.search_seek.specs.Asked.{part_of, first_of, second_of, asked_of, sum_of, wanted_by, wanted_of, Opens, Seeking}
+use Rattle.search_seek.specs.Asked.{part_of, first_of, second_of, asked_of, sum_of, sum_if, wanted_by, wanted_of, Opens, Seeking}
 use Rattle.search_seek.specs.Pairs.{OverPairs, SeeksPairs}
 use Rattle.search_seek.specs.declared.asked.Asking.{Asking}
+use Rattle.search_seek.specs.declared.pairs.Sum.{Sum}
 use Rattle.search_seek.specs.declared.pairs.Wanted.{Wanted}
 
 -- ---- The first line.
@@ -165,29 +167,35 @@ pub asked_is : (op from to : List ℕ) (x : State) (i k : ℕ) → i ≡ first_o
 unfolding asked_of
 asked_is op from to x i k a b = rw (b, a)
 
-pub wanted_is : (con : List ℤ) (a : Asking) (g h : ℕ) (c d : ℤ) (b : Bool) → c ≡ get_or con a.first (pos 0) → d ≡ get_or con a.second (pos 0)
-    → ◌≡◌ {A = Wanted} (record { first = record { at = g; plus = c }; second = record { at = h; plus = d }; both = b }) (wanted_by con a g h b)
-unfolding wanted_by sum_of
-wanted_is con a g h c d b p q = rw (p, q)
+pub sum_is : (con : List ℤ) (i at : ℕ) (c : ℤ) → c ≡ get_or con i (pos 0) → ◌≡◌ {A = Sum} (record { at = at; plus = c }) (sum_of con i at)
+unfolding sum_of
+sum_is con i at c p = rw p
 
-pub ruleset asked_rules = (asked_is, wanted_is, rules)
+pub ruleset asked_rules = (asked_is, sum_is, rules)
 
-module _ (con : List ℤ) (a : Asking) (g h : ℕ) (w : Wanted) where
-  pub wanted_one : w ≡ wanted_by con a g h false → a.first ≡ a.second → w ≡ wanted_of con a g h
-  unfolding wanted_of
-  wanted_one p e = p ∙ ap (λ (b : Bool). wanted_by con a g h (not b)) (sym (eq-eqb a.first a.second e))
+module _ (con : List ℤ) (a : Asking) (g h : ℕ) (first : Sum) (p : first ≡ sum_of con a.first g) where
+  pub wanted_one : a.first ≡ a.second → ◌≡◌ {A = Wanted} (record { first = first; second = None }) (wanted_of con a g h)
+  unfolding wanted_of wanted_by sum_if
+  wanted_one e = rw (p, eq-eqb a.first a.second e)
 
-  pub wanted_two : w ≡ wanted_by con a g h true → (a.first ≡ a.second → ⊥) → w ≡ wanted_of con a g h
-  unfolding wanted_of
-  wanted_two p n = p ∙ ap (λ (b : Bool). wanted_by con a g h (not b)) (sym (ne_eqb a.first a.second n))
+  pub wanted_two : (second : Sum) → second ≡ sum_of con a.second h → (a.first ≡ a.second → ⊥)
+      → ◌≡◌ {A = Wanted} (record { first = first; second = Some second }) (wanted_of con a g h)
+  unfolding wanted_of wanted_by sum_if
+  wanted_two second q n = rw (p, q, ne_eqb a.first a.second n)
 
 module _ (s con : List ℤ) (arg slots : List ℕ) (a : Asking) (g h budget begun : ℕ) where
+  -- Where a second integer is asked for, it is that of the second line.
+  second_in : Seeking s con arg slots a g h budget begun → (both : Bool) (q : Sum) → sum_if con a.second h both ≡ Some q → q.at + 1 < length s
+  unfolding sum_if sum_of
+  second_in k true q e = let z : sum_of con a.second h ≡ q = cc in rw (← z) k.other
+  second_in k false q e = absurd (cc)
+
   pub seeks_pairs : Seeking s con arg slots a g h budget begun → (w : Wanted) → w ≡ wanted_of con a g h → SeeksPairs s w budget a.part begun (view_of arg slots)
   unfolding wanted_of wanted_by sum_of
   seeks_pairs k w p = record {
     some = k.seeks.some;
     place = k.seeks.place;
-    integers = record { first = rw p k.seeks.number; second = rw p k.other };
+    integers = record { first = rw p k.seeks.number; second = λ q e. second_in k (not (eqb a.first a.second)) q (ap (λ (v : Wanted). v.second) (sym p) ∙ e) };
     steps = k.seeks.steps;
     held = k.seeks.held;
     choice = k.seeks.choice;

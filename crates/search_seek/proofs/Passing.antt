@@ -5,6 +5,7 @@ use mathlib.Core.List.{List}
 use Prim.Native.Nat.{ℕ, ◌+◌, ◌-◌, ◌^◌, ◌<◌, ◌≤◌}
 use native.Mathlib.Omega.{arith}
 use borrow.Author.Rules.{rules}
+use Rattle.std.specs.Prelude.{Some, None}
 use borrow.Author.Tests.{ne_eqb, eqb-true}
 use lib.ListN.{length, get_or, length-set}
 use lib.Seq.{set-get_or}
@@ -24,7 +25,8 @@ use Rattle.tables.specs.declared.slot.Frame.{Frame}
 use Rattle.tables.specs.Slot.{Tables, frame_in, held_in, put_held, put_left, view_of, Slotted}
 use Rattle.search_atom.specs.Leaves.{when, is_wide, stored, part_marks, part_held, parts_in}
 use Rattle.search_seek.specs.Passed.{later}
-use Rattle.search_seek.specs.Pairs.{is_part, cost_of, lowest_in, PassedPairs, stays, over, waiting, OverPairs}
+use Rattle.search_seek.specs.Pairs.{is_part, second_cost, cost_of, lowest_in, PassedPairs, stays, over, waiting, OverPairs}
+use Rattle.search_seek.specs.declared.pairs.Sum.{Sum}
 use Rattle.search_seek.specs.declared.pairs.Wanted.{Wanted}
 
 -- ---- The steps of a pair.
@@ -68,21 +70,21 @@ module _ (s : List ℤ) (e : ℕ) where
       cost_first n = rw (← i, y, first_is, n)
 
       module _ (m : f ≡ true) where
-        pub cost_one : w.both ≡ false → 0 ≡ cost_of s w e
-        unfolding cost_of when
+        pub cost_one : w.second ≡ None → 0 ≡ cost_of s w e
+        unfolding cost_of second_cost when
         cost_one n = rw (← i, y, first_is, m, n)
 
-        module _ (o : w.both ≡ true) (c : ℕ) (k : c ≡ element_at s e 1) (x : ℤ) (u : x ≡ w.second.plus) (d : Bool) (q : d ≡ is_sum s w.second.at x c) where
-          second_is : is_part s w.second e 1 ≡ d
+        module _ (r : Sum) (o : w.second ≡ Some r) (c : ℕ) (k : c ≡ element_at s e 1) (x : ℤ) (u : x ≡ r.plus) (d : Bool) (q : d ≡ is_sum s r.at x c) where
+          second_is : is_part s r e 1 ≡ d
           unfolding is_part
           second_is = rw (← k, ← u) (sym q)
 
           pub cost_fits : d ≡ true → 0 ≡ cost_of s w e
-          unfolding cost_of when
+          unfolding cost_of second_cost when
           cost_fits n = rw (← i, y, first_is, m, o, second_is, n)
 
           pub cost_second : d ≡ false → 3 ≡ cost_of s w e
-          unfolding cost_of when
+          unfolding cost_of second_cost when
           cost_second n = rw (← i, y, first_is, m, o, second_is, n)
 
 pub ruleset cost_rules = (not_true, not_false, wide_part, first_fits, cost_none, rules)
@@ -92,7 +94,7 @@ pub cost_pair : (s : List ℤ) (w : Wanted) (e : ℕ) → 0 < cost_of s w e → 
 unfolding cost_of when
 cost_pair s w e = go (is_wide s e 1)
   where
-    go : (b : Bool) → 0 < when b (when (is_part s w.first e 0) (when w.both (when (is_part s w.second e 1) 0 3) 0) 2) 0 → b ≡ true
+    go : (b : Bool) → 0 < when b (when (is_part s w.first e 0) (second_cost s w.second e) 2) 0 → b ≡ true
     go true h = refl
     go false h = absurd (omega (arith, h))
 

@@ -1,5 +1,5 @@
 -- The lines by which a multiset's cons asks for an integer.
-use Rattle.std.specs.Prelude.{ℕ, ◌+◌, ◌-◌, ◌<◌, ◌≡◌, Bool, not, List, length, get_or, eqb, ltb, ℤ, pos}
+use Rattle.std.specs.Prelude.{ℕ, ◌+◌, ◌-◌, ◌<◌, ◌≡◌, Bool, true, false, not, Option, Some, None, List, length, get_or, eqb, ltb, ℤ, pos}
 use Rattle.words.specs.Words.{entries}
 use Rattle.tables.specs.Slot.{view_of, Slotted, Alone}
 use Rattle.search_atom.specs.Leaves.{when, Parts}
@@ -31,9 +31,14 @@ asked_of op from to x = record { part = x.top; first = first_of op x; second = s
 unfoldable pub sum_of : (con : List ℤ) → (i at : ℕ) → Sum
 sum_of con i at = record { at = at; plus = get_or con i (pos 0) }
 
-unfoldable pub wanted_by : (con : List ℤ) → Asking → (g h : ℕ) → (both : Bool) → Wanted
+unfoldable pub sum_if : (con : List ℤ) → (i at : ℕ) → (asked : Bool) → Option Sum
 unfolding sum_of
-wanted_by con a g h both = record { first = sum_of con a.first g; second = sum_of con a.second h; both = both }
+sum_if con i at true = Some (sum_of con i at)
+sum_if con i at false = None
+
+unfoldable pub wanted_by : (con : List ℤ) → Asking → (g h : ℕ) → (both : Bool) → Wanted
+unfolding sum_of sum_if
+wanted_by con a g h both = record { first = sum_of con a.first g; second = sum_if con a.second h both }
 
 unfoldable pub wanted_of : (con : List ℤ) → Asking → (g h : ℕ) → Wanted
 unfolding wanted_by

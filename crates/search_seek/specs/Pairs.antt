@@ -1,5 +1,5 @@
 -- Choices of a multiset's cons that are pairs, passed over: the lowest first, each for its steps, never the last.
-use Rattle.std.specs.Prelude.{ℕ, ◌+◌, ◌-◌, ◌<◌, ◌≤◌, ◌≡◌, Bool, List, length, get_or, eqb, ℤ}
+use Rattle.std.specs.Prelude.{ℕ, ◌+◌, ◌-◌, ◌<◌, ◌≤◌, ◌≡◌, Bool, Option, Some, None, List, length, get_or, eqb, ℤ}
 use Rattle.std.specs.Int.Count.{count_trailing_zeros}
 use Rattle.words.specs.Words.{entries}
 use Rattle.value_places.specs.Places.{element_at}
@@ -17,10 +17,16 @@ unfoldable pub is_part : List ℤ → Sum → (e k : ℕ) → Bool
 unfolding is_sum
 is_part s w e k = is_sum s w.at w.plus (element_at s e k)
 
--- The steps of a value that fails: two if it does at the first part of a pair, three if it does at the second. 0: it does not fail, or is no pair.
+-- The steps of a value that fails: two if it does at the first part of a pair, three if it does at the second, where that is asked for. 0: it does not fail, or
+-- is no pair.
+unfoldable pub second_cost : List ℤ → Option Sum → (e : ℕ) → ℕ
+unfolding when is_part
+second_cost s None e = 0
+second_cost s (Some q) e = when (is_part s q e 1) 0 3
+
 unfoldable pub cost_of : List ℤ → Wanted → (e : ℕ) → ℕ
-unfolding when is_wide is_part
-cost_of s w e = when (is_wide s e 1) (when (is_part s w.first e 0) (when w.both (when (is_part s w.second e 1) 0 3) 0) 2) 0
+unfolding when is_wide is_part second_cost
+cost_of s w e = when (is_wide s e 1) (when (is_part s w.first e 0) (second_cost s w.second e) 2) 0
 
 -- The lowest choice of the collection at an index.
 unfoldable pub lowest_in : List ℤ → (at left : ℕ) → ℕ
@@ -49,7 +55,7 @@ pub record OverPairs (s : List ℤ) (w : Wanted) (budget top begun : ℕ) (t : T
 
 pub record Integers (s : List ℤ) (w : Wanted) : Type 0 where
   pub first : w.first.at + 1 < length s
-  pub second : w.second.at + 1 < length s
+  pub second : (q : Sum) → w.second ≡ Some q → q.at + 1 < length s
 
 pub record SeeksPairs (s : List ℤ) (w : Wanted) (budget top begun : ℕ) (t : Tables) : Type 0 where
   pub some : 0 < top

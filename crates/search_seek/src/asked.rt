@@ -8,7 +8,7 @@ ghost use Rattle.value_places.specs.Places.{Target};
 ghost use Rattle.value_places.specs.Tables.{Placed};
 ghost use Rattle.search_seek.specs.Passed.{Over};
 ghost use Rattle.search_seek.specs.Pairs.{OverPairs};
-ghost use Rattle.search_seek.specs.Asked.{first_of, second_of, asked_of, wanted_by, wanted_of, Opens, Seeking};
+ghost use Rattle.search_seek.specs.Asked.{first_of, second_of, asked_of, sum_of, wanted_of, Opens, Seeking};
 
 use crate::pairs::{Sum, Wanted, pass_pairs};
 use crate::pass_over;
@@ -95,20 +95,14 @@ pub fn asked_at(x: State, lines: &Lines) -> Asking
     }
 }
 
-// What a pair is asked for, by the lines that ask and the integers at g and at h; both: whether there are two lines.
+// The integer that a line asks for: the one at an index, plus the line's constant.
 #[tactic(auto, using(crate::proofs::Lines::asked_rules))]
-fn wanted(a: Asking, g: usize, h: usize, both: bool, lines: &Lines) -> Wanted
-    requires lines { (a.first < entries) × (a.second < entries) }
-    requires constants { (a.first < length (columns_of lines.now).con) × (a.second < length (columns_of lines.now).con) }
-    ensures { result ≡ wanted_by (columns_of lines.now).con a g h both }
+fn sum_at(i: usize, at: usize, lines: &Lines) -> Sum
+    requires line { i < entries }
+    requires constant { i < length (columns_of lines.now).con }
+    ensures { result ≡ sum_of (columns_of lines.now).con i at }
 {
-    let c = con_at(lines, a.first);
-    let d = con_at(lines, a.second);
-    Wanted {
-        first: Sum { at: g, plus: c },
-        second: Sum { at: h, plus: d },
-        both: both,
-    }
+    Sum { at, plus: con_at(lines, i) }
 }
 
 // The choices of the last open frame that fail are passed over; g and h: where the integers stand that the first line and the second ask for. The steps.
@@ -131,10 +125,12 @@ pub fn pass(
     if a.first == a.part {
         return pass_over(a.part, begun, g, budget, units, places, lines, slots);
     }
+    let first = sum_at(a.first, g, lines);
     if a.first == a.second {
-        let one = wanted(a, g, h, false, lines);
+        let one = Wanted { first, second: None };
         return pass_pairs(a.part, begun, one, budget, units, places, lines, slots);
     }
-    let two = wanted(a, g, h, true, lines);
+    let second = sum_at(a.second, h, lines);
+    let two = Wanted { first, second: Some(second) };
     pass_pairs(a.part, begun, two, budget, units, places, lines, slots)
 }

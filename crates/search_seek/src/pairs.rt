@@ -25,12 +25,11 @@ pub struct Sum {
     pub plus: i32,
 }
 
-// What a pair is asked for: an integer as its first part; and, where `both`, another as its second.
+// What a pair is asked for: an integer as its first part, and perhaps another as its second.
 #[derive(Clone, Copy)]
 pub struct Wanted {
     pub first: Sum,
-    pub second: Sum,
-    pub both: bool,
+    pub second: Option<Sum>,
 }
 
 // The steps of a value that fails: two at the first part of a pair, which stands after its two words; three at its second. 0 where it does not fail, or is
@@ -50,12 +49,12 @@ fn cost(e: usize, w: Wanted, units: Units, places: &Places) -> u64
     if !first {
         return 2;
     }
-    if !w.both {
+    let Some(second) = w.second else {
         return 0;
-    }
+    };
     let b = element(units, places, e, 1);
-    let second = is_sum(units.words, w.second.at, w.second.plus, b);
-    if second {
+    let found = is_sum(units.words, second.at, second.plus, b);
+    if found {
         return 0;
     }
     3

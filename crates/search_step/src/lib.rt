@@ -44,12 +44,6 @@ pub struct State {
     pub words: usize,
 }
 
-// What was asked of the first atom before its state is taken up. same: what its tag 3 asks is equal.
-#[derive(Drop)]
-pub struct Asked {
-    pub same: bool,
-}
-
 impl State {
     // The atom is dropped: the next one in prefix order, whose value waits in a slot.
     #[tactic(auto, using(crate::proofs::Laws::drop_rules), unfolding(crate::specs::Steps::moved))]
@@ -195,11 +189,11 @@ impl State {
         self.split(o, lines, slots)
     }
 
-    // Takes up a state that has an atom left.
+    // Takes up a state that has an atom left. same: what the tag 3 of its first atom asks is equal.
     #[tactic(auto, using(crate::proofs::Laws::step_rules), unfolding(crate::specs::Steps::counted, crate::specs::Steps::lived, crate::specs::Steps::moved))]
     pub fn step(
         mut self,
-        asked: Asked,
+        same: bool,
         units: Units,
         places: &Places,
         lines: &Lines,
@@ -207,7 +201,7 @@ impl State {
     ) -> State
         requires placed { Placed units.words.now places.now }
         requires steps { Steps units.words.now (columns_of lines.now).op (columns_of lines.now).from (columns_of lines.now).arg (columns_of lines.now).con slots.old self }
-        ensures { turned result (view_of (columns_of lines.now).arg slots.new) ≡ step_of (columns_of lines.now).op (columns_of lines.now).from (columns_of lines.now).to (columns_of lines.now).con units.entry.words.now asked.same self (view_of (columns_of lines.now).arg slots.old) }
+        ensures { turned result (view_of (columns_of lines.now).arg slots.new) ≡ step_of (columns_of lines.now).op (columns_of lines.now).from (columns_of lines.now).to (columns_of lines.now).con units.entry.words.now same self (view_of (columns_of lines.now).arg slots.old) }
     {
         let pc = self.pc;
         let o = op_at(lines, pc);
@@ -222,7 +216,7 @@ impl State {
         }
         let at = self.at;
         let m = self.marks;
-        let ok = passes(o, asked.same, units.words, at, m, lines, pc);
+        let ok = passes(o, same, units.words, at, m, lines, pc);
         if ok {
             return self.drop(lines, slots);
         }

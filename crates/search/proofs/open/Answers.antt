@@ -1,4 +1,3 @@
-use borrow.Author.Rules.{rules}
 use mathlib.Core.Path.{refl, ap}
 use Rattle.search.specs.Run.{opening}
 use Rattle.search.specs.Searched.{unbound}

@@ -1,5 +1,4 @@
 use mathlib.Core.Path.{refl}
-use borrow.Author.Rules.{rules}
 use Rattle.search_step.specs.Steps.{counted, lived}
 use Rattle.search.proofs.taking.ended.Goals as goal
 

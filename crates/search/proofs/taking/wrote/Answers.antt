@@ -1,4 +1,3 @@
-use borrow.Author.Rules.{rules}
 use Rattle.search_step.specs.Steps.{counted, lived}
 use Rattle.search.specs.Run.{wrote_to}
 use Rattle.search.proofs.taking.wrote.Goals as goal
