@@ -1,31 +1,32 @@
 -- One round, and all of them, as the code asks for it.
-use Prim.Native.Nat.{ℕ, zero, suc, ◌+◌, ◌-◌, ◌*◌, ◌≤◌, ◌<◌}
+use Prim.Native.Nat.{ℕ, zero, suc, ◌+◌, ◌*◌, ◌≤◌, ◌<◌}
 use native.Mathlib.Omega.{arith}
-use mathlib.Core.Path.{◌≡◌, refl, sym, ap, ◌∙◌, subst}
+use mathlib.Core.Path.{◌≡◌, refl, sym, ◌∙◌, subst}
 use mathlib.Core.List.{List}
 use lib.ListN.{length}
 use lib.IntN.{ℤ}
 use Rattle.rules.specs.Search.{stopped}
-use Rattle.value_rows.specs.declared.Binding.{Binding}
-use Rattle.search_step.specs.declared.State.{State}
 use Rattle.search.specs.Run.{Env}
+use Rattle.search.specs.Stops.{number_of}
+use Rattle.search.specs.declared.stop.Stop.{Stop}
+use Rattle.search.specs.declared.stop.Stop.TheVariants.{Nothing, Budget, Table}
 use Rattle.round_states.specs.Taking.{Far}
-use Rattle.round_states.specs.Sweeps.{Sweeping, lists_most}
+use Rattle.round_states.specs.Sweeps.{lists_most}
 use Rattle.round_states.specs.Rounding.{Rounding, rounds_done, rounds_spent, rounds_table, round_begins, sweep_ends}
 use Rattle.round_sweep.specs.Pulls.{Pulled}
 use Rattle.round_sweep.specs.Turns.{Course, Swept, Sweeps, SweptBy}
 use Rattle.round_sweep.specs.declared.turn.Sweep.{Sweep}
 use Rattle.round_sweep.proofs.Turns.{left_few}
-use Rattle.round_run.specs.Courses.{Journey, halted_at, Onward, Begins, Rounded, Starts, Ended, Arrived}
+use Rattle.round_run.specs.Courses.{Journey, halted_at, Onward, Begins, Rounded, Starts, Arrived}
 use Rattle.round_run.specs.declared.rounds.Round.{Round}
 
 -- ---- One round.
 
 -- No list of it is taken up yet.
 abbrev pub sweep_from : Round → Sweep
-sweep_from r = record { state = r.state; binds = r.binds; fresh = 0; left = 0; waiting = r.waiting; answer = 0 }
+sweep_from r = record { state = r.state; binds = r.binds; fresh = 0; left = 0; waiting = r.waiting; stop = Nothing }
 
-module _ {e : Env} {used budget : ℕ} {r : Round} {ws : List ℤ} {slots : List ℕ} {room : List ℤ} (going : r.answer ≡ 0) (some : r.many ≡ 0 → ⊥) (steps : r.state.steps < budget) where
+module _ {e : Env} {used budget : ℕ} {r : Round} {ws : List ℤ} {slots : List ℕ} {room : List ℤ} (going : r.stop ≡ Nothing) (some : r.many ≡ 0 → ⊥) (steps : r.state.steps < budget) where
   module _ (J : Journey e used) (O : Onward e used J budget r ws slots room) (few : r.waiting ≤ J.limit) where
     abbrev rounding : Rounding e J.ruled used J.uses J.whole O.rounds J.limit budget ws r.many r.waiting r.state room
     rounding = O.goes going
@@ -60,19 +61,19 @@ module _ {e : Env} {used budget : ℕ} {r : Round} {ws : List ℤ} {slots : List
       swept₁ : Swept e used course budget r.many r.many v ws₁ slots₁ room₁
       swept₁ = T.swept course swept₀
 
-      round_few : v.answer ≡ 0 → (v.fresh ≤ r.many) × (825 * (r.many + v.left) ≤ length ws₁) × (r.many + v.left ≤ J.limit)
+      round_few : v.stop ≡ Nothing → (v.fresh ≤ r.many) × (825 * (r.many + v.left) ≤ length ws₁) × (r.many + v.left ≤ J.limit)
       round_few z =
           let s = swept₁.goes z in
           let a = left_few e J.ruled used J.uses s in
           (s.fewer, (let b = s.there in omega arith), a)
 
-      round_later : v.answer ≡ 0 → r.state.steps < v.state.steps
+      round_later : v.stop ≡ Nothing → r.state.steps < v.state.steps
       round_later z = let a = swept₁.later z in let b = above some in omega arith
         where
           above : (r.many ≡ 0 → ⊥) → 1 ≤ r.many
           above n = omega arith
 
-      ends₁ : (z : v.answer ≡ 0) (ws₂ : List ℤ) → Pulled ws₁ ws₂ r.many v.fresh v.left used
+      ends₁ : (z : v.stop ≡ Nothing) (ws₂ : List ℤ) → Pulled ws₁ ws₂ r.many v.fresh v.left used
           → Rounding e J.ruled used J.uses J.whole one_more.0 J.limit budget ws₂ (v.fresh + v.left) v.waiting v.state room₁
       ends₁ z ws₂ p = sweep_ends e J.ruled used J.uses (swept₁.goes z) (omega arith) (above some) ws₂ p.long p.low p.moved
         where
@@ -81,7 +82,7 @@ module _ {e : Env} {used budget : ℕ} {r : Round} {ws : List ℤ} {slots : List
 
   -- The run has ended within the round.
   pub round_halts : {v : Sweep} {ws₁ : List ℤ} {slots₁ : List ℕ} {room₁ : List ℤ} → SweptBy e used budget r.many (sweep_from r) ws slots room v ws₁ slots₁ room₁
-      → (v.answer ≡ 0 → ⊥) → (q : Round) → q ≡ halted_at v.state v.binds v.answer → Rounded e used budget r ws slots room q ws₁ slots₁ room₁
+      → (v.stop ≡ Nothing → ⊥) → (q : Round) → q ≡ halted_at v.state v.binds v.stop → Rounded e used budget r ws slots room q ws₁ slots₁ room₁
   unfolding halted_at
   round_halts {v} {ws₁} {slots₁} {room₁} T n q h = subst (λ (q : Round). Rounded e used budget r ws slots room q ws₁ slots₁ room₁) (sym h) (record {
     long = T.long;
@@ -94,8 +95,8 @@ module _ {e : Env} {used budget : ℕ} {r : Round} {ws : List ℤ} {slots : List
   -- All lists are done, and those of the next round stand in the table.
   pub round_goes : (J : Journey e used) → Onward e used J budget r ws slots room → r.waiting ≤ J.limit
       → {v : Sweep} {ws₁ : List ℤ} {slots₁ : List ℕ} {room₁ : List ℤ} → SweptBy e used budget r.many (sweep_from r) ws slots room v ws₁ slots₁ room₁
-      → v.answer ≡ 0 → (ws₂ : List ℤ) → Pulled ws₁ ws₂ r.many v.fresh v.left used
-      → Rounded e used budget r ws slots room (record { state = v.state; binds = v.binds; many = v.fresh + v.left; waiting = v.waiting; answer = 0 }) ws₂ slots₁ room₁
+      → v.stop ≡ Nothing → (ws₂ : List ℤ) → Pulled ws₁ ws₂ r.many v.fresh v.left used
+      → Rounded e used budget r ws slots room (record { state = v.state; binds = v.binds; many = v.fresh + v.left; waiting = v.waiting; stop = Nothing }) ws₂ slots₁ room₁
   round_goes J₀ O₀ w₀ T z ws₂ p = record {
     long = p.long ∙ T.long;
     later = λ y. round_later J₀ O₀ w₀ T z;
@@ -122,7 +123,7 @@ module _ {e : Env} {used budget : ℕ} {r : Round} {ws : List ℤ} {slots : List
     most = let a = many_few P.going P.some P.steps P.journey P.onward P.waits in let b = P.small in omega arith;
   }
 
-  module _ {v : Sweep} {ws₁ : List ℤ} {slots₁ : List ℕ} {room₁ : List ℤ} (T : SweptBy e used budget r.many (sweep_from r) ws slots room v ws₁ slots₁ room₁) (z : v.answer ≡ 0) where
+  module _ {v : Sweep} {ws₁ : List ℤ} {slots₁ : List ℕ} {room₁ : List ℤ} (T : SweptBy e used budget r.many (sweep_from r) ws slots room v ws₁ slots₁ room₁) (z : v.stop ≡ Nothing) where
     pub begins_fresh : v.fresh ≤ r.many
     begins_fresh = (round_few P.going P.some P.steps P.journey P.onward P.waits T z).0
 
@@ -139,7 +140,7 @@ module _ {e : Env} {used budget : ℕ} {r : Round} {ws : List ℤ} {slots : List
 
 pub record Gone (e : Env) (used budget limit : ℕ) (r₀ : Round) (ws₀ : List ℤ) (slots₀ : List ℕ) (room₀ : List ℤ) (r : Round) (ws : List ℤ) (slots : List ℕ) (room : List ℤ) : Type 0 where
   pub long : length ws ≡ length ws₀
-  pub going : r.answer ≡ 0
+  pub going : r.stop ≡ Nothing
   pub onward : (J : Journey e used) → J.limit ≡ limit → Onward e used J budget r₀ ws₀ slots₀ room₀ → Onward e used J budget r ws slots room
 
 pub gone_none : {e : Env} {used budget limit : ℕ} {r : Round} {ws : List ℤ} {slots : List ℕ} {room : List ℤ} → Starts e used budget limit r ws slots room
@@ -163,7 +164,7 @@ module _ {e : Env} {used budget limit : ℕ} {r₀ : Round} {ws₀ : List ℤ} {
   }
 
   -- What ends the run between two rounds.
-  halts : (a : ℕ) → ((J : Journey e used) → J.limit ≡ limit → Onward e used J budget r ws slots room → Far J.whole r.state room (stopped a 0)) → (q : Round) → q ≡ halted_at r.state r.binds a
+  halts : (a : Stop) → ((J : Journey e used) → J.limit ≡ limit → Onward e used J budget r ws slots room → Far J.whole r.state room (stopped (number_of a) 0)) → (q : Round) → q ≡ halted_at r.state r.binds a
       → Arrived e used budget limit r₀ ws₀ slots₀ room₀ q ws slots room
   unfolding halted_at
   halts a f q h = subst (λ (q : Round). Arrived e used budget limit r₀ ws₀ slots₀ room₀ q ws slots room) (sym h) (record {
@@ -171,31 +172,31 @@ module _ {e : Env} {used budget limit : ℕ} {r₀ : Round} {ws₀ : List ℤ} {
     ended = λ J l O. let o = G.onward J l O in record { words = o.words; kept = o.kept; far = f J l o };
   })
 
-  pub gone_spent : (r.many ≡ 0 → ⊥) → budget ≤ r.state.steps → (q : Round) → q ≡ halted_at r.state r.binds 7 → Arrived e used budget limit r₀ ws₀ slots₀ room₀ q ws slots room
-  gone_spent n m q h = halts 7 (λ J l o. rounds_spent e J.ruled used J.uses (o.goes G.going) n m) q h
+  pub gone_spent : (r.many ≡ 0 → ⊥) → budget ≤ r.state.steps → (q : Round) → q ≡ halted_at r.state r.binds Budget → Arrived e used budget limit r₀ ws₀ slots₀ room₀ q ws slots room
+  gone_spent n m q h = halts Budget (λ J l o. rounds_spent e J.ruled used J.uses (o.goes G.going) n m) q h
 
-  pub gone_table : (r.many ≡ 0 → ⊥) → r.state.steps < budget → limit < r.waiting → (q : Round) → q ≡ halted_at r.state r.binds 21 → Arrived e used budget limit r₀ ws₀ slots₀ room₀ q ws slots room
-  gone_table n m w q h = halts 21 (λ J l o. rounds_table e J.ruled used J.uses (o.goes G.going) n m (omega arith)) q h
+  pub gone_table : (r.many ≡ 0 → ⊥) → r.state.steps < budget → limit < r.waiting → (q : Round) → q ≡ halted_at r.state r.binds Table → Arrived e used budget limit r₀ ws₀ slots₀ room₀ q ws slots room
+  gone_table n m w q h = halts Table (λ J l o. rounds_table e J.ruled used J.uses (o.goes G.going) n m (omega arith)) q h
 
   pub gone_done : r.many ≡ 0 → Arrived e used budget limit r₀ ws₀ slots₀ room₀ r ws slots room
   gone_done z = record {
     long = G.long;
     ended = λ J l O.
         let o = G.onward J l O in
-        record { words = o.words; kept = o.kept; far = subst (λ a. Far J.whole r.state room (stopped a 0)) (sym G.going) (rounds_done e J.ruled used J.uses (o.goes G.going) z) };
+        record { words = o.words; kept = o.kept; far = subst (λ a. Far J.whole r.state room (stopped (number_of a) 0)) (sym G.going) (rounds_done e J.ruled used J.uses (o.goes G.going) z) };
   }
 
   module _ (few : r.waiting ≤ limit) (q : Round) (ws₁ : List ℤ) (slots₁ : List ℕ) (room₁ : List ℤ) (d : Rounded e used budget r ws slots room q ws₁ slots₁ room₁) where
     next : (J : Journey e used) → J.limit ≡ limit → Onward e used J budget r₀ ws₀ slots₀ room₀ → Onward e used J budget q ws₁ slots₁ room₁
     next J l O = d.onward J (G.onward J l O) (omega arith)
 
-    pub gone_stopped : (q.answer ≡ 0 → ⊥) → Arrived e used budget limit r₀ ws₀ slots₀ room₀ q ws₁ slots₁ room₁
+    pub gone_stopped : (q.stop ≡ Nothing → ⊥) → Arrived e used budget limit r₀ ws₀ slots₀ room₀ q ws₁ slots₁ room₁
     gone_stopped n = record {
       long = d.long ∙ G.long;
       ended = λ J l O. let o = next J l O in record { words = o.words; kept = o.kept; far = o.stops n };
     }
 
-    pub gone_next : q.answer ≡ 0 → Gone e used budget limit r₀ ws₀ slots₀ room₀ q ws₁ slots₁ room₁
+    pub gone_next : q.stop ≡ Nothing → Gone e used budget limit r₀ ws₀ slots₀ room₀ q ws₁ slots₁ room₁
     gone_next z = record { long = d.long ∙ G.long; going = z; onward = next }
 
     pub gone_more : Starts e used budget limit r₀ ws₀ slots₀ room₀ → length room₁ ≡ length room₀

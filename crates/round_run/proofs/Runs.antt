@@ -1,23 +1,21 @@
 -- The whole run: its first list, and what is told at its end.
-use Prim.Native.Nat.{ℕ, zero, suc, ◌+◌, ◌-◌, ◌*◌, ◌/◌, ◌≤◌, ◌<◌}
+use Prim.Native.Nat.{ℕ, zero, suc, ◌+◌, ◌-◌, ◌*◌, ◌/◌, ◌≤◌}
 use native.Mathlib.Omega.{arith}
 use native.Mathlib.Nat.{min-le_left, min-le_right}
 use mathlib.Core.Path.{◌≡◌, refl, sym, ap, ap₂, ◌∙◌, subst}
-use mathlib.Core.Bool.{Bool, true, false, cond}
-use mathlib.Core.Option.{some}
+use mathlib.Core.Bool.{true, false, cond}
 use mathlib.Core.List.{List, [], ◌∷◌, ◌++◌, append-nil}
 use lib.ListN.{length, take, drop, take-append-drop}
 use lib.Seq.{length-take-le}
-use lib.Dec.{eqb, leb}
+use lib.Dec.{eqb}
 use lib.IntN.{ℤ}
 use borrow.Author.Tests.{ne_eqb, lt-leb}
 use Rattle.rules.specs.Dialects.{Dialect}
 use Rattle.rules.specs.Rows.{Form}
 use Rattle.rules.specs.Search as paper
 use Rattle.rules.specs.Search.{start, stopped}
-use Rattle.rules.specs.Services.{Matched, carried_out}
+use Rattle.rules.specs.Services.{carried_out}
 use Rattle.round_rules.specs.Rounds.{Branch, branch, remainders, waiting, take_round, by_rounds, limit_of, states_in, run_rounds}
-use Rattle.words.specs.Words.{entries}
 use Rattle.value_places.specs.Held.{whole_at}
 use Rattle.value_rows.specs.declared.Binding.{Binding}
 use Rattle.tables.specs.Slot.{no_slots, view_of}
@@ -30,12 +28,13 @@ use Rattle.search.specs.Run.{Env, run, opening, matched}
 use Rattle.search.specs.Valid.{Valid}
 use Rattle.search.specs.Meaning.{slots_of, binds_of, conf_of}
 use Rattle.search.specs.Searched.{unbound}
+use Rattle.search.specs.Stops.{number_of}
+use Rattle.search.specs.declared.stop.Stop.TheVariants.{Nothing, Budget, Table}
 use Rattle.search.specs.declared.Report.{Report}
 use Rattle.search.proofs.Begun.{first_valid}
-use Rattle.search.proofs.Whole as whole
 use Rattle.round_lists.specs.Lists.{Framed, Stored}
 use Rattle.round_states.specs.Ruled.{Ruled, follows}
-use Rattle.round_states.specs.Standing.{Clean, Standing, Used}
+use Rattle.round_states.specs.Standing.{Standing, Used}
 use Rattle.round_states.specs.Table.{kept_is, framed, Lists}
 use Rattle.round_states.specs.Taking.{D, code, points, Far, on}
 use Rattle.round_states.specs.Outcomes.{valid_clean}
@@ -52,6 +51,12 @@ nothing_ran : (a : ℕ) (room : List ℤ) → matched a 0 0 0 room ≡ carried_o
 unfolding matched carried_out stopped
 nothing_ran a room = refl
 
+-- The number of what stops such a run.
+none_number : (n : ℕ) → number_of (cond (eqb n 0) Budget Table) ≡ cond (eqb n 0) 7 21
+unfolding cond
+none_number zero = refl
+none_number (suc n) = rw (ne_eqb (suc n) 0 (λ y. omega arith)) refl
+
 none_ran : (dialect : Dialect) (f : Form) (first : paper.State) (room : List ℤ) (n : ℕ)
     → matched (cond (eqb n 0) 7 21) 0 0 0 room ≡ carried_out (by_rounds dialect f n 0 n (record { first = first; others = [] } ∷ []) (length room)) room
 unfolding by_rounds cond
@@ -63,11 +68,12 @@ none_ran dialect f first room (suc n) =
     (sym (lt-leb (waiting b) 0 (let w = waiting_one (record { first = first; others = [] }) in omega arith))))
 
 pub no_table_lem : (e : Env) (budget words : ℕ) (room : List ℤ) (limit : ℕ) → limit ≡ limit_of (states_in 825 words) → limit ≡ 0 → (r : Report) → r ≡ no_table budget
-    → ByRounds e budget words room (matched r.answer r.rows r.steps r.words room)
+    → ByRounds e budget words room (matched (number_of r.stop) r.rows r.steps r.words room)
 unfolding ByRounds no_table run_rounds branch
 no_table_lem e budget words room limit q z r h R =
     let first = start R.rule.matcher R.rule.pattern R.value in
-    ap (λ (r : Report). matched r.answer r.rows r.steps r.words room) h
+    ap (λ (r : Report). matched (number_of r.stop) r.rows r.steps r.words room) h
+    ∙ ap (λ (a : ℕ). matched a 0 0 0 room) (none_number budget)
     ∙ none_ran e.dialect e.form first room budget
     ∙ ap (λ n. carried_out (by_rounds e.dialect e.form budget n budget (record { first = first; others = [] } ∷ []) (length room)) room) (sym z ∙ q)
 
@@ -156,8 +162,8 @@ module _ (e : Env) (R : Ruled e) where
         fuel = omega arith;
       }
 
-      pub first_onward : Onward e used journey budget (record { state = x; binds = b; many = 1; waiting = 1; answer = 0 }) new slots room
-      first_onward = subst (λ (y : State). Onward e used journey budget (record { state = y; binds = b; many = 1; waiting = 1; answer = 0 }) new slots room) (sym opened) (unfold opening in record {
+      pub first_onward : Onward e used journey budget (record { state = x; binds = b; many = 1; waiting = 1; stop = Nothing }) new slots room
+      first_onward = subst (λ (y : State). Onward e used journey budget (record { state = y; binds = b; many = 1; waiting = 1; stop = Nothing }) new slots room) (sym opened) (unfold opening in record {
         clean = first_standing.clean;
         words = omega arith;
         counts = omega arith;
@@ -168,7 +174,7 @@ module _ (e : Env) (R : Ruled e) where
         stops = λ z. absurd (z refl);
       })
 
-      pub first_starts : Starts e used budget limit (record { state = x; binds = b; many = 1; waiting = 1; answer = 0 }) new slots room
+      pub first_starts : Starts e used budget limit (record { state = x; binds = b; many = 1; waiting = 1; stop = Nothing }) new slots room
       unfolding limit_of
       first_starts = record {
         journey = journey;
@@ -206,15 +212,15 @@ module _ (a : ℕ) (x : State) (room base : List ℤ) (w : x.words ≤ length ro
 module _ (e : Env) (x : State) (b : List Binding) (slots : List ℕ) (used budget words limit : ℕ) (room old new : List ℤ) (opened : x ≡ opening 0 (whole_at e.words 0)) (free : b ≡ unbound 16)
     (none : slots ≡ no_slots) (num : Numbered e.arg 650 used) (size : limit ≡ limit_of (states_in 825 words)) (long : words ≡ length old)
     (st : Stored old new 0 e.vars used x (view_of e.arg slots) slots b) (q : Round) (ws : List ℤ) (slots₁ : List ℕ) (room₁ : List ℤ)
-    (A : Arrived e used budget limit (record { state = x; binds = b; many = 1; waiting = 1; answer = 0 }) new slots room q ws slots₁ room₁) where
+    (A : Arrived e used budget limit (record { state = x; binds = b; many = 1; waiting = 1; stop = Nothing }) new slots room q ws slots₁ room₁) where
   ended : (R : Ruled e) → Ended e used (journey e R x opened b free slots none used num budget words limit size room old new long st) q slots₁ room₁
   ended R = A.ended (journey e R x opened b free slots none used num budget words limit size room old new long st) refl (first_onward e R x opened b free slots none used num budget words limit size room old new long st)
 
   pub run_room : Ruled e → length room₁ ≡ length room
   run_room R = (ended R).kept.long
 
-  pub run_told : ByRounds e budget words room (matched q.answer q.state.rows q.state.steps q.state.words room₁)
+  pub run_told : ByRounds e budget words room (matched (number_of q.stop) q.state.rows q.state.steps q.state.words room₁)
   unfolding ByRounds
   run_told R =
       let d = ended R in
-      told_far q.answer q.state room₁ room d.words d.kept.after (journey e R x opened b free slots none used num budget words limit size room old new long st).whole d.far
+      told_far (number_of q.stop) q.state room₁ room d.words d.kept.after (journey e R x opened b free slots none used num budget words limit size room old new long st).whole d.far

@@ -6,12 +6,13 @@ use Rattle.rules.specs.Services.{Matched, carried_out}
 use Rattle.round_rules.specs.Rounds.{states_in, run_rounds}
 use Rattle.search.specs.Run.{Env}
 use Rattle.search.specs.declared.Report.{Report}
+use Rattle.search.specs.declared.stop.Stop.TheVariants.{Budget, Table}
 use Rattle.round_states.specs.Ruled.{Ruled}
 
 -- A table that holds no state: 7 where the budget is 0, else 21.
 unfoldable pub no_table : (budget : ℕ) → Report
 unfolding cond
-no_table budget = record { answer = cond (eqb budget 0) 7 21; rows = 0; steps = 0; words = 0 }
+no_table budget = record { stop = cond (eqb budget 0) Budget Table; rows = 0; steps = 0; words = 0 }
 
 -- The words of a state in the table.
 abbrev pub state_words : ℕ

@@ -6,6 +6,7 @@ pub mod size;
 
 ghost use Rattle.std.specs.Prelude.{◌≡◌, ◌^◌, ◌<◌, length};
 ghost use Rattle.tables.specs.Line.{columns_of};
+ghost use Rattle.search.specs.Stops.{number_of};
 ghost use Rattle.search.specs.Run.{matched};
 ghost use Rattle.search.specs.Told.{env_by};
 ghost use Rattle.round_states.specs.Ruled.{Ruled};
@@ -14,6 +15,7 @@ ghost use Rattle.round_run.specs.Runs.{no_table, ByRounds};
 use round_lists::Used;
 use round_lists::keeping::keep;
 use rounds::{Round, rounds};
+use search::stop::Stop;
 use search::{Report, Terms, open};
 use size::{most_states, slots_used};
 use tables::line::Lines;
@@ -21,20 +23,16 @@ use tables::place::no_places;
 use tables::slot::no_slots;
 use value_places::places::{Units, places_of};
 
-const OUT_OF_BUDGET: u32 = 7;
-
-const OUT_OF_TABLE: u32 = 21;
-
 // A table that holds no state: no round can begin.
 fn without_table(budget: u64) -> Report
     ensures { result ≡ no_table budget }
 {
-    let mut answer = OUT_OF_TABLE;
+    let mut stop = Stop::Table;
     if budget == 0 {
-        answer = OUT_OF_BUDGET;
+        stop = Stop::Budget;
     }
     Report {
-        answer: answer,
+        stop,
         rows: 0,
         steps: 0,
         words: 0,
@@ -52,7 +50,7 @@ pub fn search_rounds(
 ) -> Report
     requires ruled { Ruled (env_by (columns_of lines.now) mt.now s.now terms) }
     requires budget_fits { terms.budget < 2 ^ 63 }
-    ensures { ByRounds (env_by (columns_of lines.now) mt.now s.now terms) terms.budget (length table.old) room.old (matched result.answer result.rows result.steps result.words room.new) }
+    ensures { ByRounds (env_by (columns_of lines.now) mt.now s.now terms) terms.budget (length table.old) room.old (matched (number_of result.stop) result.rows result.steps result.words room.new) }
 {
     let limit = most_states(table.len());
     if limit == 0 {
@@ -75,14 +73,14 @@ pub fn search_rounds(
         binds: b,
         many: 1,
         waiting: 1,
-        answer: 0,
+        stop: Stop::Nothing,
     };
     let r = rounds(
         begun, limit, terms, used, mt, units, &places, lines, &mut slots, table, room,
     );
     let y = r.state;
     Report {
-        answer: r.answer,
+        stop: r.stop,
         rows: y.rows,
         steps: y.steps,
         words: y.words,

@@ -10,6 +10,7 @@ use round_sweep::pull::pull;
 use round_sweep::sweep::sweep;
 use round_sweep::turn::Sweep;
 use search::Terms;
+use search::stop::Stop;
 use search_step::State;
 use tables::line::Lines;
 use tables::place::Places;
@@ -17,30 +18,26 @@ use tables::slot::Slots;
 use value_places::places::Units;
 use value_rows::Bindings;
 
-// Between two rounds: how many lists the table has, and how many states wait in them. `answer` is 0 while the run goes on.
+// Between two rounds: how many lists the table has, and how many states wait in them. And how the run has ended, if it has.
 #[derive(Drop)]
 pub struct Round {
     pub state: State,
     pub binds: Bindings,
     pub many: usize,
     pub waiting: usize,
-    pub answer: u32,
+    pub stop: Stop,
 }
 
-const OUT_OF_BUDGET: u32 = 7;
-
-const OUT_OF_TABLE: u32 = 21;
-
 // The run has ended.
-fn halt(x: State, b: Bindings, answer: u32) -> Round
-    ensures { result ≡ halted_at x b answer }
+fn halt(x: State, b: Bindings, by: Stop) -> Round
+    ensures { result ≡ halted_at x b by }
 {
     Round {
         state: x,
         binds: b,
         many: 0,
         waiting: 0,
-        answer: answer,
+        stop: by,
     }
 }
 
@@ -71,23 +68,23 @@ pub fn take_round(
         fresh: 0,
         left: 0,
         waiting: r.waiting,
-        answer: 0,
+        stop: Stop::Nothing,
     };
     let w = sweep(
         first, many, terms, used, mt, units, places, lines, slots, table, room,
     );
     let y = w.state;
     let c = w.binds;
-    if w.answer != 0 {
-        return halt(y, c, w.answer);
-    }
+    let Stop::Nothing = w.stop else {
+        return halt(y, c, w.stop);
+    };
     pull(table, many, w.fresh, w.left, used);
     Round {
         state: y,
         binds: c,
         many: w.fresh + w.left,
         waiting: w.waiting,
-        answer: 0,
+        stop: Stop::Nothing,
     }
 }
 
@@ -115,15 +112,15 @@ pub fn rounds(
         let x = r.state;
         let b = r.binds;
         if terms.budget <= x.steps {
-            return halt(x, b, OUT_OF_BUDGET);
+            return halt(x, b, Stop::Budget);
         }
         if limit < r.waiting {
-            return halt(x, b, OUT_OF_TABLE);
+            return halt(x, b, Stop::Table);
         }
         let q = take_round(r, terms, used, mt, units, places, lines, slots, table, room);
-        if q.answer != 0 {
+        let Stop::Nothing = q.stop else {
             return q;
-        }
+        };
         r = q;
     }
     r

@@ -18,6 +18,9 @@ use Rattle.tables.specs.Slot.{view_of}
 use Rattle.value_rows.specs.declared.Binding.{Binding}
 use Rattle.search_step.specs.declared.State.{State}
 use Rattle.search.specs.Run.{Env, run}
+use Rattle.search.specs.Stops.{number_of}
+use Rattle.search.specs.declared.stop.Stop.{Stop}
+use Rattle.search.specs.declared.stop.Stop.TheVariants.{Nothing, Budget, Room}
 use Rattle.search.proofs.Whole as whole
 use Rattle.round_table.specs.Entries.{entry_at}
 use Rattle.round_lists.specs.Lists.{Framed, Stored}
@@ -44,8 +47,8 @@ lives a b p = ⊎_elim (λ z. absurd (b z)) (⊎_elim (λ z. z) (λ z. absurd (a
 
 module _ {e : Env} {used : ℕ} {t : Taken} {fresh left wait : ℕ} {ws : List ℤ} {slots : List ℕ} where
   -- An end of the run.
-  ended : (a : ℕ) → (a ≡ 0 → ⊥) → (w : Sweep) → w ≡ stopped_at t.state t.binds a
-      → ((C : Course e used) (budget many i : ℕ) (room : List ℤ) → Midway e used C budget many i fresh left wait t ws slots room → Far C.whole t.state room (stopped a 0))
+  ended : (a : Stop) → (a ≡ Nothing → ⊥) → (w : Sweep) → w ≡ stopped_at t.state t.binds a
+      → ((C : Course e used) (budget many i : ℕ) (room : List ℤ) → Midway e used C budget many i fresh left wait t ws slots room → Far C.whole t.state room (stopped (number_of a) 0))
       → Followed e used t fresh left wait ws ws slots w
   ended a n w q f = record {
     long = refl;
@@ -62,14 +65,14 @@ module _ {e : Env} {used : ℕ} {t : Taken} {fresh left wait : ℕ} {ws : List �
     });
   }
 
-  pub follow_spent : (w : Sweep) → t.spent ≡ true → w ≡ stopped_at t.state t.binds 7 → Followed e used t fresh left wait ws ws slots w
-  follow_spent w h q = ended 7 (λ z. omega arith) w q (λ C budget many i room M. (M.outcome.over h).0)
+  pub follow_spent : (w : Sweep) → t.spent ≡ true → w ≡ stopped_at t.state t.binds Budget → Followed e used t fresh left wait ws ws slots w
+  follow_spent w h q = ended Budget (λ z. absurd (cc)) w q (λ C budget many i room M. (M.outcome.over h).0)
 
-  pub follow_full : (w : Sweep) → t.spent ≡ false → t.state.live ≡ 3 → w ≡ stopped_at t.state t.binds 8 → Followed e used t fresh left wait ws ws slots w
-  follow_full w h l q = ended 8 (λ z. omega arith) w q (λ C budget many i room M. M.outcome.full h l)
+  pub follow_full : (w : Sweep) → t.spent ≡ false → t.state.live ≡ 3 → w ≡ stopped_at t.state t.binds Room → Followed e used t fresh left wait ws ws slots w
+  follow_full w h l q = ended Room (λ z. absurd (cc)) w q (λ C budget many i room M. M.outcome.full h l)
 
   pub follow_none : t.spent ≡ false → t.state.live ≡ 0
-      → Followed e used t fresh left wait ws ws slots (record { state = t.state; binds = t.binds; fresh = fresh; left = left; waiting = wait - 1; answer = 0 })
+      → Followed e used t fresh left wait ws ws slots (record { state = t.state; binds = t.binds; fresh = fresh; left = left; waiting = wait - 1; stop = Nothing })
   follow_none h l = record {
     long = refl;
     swept = λ C budget many i room M. record {
@@ -98,7 +101,7 @@ module _ {e : Env} {used : ℕ} {t : Taken} {fresh left wait : ℕ} {ws : List �
 
     pub follow_some : (new : List ℤ) (more : ℕ) → Stored ws new fresh e.vars used t.state (view_of e.arg slots) slots t.binds
         → more ≡ choices_in e.op t.state.top (view_of e.arg slots) → more ≤ 65
-        → Followed e used t fresh left wait ws new slots (record { state = t.state; binds = t.binds; fresh = fresh + 1; left = left; waiting = wait + more; answer = 0 })
+        → Followed e used t fresh left wait ws new slots (record { state = t.state; binds = t.binds; fresh = fresh + 1; left = left; waiting = wait + more; stop = Nothing })
     follow_some new more st q l = record {
       long = st.long;
       swept = λ C budget many i room M.
@@ -173,9 +176,9 @@ took_later e R used U ws r budget x₀ slots₀ b₀ room₀ spent x slots b roo
     go true o h = same 7 (o.over refl).0 h
     go false o h = ⊎_elim (λ z. same 0 (o.none refl z) h) (⊎_elim (λ z. same 0 (o.some refl z).1 h) (λ z. same 8 (o.full refl z) h)) o.phase
 
-module _ {e : Env} {used budget many i : ℕ} {w : Sweep} {ws : List ℤ} {slots : List ℕ} {room : List ℤ} (inside : i < many) (going : w.answer ≡ 0) where
+module _ {e : Env} {used budget many i : ℕ} {w : Sweep} {ws : List ℤ} {slots : List ℕ} {room : List ℤ} (inside : i < many) (going : w.stop ≡ Nothing) where
   -- The budget is used up.
-  pub turn_spent : budget ≤ w.state.steps → (v : Sweep) → v ≡ stopped_at w.state w.binds 7 → Turned e used budget many i w ws slots room v ws slots room
+  pub turn_spent : budget ≤ w.state.steps → (v : Sweep) → v ≡ stopped_at w.state w.binds Budget → Turned e used budget many i w ws slots room v ws slots room
   turn_spent m v q = record {
     long = refl;
     swept = λ C S. subst (λ (v : Sweep). Swept e used C budget many (suc i) v ws slots room) (sym q) (unfold stopped_at in record {
@@ -185,8 +188,8 @@ module _ {e : Env} {used budget many i : ℕ} {w : Sweep} {ws : List ℤ} {slots
       most = S.most;
       kept = S.kept;
       few = omega arith;
-      later = λ z. absurd (omega arith);
-      goes = λ z. absurd (omega arith);
+      later = λ z. absurd (cc);
+      goes = λ z. absurd (cc);
       stops = λ z. sweep_spent e C.ruled used C.uses (S.goes going) inside m;
     });
   }
@@ -314,7 +317,7 @@ module _ {e : Env} {used budget many : ℕ} {w₀ : Sweep} {ws₀ : List ℤ} {s
   pub swept_room : Sweeps e used budget many w₀ ws₀ slots₀ room₀ → length room ≡ length room₀
   swept_room P = (T.swept P.course P.swept).kept.long ∙ sym P.swept.kept.long
 
-  pub swept_turning : Sweeps e used budget many w₀ ws₀ slots₀ room₀ → w.answer ≡ 0 → i < many → Turning e used budget many i w ws slots room
+  pub swept_turning : Sweeps e used budget many w₀ ws₀ slots₀ room₀ → w.stop ≡ Nothing → i < many → Turning e used budget many i w ws slots room
   swept_turning P h l = record {
     course = P.course;
     swept = T.swept P.course P.swept;
@@ -338,7 +341,7 @@ module _ {e : Env} {used budget many : ℕ} {w₀ : Sweep} {ws₀ : List ℤ} {s
     swept = λ C S. let l = T.within in let z : i ≡ many = omega arith in subst (λ n. Swept e used C budget many n w ws slots room) z (T.swept C S);
   }
 
-  pub swept_stopped : (w.answer ≡ 0 → ⊥) → SweptBy e used budget many w₀ ws₀ slots₀ room₀ w ws slots room
+  pub swept_stopped : (w.stop ≡ Nothing → ⊥) → SweptBy e used budget many w₀ ws₀ slots₀ room₀ w ws slots room
   swept_stopped n = record {
     long = T.long;
     swept = λ C S.

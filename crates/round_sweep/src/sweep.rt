@@ -9,6 +9,7 @@ use super::pull::pull;
 use super::turn::{Sweep, turn};
 use round_lists::Used;
 use search::Terms;
+use search::stop::Stop;
 use tables::line::Lines;
 use tables::place::Places;
 use tables::slot::Slots;
@@ -35,9 +36,9 @@ pub fn sweep(
 {
     let mut w = first;
     for i in 0..many {
-        if w.answer != 0 {
+        let Stop::Nothing = w.stop else {
             return w;
-        }
+        };
         w = turn(
             w, i, many, terms, used, mt, units, places, lines, slots, table, room,
         );

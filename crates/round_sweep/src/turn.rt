@@ -10,6 +10,7 @@ use super::rest::put_rest;
 use round_lists::Used;
 use round_lists::keeping::keep;
 use search::Terms;
+use search::stop::Stop;
 use search_rounds::first::{Taken, take_first};
 use search_step::{ENDED, FULL, State};
 use tables::line::Lines;
@@ -18,7 +19,7 @@ use tables::slot::Slots;
 use value_places::places::Units;
 use value_rows::Bindings;
 
-// How far a round is: how many new lists there are, how many remainders, and how many states wait. `answer` is 0 while the run goes on.
+// How far a round is: how many new lists there are, how many remainders, and how many states wait; and what has stopped the run.
 #[derive(Clone, Copy)]
 pub struct Sweep {
     pub state: State,
@@ -26,18 +27,12 @@ pub struct Sweep {
     pub fresh: usize,
     pub left: usize,
     pub waiting: usize,
-    pub answer: u32,
+    pub stop: Stop,
 }
 
-const GOES_ON: u32 = 0;
-
-const OUT_OF_BUDGET: u32 = 7;
-
-const OUT_OF_ROOM: u32 = 8;
-
 // The run has ended.
-fn stop(x: State, b: Bindings, answer: u32) -> Sweep
-    ensures { result ≡ stopped_at x b answer }
+fn stop(x: State, b: Bindings, by: Stop) -> Sweep
+    ensures { result ≡ stopped_at x b by }
 {
     Sweep {
         state: x,
@@ -45,7 +40,7 @@ fn stop(x: State, b: Bindings, answer: u32) -> Sweep
         fresh: 0,
         left: 0,
         waiting: 0,
-        answer: answer,
+        stop: by,
     }
 }
 
@@ -69,10 +64,10 @@ fn follow(
     let x = t.state;
     let b = t.binds;
     if t.spent {
-        return stop(x, b, OUT_OF_BUDGET);
+        return stop(x, b, Stop::Budget);
     }
     if x.live == FULL {
-        return stop(x, b, OUT_OF_ROOM);
+        return stop(x, b, Stop::Room);
     }
     if x.live == ENDED {
         return Sweep {
@@ -81,7 +76,7 @@ fn follow(
             fresh: fresh,
             left: left,
             waiting: waiting - 1,
-            answer: GOES_ON,
+            stop: Stop::Nothing,
         };
     }
     let n = terms.vars;
@@ -93,7 +88,7 @@ fn follow(
         fresh: fresh + 1,
         left: left,
         waiting: waiting + more,
-        answer: GOES_ON,
+        stop: Stop::Nothing,
     }
 }
 
@@ -174,7 +169,7 @@ pub fn turn(
     let x = w.state;
     if terms.budget <= x.steps {
         let b = w.binds;
-        return stop(x, b, OUT_OF_BUDGET);
+        return stop(x, b, Stop::Budget);
     }
     let h = give_up(
         w, i, many, terms, used, mt, units, places, lines, slots, table, room,

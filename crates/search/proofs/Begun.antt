@@ -22,6 +22,8 @@ use Rattle.search.specs.declared.Report.{Report}
 use Rattle.search.specs.Told.{reported}
 use Rattle.search.specs.Valid.{Fine, Valid}
 use Rattle.search.specs.Searched.{zeros, unbound, begun, Searched}
+use Rattle.search.specs.Stops.{number_of}
+use Rattle.search.proofs.Stops.{stop_number}
 use Rattle.search.proofs.Frames.{held_whole}
 use Rattle.search.proofs.Whole.{search_runs}
 
@@ -86,9 +88,9 @@ module _ (e : Env) (some : 0 < length e.words) (x : State) (opened : x ≡ openi
   first_valid = subst (Valid e) (sym first_is) (begun_valid e some room)
 
   pub first_searched : Target e.words → Fine e → (budget : ℕ) (r : Run) (out : Report) → r ≡ run_of e (budget - x.steps) (run x (view_of e.arg slots) b room) → out ≡ reported r.state
-      → Searched e budget room (matched out.answer out.rows out.steps out.words r.room)
+      → Searched e budget room (matched (number_of out.stop) out.rows out.steps out.words r.room)
   unfolding told reported opening
   first_searched g fine budget r out q a =
       let z : budget - x.steps ≡ budget = rw opened (omega arith) in
       let p : r ≡ run_of e budget (begun e room) = q ∙ ap (λ n. run_of e n (run x (view_of e.arg slots) b room)) z ∙ ap (run_of e budget) first_is in
-      rw a (subst (λ k. Searched e budget room (told k)) (sym p) (searched e some g fine budget room))
+      rw (a, stop_number r.state.live) (subst (λ k. Searched e budget room (told k)) (sym p) (searched e some g fine budget room))

@@ -29,7 +29,8 @@ use Rattle.search_step.specs.Steps.{Turned, turned, counted, dropped, head_of, S
 use Rattle.search_machine.specs.Operations.{opens_with}
 use Rattle.search.specs.Plain.{split_of, divide_of, step_by, step_of}
 use Rattle.search_choice.specs.Choices.{pick_of, settle_of, Named, PicksIf}
-use Rattle.search.specs.Run.{Env, Run, run, goes_on, value_of, filled, wrote_to, wrote, Ended, ended, end_by, end_of, ask_of, bound_at, asked, choices_in, choices_of, after_turn, after_end, take_end, take_bind, take_step, take_of, settled, run_of, answer_of}
+use Rattle.search.specs.Stops.{stop_of}
+use Rattle.search.specs.Run.{Env, Run, run, goes_on, value_of, filled, wrote_to, wrote, Ended, ended, end_by, end_of, ask_of, bound_at, asked, choices_in, choices_of, after_turn, after_end, take_end, take_bind, take_step, take_of, settled, run_of}
 use Rattle.search.specs.declared.Report.{Report}
 use Rattle.search.specs.Told.{reported}
 use Rattle.search.specs.Valid.{Fine, Valid, Rows}
@@ -362,6 +363,6 @@ module _ (e : Env) (x : State) (t : Tables) (b : List Binding) (room : List ℤ)
 
 -- ---- What is told.
 
-pub report_is : (x : State) (r : Report) → r.answer ≡ answer_of x.live → r.rows ≡ x.rows → r.steps ≡ x.steps → r.words ≡ x.words → r ≡ reported x
+pub report_is : (x : State) (r : Report) → r.stop ≡ stop_of x.live → r.rows ≡ x.rows → r.steps ≡ x.steps → r.words ≡ x.words → r ≡ reported x
 unfolding reported
-report_is x r a b c d i = record { answer = a i; rows = b i; steps = c i; words = d i }
+report_is x r a b c d i = record { stop = a i; rows = b i; steps = c i; words = d i }

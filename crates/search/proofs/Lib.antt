@@ -18,5 +18,6 @@ pub mod Leaves
 pub mod Leafed
 pub mod Pairs
 pub mod Sought
+pub mod Stops
 pub mod Begun
 pub mod Accepted

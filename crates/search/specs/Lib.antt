@@ -2,6 +2,7 @@
 pub mod Plain
 pub mod Narrow
 pub mod Run
+pub mod Stops
 pub mod Told
 pub mod Valid
 pub mod Meaning

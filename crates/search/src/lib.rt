@@ -3,6 +3,7 @@
 
 pub mod asking;
 pub mod narrowing;
+pub mod stop;
 pub mod taking;
 
 ghost use Rattle.std.specs.Prelude.{◌≡◌, ◌-◌, ◌<◌, length};
@@ -11,7 +12,8 @@ ghost use Rattle.value_places.specs.Held.{whole_at};
 ghost use Rattle.value_firsts.specs.Firsts.{Fresh};
 ghost use Rattle.tables.specs.Line.{columns_of};
 ghost use Rattle.tables.specs.Slot.{view_of};
-ghost use Rattle.search.specs.Run.{run, run_of, opening, answer_of, matched};
+ghost use Rattle.search.specs.Run.{run, run_of, opening, matched};
+ghost use Rattle.search.specs.Stops.{number_of};
 ghost use Rattle.search.specs.Told.{env_by, reported};
 ghost use Rattle.search.specs.Valid.{Given, Fine, Valid};
 ghost use Rattle.search.specs.Searched.{unbound, Searched};
@@ -22,11 +24,12 @@ use search_choice::settle;
 use search_leaf::lines::leaf_at;
 use search_leaf::{last_of, take};
 use search_seek::asked::{asked_at, pass};
-use search_step::{ENDED, FULL, STANDS, State};
+use search_step::{STANDS, State};
 use tables::instruction::{BIND, DROP, END, MULTISET_CONS, NIL, SUM};
 use tables::line::{Lines, arg_at, op_at};
 use tables::place::{Places, no_places};
 use tables::slot::{Slots, no_slots};
+use stop::{Stop, stop_of};
 use taking::{bounds_of, goes_on, take_end};
 use value_firsts::fresh::fresh_places;
 use value_places::places::{Units, places_of, whole};
@@ -136,29 +139,10 @@ pub fn open(units: Units) -> Progress
 
 #[derive(Drop)]
 pub struct Report {
-    pub answer: u32,
+    pub stop: Stop,
     pub rows: u64,
     pub steps: u64,
     pub words: usize,
-}
-
-const DONE: u32 = 0;
-
-const OUT_OF_BUDGET: u32 = 7;
-
-const OUT_OF_ROOM: u32 = 8;
-
-#[tactic(auto, using(search_step::proofs::Laws::cases), unfolding(crate::specs::Run::answer_of))]
-fn answer_of(live: u64) -> u32
-    ensures { result ≡ answer_of live }
-{
-    if live == FULL {
-        return OUT_OF_ROOM;
-    }
-    if live == ENDED {
-        return DONE;
-    }
-    OUT_OF_BUDGET
 }
 
 // What a run tells where it stands.
@@ -166,7 +150,7 @@ pub fn tell(x: State) -> Report
     ensures { result ≡ reported x }
 {
     Report {
-        answer: answer_of(x.live),
+        stop: stop_of(x.live),
         rows: x.rows,
         steps: x.steps,
         words: x.words,
@@ -189,7 +173,7 @@ fn fresh_if(firsts: bool, mt: &[i32], units: Units, places: &Places) -> u64
 pub fn search(terms: Terms, mt: &[i32], units: Units, lines: &Lines, room: &mut [i32]) -> Report
     requires some_words { 0 < length units.words.now }
     requires fine { Fine (env_by (columns_of lines.now) mt.now units.words.now terms) }
-    ensures { Searched (env_by (columns_of lines.now) mt.now units.entry.words.now terms) terms.budget room.old (matched result.answer result.rows result.steps result.words room.new) }
+    ensures { Searched (env_by (columns_of lines.now) mt.now units.entry.words.now terms) terms.budget room.old (matched (number_of result.stop) result.rows result.steps result.words room.new) }
 {
     let mut places = no_places();
     places_of(units, &mut places);

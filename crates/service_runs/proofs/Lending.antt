@@ -20,6 +20,8 @@ use Rattle.value_rows.specs.declared.Binding.{Binding}
 use Rattle.search_step.specs.declared.State.{State}
 use Rattle.search_atom.specs.Leaves.{when}
 use Rattle.search.specs.Run.{answer_of}
+use Rattle.search.specs.Stops.{number_of}
+use Rattle.search.proofs.Stops.{stop_number}
 use Rattle.search.specs.Told.{reported}
 use Rattle.search.specs.declared.Progress.{Progress}
 use Rattle.search.specs.declared.Report.{Report}
@@ -41,9 +43,9 @@ use Rattle.service_runs.specs.declared.run.Out as out
 -- ---- What is told.
 
 module _ (x : State) (r : Report) (e : r ≡ reported x) where
-  pub tell_numbers : ◌≡◌ {A = Numbers} (record { answer = r.answer; place = 0; rows = r.rows; steps = r.steps; words = r.words; cause = 0 }) (numbers_of x)
+  pub tell_numbers : ◌≡◌ {A = Numbers} (record { answer = number_of r.stop; place = 0; rows = r.rows; steps = r.steps; words = r.words; cause = 0 }) (numbers_of x)
   unfolding numbers_of reported
-  tell_numbers = rw e
+  tell_numbers = rw (e, stop_number x.live)
 
 pub ruleset tell_rules = (tell_numbers, rules)
 

@@ -144,7 +144,7 @@ fn told_of(x: State) -> Told
 {
     let r = tell(x);
     Told {
-        answer: r.answer,
+        answer: r.stop.number(),
         place: 0,
         rows: r.rows,
         steps: r.steps,

@@ -4,6 +4,7 @@ use Rattle.rules.specs.Forms.{Value}
 use Rattle.rules.specs.Dialects.{Dialect}
 use Rattle.rules.specs.Services.{accepted, Rule, rule_in, rule_of, target_of}
 use Rattle.rules.specs.Services as paper
+use Rattle.search.specs.Stops.{number_of}
 use Rattle.search.specs.declared.Report.{Report}
 use Rattle.tests.specs.Judgements.{Numbers}
 use Rattle.services.specs.Refusals.{refused_numbers}
@@ -16,7 +17,7 @@ told r room = record { answer = r.answer; place = r.place; rows = r.rows; steps 
 
 -- The answer of a run that was carried out; a refusal; and the answer of either.
 unfoldable pub reported : Report → Matched
-reported r = record { answer = r.answer; place = 0; rows = r.rows; steps = r.steps; words = r.words; cause = 0 }
+reported r = record { answer = number_of r.stop; place = 0; rows = r.rows; steps = r.steps; words = r.words; cause = 0 }
 
 unfoldable pub away : Numbers → Matched
 away n = record { answer = n.answer; place = n.place; rows = 0; steps = 0; words = 0; cause = n.cause }

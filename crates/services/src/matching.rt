@@ -32,7 +32,7 @@ impl From<Result<Report, Refused>> for Matched {
     fn from(outcome: Result<Report, Refused>) -> Matched {
         match outcome {
             Ok(report) => Matched {
-                answer: report.answer,
+                answer: report.stop.number(),
                 place: 0,
                 rows: report.rows,
                 steps: report.steps,

@@ -1,4 +1,3 @@
-use Prim.Native.Nat.{◌-◌}
 use Rattle.round_run.proofs.Sizes.{scan_none, scan_next, scan_below, scan_all}
 use Rattle.round_run.proofs.size.slots_used.Goals as goal
 

@@ -1,4 +1,3 @@
-use Prim.Native.Nat.{◌-◌}
 use Rattle.tables.specs.Line.{columns_of}
 use Rattle.round_run.specs.Sizes.{Numbered}
 use Rattle.round_run.proofs.size.slots_used.Given as goal

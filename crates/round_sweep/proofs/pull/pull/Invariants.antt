@@ -1,4 +1,3 @@
-use Prim.Native.Nat.{◌-◌}
 use Rattle.round_sweep.proofs.Pulls.{Pulling}
 use Rattle.round_sweep.proofs.pull.pull.Given as goal
 
