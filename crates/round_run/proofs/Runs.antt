@@ -9,6 +9,7 @@ use lib.ListN.{length, take, drop, take-append-drop}
 use lib.Seq.{length-take-le}
 use lib.Dec.{eqb}
 use lib.IntN.{ℤ}
+use Rattle.std.specs.Prelude.{Some, None}
 use borrow.Author.Tests.{ne_eqb, lt-leb}
 use Rattle.rules.specs.Dialects.{Dialect}
 use Rattle.rules.specs.Rows.{Form}
@@ -29,7 +30,7 @@ use Rattle.search.specs.Valid.{Valid}
 use Rattle.search.specs.Meaning.{slots_of, binds_of, conf_of}
 use Rattle.search.specs.Searched.{unbound}
 use Rattle.search.specs.Stops.{number_of}
-use Rattle.search.specs.declared.stop.Stop.TheVariants.{Nothing, Budget, Table}
+use Rattle.search.specs.declared.stop.Stop.TheVariants.{Budget, Table}
 use Rattle.search.specs.declared.Report.{Report}
 use Rattle.search.proofs.Begun.{first_valid}
 use Rattle.round_lists.specs.Lists.{Framed, Stored}
@@ -52,7 +53,7 @@ unfolding matched carried_out stopped
 nothing_ran a room = refl
 
 -- The number of what stops such a run.
-none_number : (n : ℕ) → number_of (cond (eqb n 0) Budget Table) ≡ cond (eqb n 0) 7 21
+none_number : (n : ℕ) → number_of (cond (eqb n 0) (Some Budget) (Some Table)) ≡ cond (eqb n 0) 7 21
 unfolding cond
 none_number zero = refl
 none_number (suc n) = rw (ne_eqb (suc n) 0 (λ y. omega arith)) refl
@@ -162,8 +163,8 @@ module _ (e : Env) (R : Ruled e) where
         fuel = omega arith;
       }
 
-      pub first_onward : Onward e used journey budget (record { state = x; binds = b; many = 1; waiting = 1; stop = Nothing }) new slots room
-      first_onward = subst (λ (y : State). Onward e used journey budget (record { state = y; binds = b; many = 1; waiting = 1; stop = Nothing }) new slots room) (sym opened) (unfold opening in record {
+      pub first_onward : Onward e used journey budget (record { state = x; binds = b; many = 1; waiting = 1; stop = None }) new slots room
+      first_onward = subst (λ (y : State). Onward e used journey budget (record { state = y; binds = b; many = 1; waiting = 1; stop = None }) new slots room) (sym opened) (unfold opening in record {
         clean = first_standing.clean;
         words = omega arith;
         counts = omega arith;
@@ -174,7 +175,7 @@ module _ (e : Env) (R : Ruled e) where
         stops = λ z. absurd (z refl);
       })
 
-      pub first_starts : Starts e used budget limit (record { state = x; binds = b; many = 1; waiting = 1; stop = Nothing }) new slots room
+      pub first_starts : Starts e used budget limit (record { state = x; binds = b; many = 1; waiting = 1; stop = None }) new slots room
       unfolding limit_of
       first_starts = record {
         journey = journey;
@@ -212,7 +213,7 @@ module _ (a : ℕ) (x : State) (room base : List ℤ) (w : x.words ≤ length ro
 module _ (e : Env) (x : State) (b : List Binding) (slots : List ℕ) (used budget words limit : ℕ) (room old new : List ℤ) (opened : x ≡ opening 0 (whole_at e.words 0)) (free : b ≡ unbound 16)
     (none : slots ≡ no_slots) (num : Numbered e.arg 650 used) (size : limit ≡ limit_of (states_in 825 words)) (long : words ≡ length old)
     (st : Stored old new 0 e.vars used x (view_of e.arg slots) slots b) (q : Round) (ws : List ℤ) (slots₁ : List ℕ) (room₁ : List ℤ)
-    (A : Arrived e used budget limit (record { state = x; binds = b; many = 1; waiting = 1; stop = Nothing }) new slots room q ws slots₁ room₁) where
+    (A : Arrived e used budget limit (record { state = x; binds = b; many = 1; waiting = 1; stop = None }) new slots room q ws slots₁ room₁) where
   ended : (R : Ruled e) → Ended e used (journey e R x opened b free slots none used num budget words limit size room old new long st) q slots₁ room₁
   ended R = A.ended (journey e R x opened b free slots none used num budget words limit size room old new long st) refl (first_onward e R x opened b free slots none used num budget words limit size room old new long st)
 

@@ -1,5 +1,5 @@
 -- The whole run by rounds: for a rule and a target that are accepted, what document 02, No. 10 has.
-use Rattle.std.specs.Prelude.{ℕ, ◌≡◌, List, [], ◌∷◌, length, eqb, ℤ}
+use Rattle.std.specs.Prelude.{ℕ, ◌≡◌, Some, List, [], ◌∷◌, length, eqb, ℤ}
 use Rattle.std.proofs.Math.Bool.{cond}
 use Rattle.rules.specs.Search.{start}
 use Rattle.rules.specs.Services.{Matched, carried_out}
@@ -12,7 +12,7 @@ use Rattle.round_states.specs.Ruled.{Ruled}
 -- A table that holds no state: 7 where the budget is 0, else 21.
 unfoldable pub no_table : (budget : ℕ) → Report
 unfolding cond
-no_table budget = record { stop = cond (eqb budget 0) Budget Table; rows = 0; steps = 0; words = 0 }
+no_table budget = record { stop = cond (eqb budget 0) (Some Budget) (Some Table); rows = 0; steps = 0; words = 0 }
 
 -- The words of a state in the table.
 abbrev pub state_words : ℕ

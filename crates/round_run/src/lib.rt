@@ -27,9 +27,9 @@ use value_places::places::{Units, places_of};
 fn without_table(budget: u64) -> Report
     ensures { result ≡ no_table budget }
 {
-    let mut stop = Stop::Table;
+    let mut stop = Some(Stop::Table);
     if budget == 0 {
-        stop = Stop::Budget;
+        stop = Some(Stop::Budget);
     }
     Report {
         stop,
@@ -73,7 +73,7 @@ pub fn search_rounds(
         binds: b,
         many: 1,
         waiting: 1,
-        stop: Stop::Nothing,
+        stop: None,
     };
     let r = rounds(
         begun, limit, terms, used, mt, units, &places, lines, &mut slots, table, room,

@@ -25,7 +25,7 @@ pub struct Round {
     pub binds: Bindings,
     pub many: usize,
     pub waiting: usize,
-    pub stop: Stop,
+    pub stop: Option<Stop>,
 }
 
 // The run has ended.
@@ -37,7 +37,7 @@ fn halt(x: State, b: Bindings, by: Stop) -> Round
         binds: b,
         many: 0,
         waiting: 0,
-        stop: by,
+        stop: Some(by),
     }
 }
 
@@ -68,23 +68,23 @@ pub fn take_round(
         fresh: 0,
         left: 0,
         waiting: r.waiting,
-        stop: Stop::Nothing,
+        stop: None,
     };
     let w = sweep(
         first, many, terms, used, mt, units, places, lines, slots, table, room,
     );
     let y = w.state;
     let c = w.binds;
-    let Stop::Nothing = w.stop else {
-        return halt(y, c, w.stop);
-    };
+    if let Some(by) = w.stop {
+        return halt(y, c, by);
+    }
     pull(table, many, w.fresh, w.left, used);
     Round {
         state: y,
         binds: c,
         many: w.fresh + w.left,
         waiting: w.waiting,
-        stop: Stop::Nothing,
+        stop: None,
     }
 }
 
@@ -118,9 +118,9 @@ pub fn rounds(
             return halt(x, b, Stop::Table);
         }
         let q = take_round(r, terms, used, mt, units, places, lines, slots, table, room);
-        let Stop::Nothing = q.stop else {
+        if let Some(_) = q.stop {
             return q;
-        };
+        }
         r = q;
     }
     r

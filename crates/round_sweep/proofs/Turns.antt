@@ -9,6 +9,7 @@ use mathlib.Core.List.{List, [], ◌∷◌, ◌++◌}
 use lib.ListN.{length, get_or, take}
 use lib.Dec.{leb}
 use lib.IntN.{ℤ}
+use Rattle.std.specs.Prelude.{Option, Some, None}
 use Rattle.rules.specs.Dialects.{Dialect}
 use Rattle.rules.specs.Rows.{Form, row}
 use Rattle.rules.specs.Search as paper
@@ -20,7 +21,7 @@ use Rattle.search_step.specs.declared.State.{State}
 use Rattle.search.specs.Run.{Env, run}
 use Rattle.search.specs.Stops.{number_of}
 use Rattle.search.specs.declared.stop.Stop.{Stop}
-use Rattle.search.specs.declared.stop.Stop.TheVariants.{Nothing, Budget, Room}
+use Rattle.search.specs.declared.stop.Stop.TheVariants.{Budget, Room}
 use Rattle.search.proofs.Whole as whole
 use Rattle.round_table.specs.Entries.{entry_at}
 use Rattle.round_lists.specs.Lists.{Framed, Stored}
@@ -39,6 +40,10 @@ use Rattle.round_sweep.specs.Rests.{Rests, Rested}
 use Rattle.round_sweep.specs.Turns.{Course, stopped_at, Swept, Midway, Following, Followed, Turning, GivenUp, Turned, Sweeps, SweptBy}
 use Rattle.round_sweep.specs.declared.turn.Sweep.{Sweep}
 
+-- A stop is one.
+pub some_none : (a : Stop) → ◌≡◌ {A = Option Stop} (Some a) None → ⊥
+some_none a z = absurd (cc)
+
 -- A state that is neither the last nor one whose row does not fit stands.
 lives : {n : ℕ} → (n ≡ 3 → ⊥) → (n ≡ 0 → ⊥) → (n ≡ 0) ⊎ ((n ≡ 1) ⊎ (n ≡ 3)) → n ≡ 1
 lives a b p = ⊎_elim (λ z. absurd (b z)) (⊎_elim (λ z. z) (λ z. absurd (a z))) p
@@ -47,10 +52,10 @@ lives a b p = ⊎_elim (λ z. absurd (b z)) (⊎_elim (λ z. z) (λ z. absurd (a
 
 module _ {e : Env} {used : ℕ} {t : Taken} {fresh left wait : ℕ} {ws : List ℤ} {slots : List ℕ} where
   -- An end of the run.
-  ended : (a : Stop) → (a ≡ Nothing → ⊥) → (w : Sweep) → w ≡ stopped_at t.state t.binds a
-      → ((C : Course e used) (budget many i : ℕ) (room : List ℤ) → Midway e used C budget many i fresh left wait t ws slots room → Far C.whole t.state room (stopped (number_of a) 0))
+  ended : (a : Stop) → (w : Sweep) → w ≡ stopped_at t.state t.binds a
+      → ((C : Course e used) (budget many i : ℕ) (room : List ℤ) → Midway e used C budget many i fresh left wait t ws slots room → Far C.whole t.state room (stopped (number_of (Some a)) 0))
       → Followed e used t fresh left wait ws ws slots w
-  ended a n w q f = record {
+  ended a w q f = record {
     long = refl;
     swept = λ C budget many i room M. subst (λ (v : Sweep). Swept e used C budget many (suc i) v ws slots room) (sym q) (unfold stopped_at in record {
       clean = M.outcome.clean;
@@ -59,20 +64,20 @@ module _ {e : Env} {used : ℕ} {t : Taken} {fresh left wait : ℕ} {ws : List �
       most = M.outcome.most;
       kept = M.outcome.kept;
       few = omega arith;
-      later = λ z. absurd (n z);
-      goes = λ z. absurd (n z);
+      later = λ z. absurd (cc);
+      goes = λ z. absurd (cc);
       stops = λ z. f C budget many i room M;
     });
   }
 
   pub follow_spent : (w : Sweep) → t.spent ≡ true → w ≡ stopped_at t.state t.binds Budget → Followed e used t fresh left wait ws ws slots w
-  follow_spent w h q = ended Budget (λ z. absurd (cc)) w q (λ C budget many i room M. (M.outcome.over h).0)
+  follow_spent w h q = ended Budget w q (λ C budget many i room M. (M.outcome.over h).0)
 
   pub follow_full : (w : Sweep) → t.spent ≡ false → t.state.live ≡ 3 → w ≡ stopped_at t.state t.binds Room → Followed e used t fresh left wait ws ws slots w
-  follow_full w h l q = ended Room (λ z. absurd (cc)) w q (λ C budget many i room M. M.outcome.full h l)
+  follow_full w h l q = ended Room w q (λ C budget many i room M. M.outcome.full h l)
 
   pub follow_none : t.spent ≡ false → t.state.live ≡ 0
-      → Followed e used t fresh left wait ws ws slots (record { state = t.state; binds = t.binds; fresh = fresh; left = left; waiting = wait - 1; stop = Nothing })
+      → Followed e used t fresh left wait ws ws slots (record { state = t.state; binds = t.binds; fresh = fresh; left = left; waiting = wait - 1; stop = None })
   follow_none h l = record {
     long = refl;
     swept = λ C budget many i room M. record {
@@ -101,7 +106,7 @@ module _ {e : Env} {used : ℕ} {t : Taken} {fresh left wait : ℕ} {ws : List �
 
     pub follow_some : (new : List ℤ) (more : ℕ) → Stored ws new fresh e.vars used t.state (view_of e.arg slots) slots t.binds
         → more ≡ choices_in e.op t.state.top (view_of e.arg slots) → more ≤ 65
-        → Followed e used t fresh left wait ws new slots (record { state = t.state; binds = t.binds; fresh = fresh + 1; left = left; waiting = wait + more; stop = Nothing })
+        → Followed e used t fresh left wait ws new slots (record { state = t.state; binds = t.binds; fresh = fresh + 1; left = left; waiting = wait + more; stop = None })
     follow_some new more st q l = record {
       long = st.long;
       swept = λ C budget many i room M.
@@ -176,7 +181,7 @@ took_later e R used U ws r budget x₀ slots₀ b₀ room₀ spent x slots b roo
     go true o h = same 7 (o.over refl).0 h
     go false o h = ⊎_elim (λ z. same 0 (o.none refl z) h) (⊎_elim (λ z. same 0 (o.some refl z).1 h) (λ z. same 8 (o.full refl z) h)) o.phase
 
-module _ {e : Env} {used budget many i : ℕ} {w : Sweep} {ws : List ℤ} {slots : List ℕ} {room : List ℤ} (inside : i < many) (going : w.stop ≡ Nothing) where
+module _ {e : Env} {used budget many i : ℕ} {w : Sweep} {ws : List ℤ} {slots : List ℕ} {room : List ℤ} (inside : i < many) (going : w.stop ≡ None) where
   -- The budget is used up.
   pub turn_spent : budget ≤ w.state.steps → (v : Sweep) → v ≡ stopped_at w.state w.binds Budget → Turned e used budget many i w ws slots room v ws slots room
   turn_spent m v q = record {
@@ -317,7 +322,7 @@ module _ {e : Env} {used budget many : ℕ} {w₀ : Sweep} {ws₀ : List ℤ} {s
   pub swept_room : Sweeps e used budget many w₀ ws₀ slots₀ room₀ → length room ≡ length room₀
   swept_room P = (T.swept P.course P.swept).kept.long ∙ sym P.swept.kept.long
 
-  pub swept_turning : Sweeps e used budget many w₀ ws₀ slots₀ room₀ → w.stop ≡ Nothing → i < many → Turning e used budget many i w ws slots room
+  pub swept_turning : Sweeps e used budget many w₀ ws₀ slots₀ room₀ → w.stop ≡ None → i < many → Turning e used budget many i w ws slots room
   swept_turning P h l = record {
     course = P.course;
     swept = T.swept P.course P.swept;
@@ -341,8 +346,8 @@ module _ {e : Env} {used budget many : ℕ} {w₀ : Sweep} {ws₀ : List ℤ} {s
     swept = λ C S. let l = T.within in let z : i ≡ many = omega arith in subst (λ n. Swept e used C budget many n w ws slots room) z (T.swept C S);
   }
 
-  pub swept_stopped : (w.stop ≡ Nothing → ⊥) → SweptBy e used budget many w₀ ws₀ slots₀ room₀ w ws slots room
-  swept_stopped n = record {
+  pub swept_stopped : (a : Stop) → w.stop ≡ Some a → SweptBy e used budget many w₀ ws₀ slots₀ room₀ w ws slots room
+  swept_stopped a n = record {
     long = T.long;
     swept = λ C S.
         let s = T.swept C S in
@@ -353,8 +358,8 @@ module _ {e : Env} {used budget many : ℕ} {w₀ : Sweep} {ws₀ : List ℤ} {s
           most = s.most;
           kept = s.kept;
           few = let f = s.few in let l = T.within in omega arith;
-          later = λ z. absurd (n z);
-          goes = λ z. absurd (n z);
+          later = λ z. absurd (some_none a (sym n ∙ z));
+          goes = λ z. absurd (some_none a (sym n ∙ z));
           stops = s.stops;
         };
   }

@@ -1,5 +1,5 @@
 -- A round, list after list: from what it begins with to what has come of it, whatever run it is part of.
-use Rattle.std.specs.Prelude.{ℕ, suc, ◌+◌, ◌-◌, ◌*◌, ◌≤◌, ◌<◌, ◌≡◌, Bool, List, [], ◌∷◌, length, ℤ}
+use Rattle.std.specs.Prelude.{ℕ, suc, ◌+◌, ◌-◌, ◌*◌, ◌≤◌, ◌<◌, ◌≡◌, Bool, Some, None, List, [], ◌∷◌, length, ℤ}
 use Rattle.rules.specs.Search as paper
 use Rattle.rules.specs.Search.{stopped}
 use Rattle.round_rules.specs.Rounds.{Branch}
@@ -9,7 +9,6 @@ use Rattle.search_step.specs.declared.State.{State}
 use Rattle.search.specs.Run.{Env, run}
 use Rattle.search.specs.Stops.{number_of}
 use Rattle.search.specs.declared.stop.Stop.{Stop}
-use Rattle.search.specs.declared.stop.Stop.TheVariants.{Nothing}
 use Rattle.search.proofs.Whole as whole
 use Rattle.round_table.specs.Entries.{entry_at}
 use Rattle.round_states.specs.Ruled.{Ruled}
@@ -34,7 +33,7 @@ pub record Course (e : Env) (used : ℕ) : Type 0 where
 
 -- The run has ended.
 unfoldable pub stopped_at : State → List Binding → (by : Stop) → Sweep
-stopped_at x b by = record { state = x; binds = b; fresh = 0; left = 0; waiting = 0; stop = by }
+stopped_at x b by = record { state = x; binds = b; fresh = 0; left = 0; waiting = 0; stop = Some by }
 
 -- i lists of a round are done, or the run has ended.
 pub record Swept (e : Env) (used : ℕ) (C : Course e used) (budget many i : ℕ) (w : Sweep) (ws : List ℤ) (slots : List ℕ) (room : List ℤ) : Type 0 where
@@ -44,9 +43,9 @@ pub record Swept (e : Env) (used : ℕ) (C : Course e used) (budget many i : ℕ
   pub most : w.state.steps ≤ budget
   pub kept : whole.Kept C.base (run w.state (view_of e.arg slots) w.binds room)
   pub few : w.waiting ≤ C.limit + 65 * i
-  pub later : w.stop ≡ Nothing → C.before + i ≤ w.state.steps
-  pub goes : w.stop ≡ Nothing → Sweeping e C.ruled used C.uses C.whole C.rounds C.limit budget many ws i w.fresh w.left w.waiting w.state room
-  pub stops : (w.stop ≡ Nothing → ⊥) → Far C.whole w.state room (stopped (number_of w.stop) 0)
+  pub later : w.stop ≡ None → C.before + i ≤ w.state.steps
+  pub goes : w.stop ≡ None → Sweeping e C.ruled used C.uses C.whole C.rounds C.limit budget many ws i w.fresh w.left w.waiting w.state room
+  pub stops : (w.stop ≡ None → ⊥) → Far C.whole w.state room (stopped (number_of w.stop) 0)
 
 -- ---- What follows from the first state of a list.
 
@@ -85,7 +84,7 @@ pub record Followed (e : Env) (used : ℕ) (t : Taken) (fresh left wait : ℕ) (
 pub record Turning (e : Env) (used budget many i : ℕ) (w : Sweep) (ws : List ℤ) (slots : List ℕ) (room : List ℤ) : Type 0 where
   pub course : Course e used
   pub swept : Swept e used course budget many i w ws slots room
-  pub going : w.stop ≡ Nothing
+  pub going : w.stop ≡ None
   pub small : course.limit ≤ 256
   pub inside : i < many
   pub most : many ≤ 256

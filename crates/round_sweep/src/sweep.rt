@@ -36,9 +36,9 @@ pub fn sweep(
 {
     let mut w = first;
     for i in 0..many {
-        let Stop::Nothing = w.stop else {
+        if let Some(_) = w.stop {
             return w;
-        };
+        }
         w = turn(
             w, i, many, terms, used, mt, units, places, lines, slots, table, room,
         );

@@ -27,7 +27,7 @@ pub struct Sweep {
     pub fresh: usize,
     pub left: usize,
     pub waiting: usize,
-    pub stop: Stop,
+    pub stop: Option<Stop>,
 }
 
 // The run has ended.
@@ -40,7 +40,7 @@ fn stop(x: State, b: Bindings, by: Stop) -> Sweep
         fresh: 0,
         left: 0,
         waiting: 0,
-        stop: by,
+        stop: Some(by),
     }
 }
 
@@ -76,7 +76,7 @@ fn follow(
             fresh: fresh,
             left: left,
             waiting: waiting - 1,
-            stop: Stop::Nothing,
+            stop: None,
         };
     }
     let n = terms.vars;
@@ -88,7 +88,7 @@ fn follow(
         fresh: fresh + 1,
         left: left,
         waiting: waiting + more,
-        stop: Stop::Nothing,
+        stop: None,
     }
 }
 

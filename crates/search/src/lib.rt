@@ -139,7 +139,7 @@ pub fn open(units: Units) -> Progress
 
 #[derive(Drop)]
 pub struct Report {
-    pub stop: Stop,
+    pub stop: Option<Stop>,
     pub rows: u64,
     pub steps: u64,
     pub words: usize,

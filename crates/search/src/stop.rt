@@ -1,39 +1,36 @@
-// What stops a run.
-ghost use Rattle.std.specs.Prelude.{◌≡◌};
+// What stops a run before it is done.
+ghost use Rattle.std.specs.Prelude.{◌≡◌, Option};
 ghost use Rattle.search.specs.Stops.{number_of, stop_of};
 
 use search_step::{ENDED, FULL};
 
 #[derive(Clone, Copy, Debug, PartialEq, Eq)]
 pub enum Stop {
-    Nothing,
     Budget,
     Room,
     Table,
 }
 
-impl Stop {
-    // The number of the answer in document 01: a run that nothing stops is done.
-    pub fn number(self) -> u32
-        ensures { result ≡ number_of self }
-    {
-        match self {
-            Stop::Nothing => 0,
-            Stop::Budget => 7,
-            Stop::Room => 8,
-            Stop::Table => 21,
-        }
+// The number of the answer in document 01: a run that nothing stops is done.
+pub fn number_of(stop: Option<Stop>) -> u32
+    ensures { result ≡ number_of stop }
+{
+    match stop {
+        None => 0,
+        Some(Stop::Budget) => 7,
+        Some(Stop::Room) => 8,
+        Some(Stop::Table) => 21,
     }
 }
 
 // What has stopped a run that stands so.
 #[tactic(auto, using(crate::proofs::Stops::stop_rules))]
-pub fn stop_of(live: u64) -> Stop
+pub fn stop_of(live: u64) -> Option<Stop>
     ensures { result ≡ stop_of live }
 {
     match live {
-        FULL => Stop::Room,
-        ENDED => Stop::Nothing,
-        _ => Stop::Budget,
+        FULL => Some(Stop::Room),
+        ENDED => None,
+        _ => Some(Stop::Budget),
     }
 }

@@ -6,6 +6,7 @@ ghost use Rattle.service_runs.specs.Kept.{Goes, Over, Lengths, Refusal, Refuses,
 ghost use Rattle.run_states.specs.Standing.{numbers_of};
 
 use crate::going::{Picks, carry_on};
+use search::stop::number_of;
 use search::{Progress, tell};
 use search_step::{STANDS, State};
 use services::picks::{Dialect, RowForm};
@@ -144,7 +145,7 @@ fn told_of(x: State) -> Told
 {
     let r = tell(x);
     Told {
-        answer: r.stop.number(),
+        answer: number_of(r.stop),
         place: 0,
         rows: r.rows,
         steps: r.steps,

@@ -9,6 +9,7 @@ use crate::refusal::Refused;
 use crate::testing::{Words, tested};
 use program::compile;
 use program_parts::{Matcher, Pattern};
+use search::stop::number_of;
 use search::{Report, Terms, search};
 use tables::line::no_lines;
 use value_places::places::Units;
@@ -32,7 +33,7 @@ impl From<Result<Report, Refused>> for Matched {
     fn from(outcome: Result<Report, Refused>) -> Matched {
         match outcome {
             Ok(report) => Matched {
-                answer: report.stop.number(),
+                answer: number_of(report.stop),
                 place: 0,
                 rows: report.rows,
                 steps: report.steps,

@@ -27,20 +27,20 @@ returns-then-limit-r c = gone_table c.loop-r.invariant c.loop-r-test.true c.if-t
 pub take_round-q-requires : goal.take_round-q-requires
 take_round-q-requires c = record { given = c.requires.given; begins = gone_begins c.loop-r.invariant c.requires.starts c.loop-r-test.true c.if-terms-x.false c.if-limit-r.false; budget_fits = c.requires.budget_fits }
 
-pub shape_of-table-in_default : goal.shape_of-table-in_default
-shape_of-table-in_default c = c.take_round-q.ensures.long ∙ c.loop-r.invariant.long
+pub shape_of-table-in-Some : goal.shape_of-table-in-Some
+shape_of-table-in-Some c = c.take_round-q.ensures.long ∙ c.loop-r.invariant.long
 
-pub shape_of-room-in_default : goal.shape_of-room-in_default
-shape_of-room-in_default c = gone_more c.loop-r.invariant c.if-limit-r.false _ _ _ _ c.take_round-q.ensures c.requires.starts
+pub shape_of-room-in-Some : goal.shape_of-room-in-Some
+shape_of-room-in-Some c = gone_more c.loop-r.invariant c.if-limit-r.false _ _ _ _ c.take_round-q.ensures c.requires.starts
 
-pub returns-in_default : goal.returns-in_default
-returns-in_default c = gone_stopped c.loop-r.invariant c.if-limit-r.false _ _ _ _ c.take_round-q.ensures c.in_default.not-Nothing
+pub returns-in-Some : goal.returns-in-Some
+returns-in-Some c = gone_stopped c.loop-r.invariant c.if-limit-r.false _ _ _ _ c.take_round-q.ensures _ c.in-Some.is
 
 pub loop-r-smaller : goal.loop-r-smaller
-loop-r-smaller c = let a = c.take_round-q.ensures.later c.in-Nothing.is in let b = c.if-terms-x.false in omega arith
+loop-r-smaller c = let a = c.take_round-q.ensures.later c.in_default.is in let b = c.if-terms-x.false in omega arith
 
 pub loop-r-preserved : goal.loop-r-preserved
-loop-r-preserved c = gone_next c.loop-r.invariant c.if-limit-r.false _ _ _ _ c.take_round-q.ensures c.in-Nothing.is
+loop-r-preserved c = gone_next c.loop-r.invariant c.if-limit-r.false _ _ _ _ c.take_round-q.ensures c.in_default.is
 
 pub shape_of-table : goal.shape_of-table
 shape_of-table c = c.loop-r.invariant.long
