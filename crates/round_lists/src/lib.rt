@@ -1,4 +1,5 @@
-// A list of states that follow from one state, kept in the lent table and taken out again: document 02, No. 10.
+// A list of states that follow from one state, kept in the lent table and taken out again: document 02, No. 10. The game lends the table, so that it reaches so
+// far is a clause on the list's place in it.
 #![tactic(auto)]
 
 pub mod keeping;

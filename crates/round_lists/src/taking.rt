@@ -16,7 +16,6 @@ use value_rows::Binding;
 #[tactic(auto, using(crate::proofs::Outs::own_rules))]
 fn take_slots(table: &[i32], base: usize, used: Used, slots: &mut Slots)
     requires table_long { 3 * (base + 275) ≤ length table.now }
-    requires slots_long { 1360 ≤ length slots.old }
     ensures { Waited table.now base used.slots slots.old slots.new }
 {
     for j in FIRST..used.slots {
@@ -27,7 +26,6 @@ fn take_slots(table: &[i32], base: usize, used: Used, slots: &mut Slots)
 // No frame is below any.
 #[tactic(auto, using(crate::proofs::Outs::own_rules))]
 fn shut_slots(used: Used, slots: &mut Slots)
-    requires slots_long { 1360 ≤ length slots.old }
     ensures { Shut used.slots slots.old slots.new }
 {
     for j in 0..used.slots {
@@ -65,7 +63,6 @@ pub fn take_out(
 ) -> [Binding; 16]
     requires few_variables { n ≤ 16 }
     requires table_long { 825 * r + 825 ≤ length table.now }
-    requires slots_long { 1360 ≤ length slots.old }
     ensures { TakenOut table.now r n used.slots slots.old slots.new given result }
 {
     let base = r * ENTRIES;

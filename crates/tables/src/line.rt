@@ -1,4 +1,5 @@
-// The lines of a program, in sections: a number of every line, then the next number of every line; at the end the constants, two numbers for each.
+// The lines of a program, in sections: a number of every line, then the next number of every line; at the end the constants, two numbers for each. Each reader
+// names its column in its clause, so each is written out. That a place is a line's is asked of the caller and no type says it: a place is counted on.
 #![tactic(auto, using(crate::proofs::Lines::read_rules))]
 
 ghost use Rattle.std.specs.Prelude.{◌≡◌, ◌<◌, length, get_or, set, pos};

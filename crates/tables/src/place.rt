@@ -1,5 +1,6 @@
 // Where the values of a target stand, in sections: where each value ends, where the places of its elements or parts begin in the last section, and
-// there the places. A value's tag stands at an even index; the numbers of the value at 2 i are those at i.
+// there the places. A value's tag stands at an even index; the numbers of the value at 2 i are those at i. That an index is so far below the table's end is a
+// clause, as it is of a line: an index is counted on.
 #![tactic(auto, using(crate::proofs::Places::place_rules))]
 
 ghost use Rattle.std.specs.Prelude.{◌≡◌, ◌/◌, ◌<◌, get_or};

@@ -3,7 +3,7 @@ use Rattle.search_rounds.proofs.Heads.{first_place, first_valid, first_steps, fi
 use Rattle.search_rounds.proofs.first.take_first.Goals as goal
 
 pub take_out-b-requires : goal.take_out-b-requires
-take_out-b-requires c = let P = c.requires.firsts in record { few_variables = P.ruled.fine.few; table_long = P.there; slots_long = P.clean.long }
+take_out-b-requires c = let P = c.requires.firsts in record { few_variables = P.ruled.fine.few; table_long = P.there }
 
 pub alone_of-y-requires : goal.alone_of-y-requires
 alone_of-y-requires c = c.requires.firsts.there

@@ -2,7 +2,7 @@ use Rattle.search_rounds.proofs.Laws.{list_there, list_top, list_slotted, list_a
 use Rattle.search_rounds.proofs.remainder.remain.Goals as goal
 
 pub take_out-b-requires : goal.take_out-b-requires
-take_out-b-requires c = let L = c.requires.listed in record { few_variables = L.ruled.fine.few; table_long = list_there L; slots_long = L.clean.long }
+take_out-b-requires c = let L = c.requires.listed in record { few_variables = L.ruled.fine.few; table_long = list_there L }
 
 pub head_of-y-requires : goal.head_of-y-requires
 head_of-y-requires c = list_there c.requires.listed
