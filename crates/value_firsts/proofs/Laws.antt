@@ -20,7 +20,7 @@ use Rattle.matchers.proofs.Matchers.{matcher_1}
 use Rattle.value_places.specs.Places.{value_at, elements, count_at, marks_at, Target, Tag, element_at}
 use Rattle.value_places.specs.Held.{Held, whole_at}
 use Rattle.value_places.proofs.Elements.{count_elements, element_tag, element_value}
-use Rattle.value_places.proofs.Held.{marks_count, held_64, held_tag, held_less, held_clear, held_some, whole_held, whole_value_lem, next_in, next_64, next_less, next_tag, next_value}
+use Rattle.value_places.proofs.Held.{marks_count, held_64, held_tag, held_less, held_clear, held_some, whole_held, whole_value_lem, next_in, next_64, next_tag, next_value}
 use Rattle.value_equality.specs.Equality.{equal_at, wholes_equal, integers_equal}
 use Rattle.value_equality.proofs.Integers.{as_equal}
 use Rattle.value_firsts.specs.Firsts.{firsts_of, firsts_at, before_of, before_at, kept_with, Lower}
@@ -86,7 +86,7 @@ module _ (mt : List ℤ) (i : ℕ) (s : List ℤ) (at k : ℕ) (z : ℕ) (v : Bo
 pub element_at_lem : (s : List ℤ) (at k e m : ℕ) → Target s → Held s at m → k < count_at s at → e ≡ element_at s at k → Tag s e
 element_at_lem s at k e m g w u q = rw q (element_tag s at k g w.tag u)
 
-pub ruleset before_rules = (before_out, before_here, before_on, element_at_lem, next_in, next_less, next_tag, held_tag, held_clear, rules)
+pub ruleset before_rules = (before_out, before_here, before_on, element_at_lem, next_in, next_tag, held_tag, held_clear, rules)
 
 -- ---- A place kept or not.
 

@@ -29,7 +29,7 @@ use Rattle.value_rows.specs.declared.Binding.{Binding}
 use Rattle.forms.specs.Written.{length_words}
 use Rattle.value_places.proofs.Forest.{is_here, two_words}
 use Rattle.value_places.proofs.Elements.{second, by_tag, int_at, collection_at, tag_small, slice_words}
-use Rattle.value_places.proofs.Held.{held_int, held_collection, held_tuple, held_tag, held_clear, held_some, left_none, next_in, next_less, next_tag, next_left}
+use Rattle.value_places.proofs.Held.{held_int, held_collection, held_tuple, held_tag, held_clear, held_some, left_none, next_in, next_tag, next_left}
 use Rattle.value_places.proofs.Origins.{plain_origin, origin_index, origin_marks}
 use Rattle.value_places.proofs.Filling.{find_half}
 use Rattle.value_rows.proofs.Room.{length_put, put_append, put_none}
@@ -152,7 +152,7 @@ module _ (s : List ℤ) (t : List ℕ) (at m k e : ℕ) (g : Target s) (q : Plac
     pub size_fits : (n y : ℕ) → y ≡ n + size_left s at m → y ≤ 1024 → Fits w64 (n + (z - e))
     size_fits n y a l = let b = next_is _ refl in record { fits = omega (arith, end_is) }
 
-pub ruleset next_rules = (tag_small, end_half, end_le, held_clear, next_in, next_less, rules)
+pub ruleset next_rules = (tag_small, end_half, end_le, held_clear, next_in, rules)
 
 pub ruleset size_rules = (size_int, size_tuple, size_collection, size_held, size_done, size_turn, size_fits, held_tag, next_rules)
 
@@ -162,7 +162,7 @@ pub put_done : (s room x : List ℤ) (at m o : ℕ) → x ≡ put room o (words_
 unfolding words_left words_all
 put_done s room x at m o a h = sym (a ∙ rw (left_none s at m (omega arith)) (put_none room o))
 
-pub ruleset left_rules = (put_turn, put_size, put_room, put_done, size_done, length_put, held_tag, next_tag, next_in, next_less, held_clear, rules)
+pub ruleset left_rules = (put_turn, put_size, put_room, put_done, size_done, length_put, held_tag, next_tag, next_in, held_clear, rules)
 
 module _ (s : List ℤ) (at m from tag : ℕ) (g : Target s) (w : Held s at m) (d : tag ≡ tag_at s at) where
   -- An integer or a tuple is held whole.

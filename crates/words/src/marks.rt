@@ -77,7 +77,6 @@ impl Iterator for Positions {
 
     ghost remaining = { λ s. at_most (ones s.left) };
 
-    #[inline(always)]
     #[tactic(auto, using(crate::proofs::marks::Places::ones_low))]
     fn next(&mut self) -> Option<u32> {
         if self.left == 0 {

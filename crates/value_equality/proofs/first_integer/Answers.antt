@@ -9,6 +9,3 @@ same_integers-requires c = let h = c.in-Some.ensures.steps in search first_rules
 
 pub loop-k-preserved : goal.loop-k-preserved
 loop-k-preserved c = let h = c.in-Some.ensures.steps in search first_rules
-
-pub returns : goal.returns
-returns c = let h = c.in-None.ensures.steps in search first_rules

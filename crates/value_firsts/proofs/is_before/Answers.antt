@@ -10,6 +10,3 @@ same_values-requires c = let h = c.in-Some.ensures.steps in search before_rules
 
 pub loop-j-preserved : goal.loop-j-preserved
 loop-j-preserved c = let h = c.in-Some.ensures.steps in search before_rules
-
-pub returns : goal.returns
-returns c = let h = c.in-None.ensures.steps in search before_rules
