@@ -15,7 +15,7 @@ use words::ENTRIES;
 // A place for each line at most, and the entry 0, which is none's.
 const KEPT: usize = ENTRIES + 1;
 
-// Whether a line keeps a place for the line that begins what it ends.
+// Whether a line keeps a place for the line that begins what it ends. This and the next differ in the instructions that they name, and in nothing else.
 pub fn keeps_place(o: u16) -> bool
     ensures { result ≡ keeps o }
 {

@@ -42,7 +42,8 @@ fn tally_of(left: u64, steps: u64, rows: u64, words: usize) -> Tally
     }
 }
 
-// The collection, and what its cons asks of an element: the instruction, the variable and what it is bound to, the constant.
+// The collection, and what its cons asks of an element: the instruction, the variable and what it is bound to, the constant. The instruction is the line's
+// own number: read as an enum from the line, T5 takes 91 instructions a step (bar 85).
 #[derive(Drop)]
 pub struct Part {
     pub at: usize,

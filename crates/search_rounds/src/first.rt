@@ -19,7 +19,8 @@ use tables::slot::Slots;
 use value_places::places::Units;
 use value_rows::Binding;
 
-// What has come of a state: `spent` says that the budget ended in the search inside a not.
+// What has come of a state: `spent` says that the budget ended in the search inside a not. State and bindings are asked for either way, so an `Option` or
+// a `Result` would hold the same in both cases.
 #[derive(Drop)]
 pub struct Taken {
     pub state: State,

@@ -102,7 +102,10 @@ fn sum_at(i: usize, at: usize, lines: &Lines) -> Sum
     requires constant { i < length (columns_of lines.now).con }
     ensures { result ≡ sum_of (columns_of lines.now).con i at }
 {
-    Sum { at, plus: con_at(lines, i) }
+    Sum {
+        at,
+        plus: con_at(lines, i),
+    }
 }
 
 // The choices of the last open frame that fail are passed over; g and h: where the integers stand that the first line and the second ask for. The steps.
@@ -127,10 +130,16 @@ pub fn pass(
     }
     let first = sum_at(a.first, g, lines);
     if a.first == a.second {
-        let one = Wanted { first, second: None };
+        let one = Wanted {
+            first,
+            second: None,
+        };
         return pass_pairs(a.part, begun, one, budget, units, places, lines, slots);
     }
     let second = sum_at(a.second, h, lines);
-    let two = Wanted { first, second: Some(second) };
+    let two = Wanted {
+        first,
+        second: Some(second),
+    };
     pass_pairs(a.part, begun, two, budget, units, places, lines, slots)
 }

@@ -30,6 +30,7 @@ pub const CHOOSES: u64 = 2;
 
 pub const FULL: u64 = 3;
 
+// C lends these bytes in its run, whatever they are, so `live` is a number and no enum.
 // `at` and `marks` are the value of the first atom, `top` the last open frame (0: none, j + 1: at j), `words` how many words are written.
 #[repr(C)]
 #[derive(Clone, Copy)]

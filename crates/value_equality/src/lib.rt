@@ -40,6 +40,7 @@ fn same_number(s: &[i32], a: usize, b: usize) -> bool
 // A level: two collections or two tuples, of which the elements or parts marked x and y are still to be compared. kind: 2 in order, 3 marking off, 4 part
 // by part. The next question is the lowest of x and the lowest of z, under the matcher at `at`; z are the marks of y that are still to try for it.
 // Nothing is left to ask where x or z is none: the level's answer is whether neither x nor y is left.
+// `kind` is a number, as a matcher's tag has it: as an enum, T1 takes 13.9 instructions a step (bar 13.0).
 #[derive(Clone, Copy)]
 pub struct Level {
     pub kind: u32,
