@@ -15,7 +15,7 @@ pub enum Fault {
 }
 
 impl Fault {
-    // The number that the document gives it.
+    // The number that the document gives it, as `number_of` of this crate's definitions says; another enum has its own.
     pub fn number(self) -> u32
         ensures { result ≡ number_of self }
     {

@@ -39,7 +39,8 @@ fn without_table(budget: u64) -> Report
     }
 }
 
-// The whole run: the first state is kept as the only list, and round follows round.
+// The whole run: the first state is kept as the only list, and round follows round. The budget's bound is a clause of the rounds and no field of `Terms`: an
+// advance of a lent run, which has the same terms, may have any budget.
 pub fn search_rounds(
     terms: Terms,
     mt: &[i32],

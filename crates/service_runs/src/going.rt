@@ -71,7 +71,7 @@ fn search_on(
     last
 }
 
-// The search, if the run is sound. It is called from two places, once for each row form: then the compiler keeps it a function of its own, and its numbers in registers.
+// The search, if the run is sound. That a state stands is what the caller has just tested, of a run that may have ended. It is called from two places, once for each row form: then the compiler keeps it a function of its own, and its numbers in registers.
 #[tactic(auto, using(crate::proofs::Steady::try_rules))]
 fn try_on(
     from: Progress,
