@@ -36,7 +36,8 @@ use value_places::places::{Units, places_of, whole};
 use value_rows::{Binding, Bindings, VARIABLES};
 
 // What a run keeps to, beside its rule and its target: the most steps, how many variables there are, whether a row tells origins, whether a
-// cons under a multiset takes first places only, and places of the target that are known to be fresh.
+// cons under a multiset takes first places only, and places of the target that are known to be fresh. The two truth values are one question each, on which no
+// other field hangs; `services::picks` has the enums of what a caller picks.
 #[derive(Clone, Copy)]
 pub struct Terms {
     pub budget: u64,

@@ -10,7 +10,7 @@ use value_places::places::{Units, number_at};
 use value_rows::origins::index_word;
 use value_rows::{Bindings, VARIABLES};
 
-// How many variables a row tells, and whether it tells origins.
+// How many variables a row tells, and whether it tells origins: one question, on which the number does not hang.
 #[derive(Clone, Copy)]
 pub struct Shape {
     pub vars: usize,

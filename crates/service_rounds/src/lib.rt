@@ -16,7 +16,8 @@ use services::refusal::Refused;
 use services::testing::{Words, tested};
 use tables::line::no_lines;
 
-// The run of a rule and a target that were accepted.
+// The run of a rule and a target that were accepted. Its terms are written out as in `services::matching`: a function for them would say each of the five in its
+// clause once more.
 fn carry_out(
     dialect: Dialect,
     form: RowForm,
