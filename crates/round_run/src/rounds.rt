@@ -78,7 +78,7 @@ pub fn take_round(
     if let Some(by) = w.stop {
         return halt(y, c, by);
     }
-    pull(table, many, w.fresh, w.left, used);
+    pull(table, many, w.fresh, w.left, used.slots);
     Round {
         state: y,
         binds: c,

@@ -2,15 +2,16 @@
 ghost use Rattle.std.specs.Prelude.{◌+◌, ◌*◌, ◌≤◌, length};
 ghost use Rattle.round_sweep.specs.Pulls.{Pulled};
 
-use round_lists::{HEAD, Used};
+use round_lists::HEAD;
 use round_table::{ENTRIES, copy};
 
 // From the lists behind `many` on, `left` of them, to those behind `fresh`; of each the entries that the rule uses.
 #[tactic(auto, using(crate::proofs::Pulls::own_rules))]
-pub fn pull(table: &mut [i32], many: usize, fresh: usize, left: usize, used: Used)
+pub fn pull(table: &mut [i32], many: usize, fresh: usize, left: usize, used: usize)
     requires fresh { fresh ≤ many }
+    requires few_slots { used ≤ 272 }
     requires table_long { 825 * (many + left) ≤ length table.old }
-    ensures { Pulled table.old table.new many fresh left used.slots }
+    ensures { Pulled table.old table.new many fresh left used }
 {
     if fresh == many {
         return;
@@ -20,7 +21,7 @@ pub fn pull(table: &mut [i32], many: usize, fresh: usize, left: usize, used: Use
             table,
             (many + k) * ENTRIES,
             (fresh + k) * ENTRIES,
-            HEAD + used.slots,
+            HEAD + used,
         );
     }
 }

@@ -117,6 +117,7 @@ pub fn advance(
 // Before the first step: the target as a whole is held, its tag at the first index, and no variable is bound.
 #[tactic(auto, unfolding(crate::specs::Run::opening, crate::specs::Searched::unbound))]
 pub fn open(units: Units) -> Progress
+    requires { 0 < length units.words.now }
     ensures state { result.state ≡ opening 0 (whole_at units.entry.words.now 0) }
     ensures binds { result.binds ≡ unbound 16 }
 {
@@ -160,6 +161,7 @@ pub fn tell(x: State) -> Report
 // The target's fresh places, by the matcher after the rule's own tag, where they are of use.
 fn fresh_if(firsts: bool, mt: &[i32], units: Units, places: &Places) -> u64
     requires given { Given units.words.now places.now }
+    requires some_words { 0 < length units.words.now }
     ensures { Fresh mt.now 1 units.entry.words.now 0 result }
 {
     if !firsts {
@@ -170,6 +172,7 @@ fn fresh_if(firsts: bool, mt: &[i32], units: Units, places: &Places) -> u64
 
 // The whole run of a program on a target: it is opened, advanced by its budget, and told.
 pub fn search(terms: Terms, mt: &[i32], units: Units, lines: &Lines, room: &mut [i32]) -> Report
+    requires some_words { 0 < length units.words.now }
     requires fine { Fine (env_by (columns_of lines.now) mt.now units.words.now terms) }
     ensures { Searched (env_by (columns_of lines.now) mt.now units.entry.words.now terms) terms.budget room.old (matched (number_of result.stop) result.rows result.steps result.words room.new) }
 {

@@ -43,6 +43,7 @@ pub fn bounds_of(terms: Terms) -> Bounds
 pub fn is_short(terms: Terms, b: Bindings, free: usize, units: Units, places: &Places) -> bool
     requires given { Given units.words.now places.now }
     requires bound { Bound units.words.now b terms.vars }
+    requires some_words { 0 < length units.words.now }
     ensures { result ≡ ltb free (length (row (form_by terms.origins) (bound units.entry.words.now b terms.vars))) }
 {
     let n = terms.vars;
@@ -94,6 +95,7 @@ pub fn take_end(
     room: &mut [i32],
 ) -> State
     requires given { Given units.words.now places.now }
+    requires some_words { 0 < length units.words.now }
     requires rows { Rows units.words.now b terms.vars x room.old }
     ensures { ended result room.new ≡ end_of (form_by terms.origins) units.entry.words.now terms.vars x b room.old }
 {

@@ -8,7 +8,6 @@ use mathlib.Core.List.{List}
 use lib.ListN.{length, get_or, set, length-set}
 use lib.Count.{count_trailing_zeros}
 use lib.IntN.{ℤ, pos}
-use Rattle.std.specs.Prelude.{Option, Some, IfSome}
 use Rattle.rules.specs.Numbers.{plus}
 use Rattle.words.specs.Words.{tag_at, same_to}
 use Rattle.words.specs.Marks.{clear}
@@ -210,6 +209,6 @@ pub told_at_lem : (s : List ℤ) (o : Bool) (n : ℕ) (p : Part) (budget : ℕ) 
     → t' ≡ t → y' ≡ y → room' ≡ room → Told s o n p budget first told₀ room₀ t y room → Told s o n p budget first told₀ room₀ t' y' room'
 told_at_lem s o n p budget first told₀ room₀ t t' y y' room room' a b c h = rw (a, b, c) h
 
--- What is said of a value is so of the one that is there.
-pub told_some : {X : Type 0} (o : Option X) (x : X) (P : X → Type 0) → o ≡ Some x → IfSome o P → P x
-told_some o x P e h = rw e at h
+pub by_not : (b : Bool) → not b ≡ false → b ≡ true
+by_not true e = refl
+by_not false e = sym e

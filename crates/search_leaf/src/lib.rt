@@ -42,8 +42,7 @@ fn tally_of(left: u64, steps: u64, rows: u64, words: usize) -> Tally
     }
 }
 
-// The collection, and what its cons asks of an element: the instruction, the variable and what it is bound to, the constant. The instruction is the line's
-// own number: read as an enum from the line, T5 takes 91 instructions a step (bar 85).
+// The collection, and what its cons asks of an element: the instruction, the variable and what it is bound to, the constant.
 #[derive(Drop)]
 pub struct Part {
     pub at: usize,
@@ -216,10 +215,12 @@ pub fn take(
 {
     let o = op_at(lines, i);
     let v = arg_at(lines, i);
-    let y = b[v];
-    let Some(words) = told_of(by.shape, &b, but_of(o, v), units) else {
+    let mut words = [0i32; VARIABLES];
+    let told = told_of(by.shape, b, v, but_of(o, v), units, &mut words);
+    let y = told.value;
+    if !told.all {
         return Leaves { state: x, last: y };
-    };
+    }
     let j = x.top - 1;
     let f = frame_at(slots, lines, j);
     let first = Tally {

@@ -1,16 +1,15 @@
 // What a row tells of integers: a word for each variable.
-ghost use Rattle.std.specs.Prelude.{◌≡◌, IfSome, ◌+◌, ◌<◌, ◌≤◌, length};
+ghost use Rattle.std.specs.Prelude.{◌≡◌, true, ◌+◌, ◌<◌, ◌≤◌, length, get_or, pos};
 ghost use Rattle.value_places.specs.Places.{Target};
 ghost use Rattle.value_places.specs.Held.{put};
-ghost use Rattle.value_rows.specs.Row.{Bound};
+ghost use Rattle.value_rows.specs.Row.{Bound, nothing};
 ghost use Rattle.search_leaf.specs.Told.{word_of, entry_of, row_of, size_of, Tells, but_of};
 
 use tables::instruction::BIND;
 use value_places::places::{Units, number_at};
-use value_rows::origins::index_word;
-use value_rows::{Bindings, VARIABLES};
+use value_rows::{Binding, Bindings, VARIABLES};
 
-// How many variables a row tells, and whether it tells origins: one question, on which the number does not hang.
+// How many variables a row tells, and whether it tells origins.
 #[derive(Clone, Copy)]
 pub struct Shape {
     pub vars: usize,
@@ -18,6 +17,22 @@ pub struct Shape {
 }
 
 pub type Words = [i32; VARIABLES];
+
+// Whether all variables are bound to integers, and what one is bound to.
+#[derive(Drop)]
+pub struct Told {
+    pub all: bool,
+    pub value: Binding,
+}
+
+// An index as a word.
+#[tactic(auto, using(value_rows::proofs::Halves::index_rules))]
+fn index_word(at: usize) -> i32
+    requires { at < 1024 }
+    ensures { result ≡ pos at }
+{
+    at as i32
+}
 
 // The word of the integer at an index: its place, or its number.
 #[tactic(auto, using(crate::proofs::Words::word_rules))]
@@ -31,23 +46,38 @@ pub fn word_of(origins: bool, s: &[i32], at: usize) -> i32
     s[at + 1]
 }
 
-// The words of all variables but one, where those are bound to integers.
-pub fn told_of(shape: Shape, b: &Bindings, but: usize, units: Units) -> Option<Words>
-    requires { Bound units.words.now b.now shape.vars }
-    ensures { IfSome result (Tells shape.origins units.entry.words.now b.now shape.vars but) }
+// The words of all variables but one, and the binding of a line's variable.
+pub fn told_of(
+    shape: Shape,
+    b: Bindings,
+    var: usize,
+    but: usize,
+    units: Units,
+    words: &mut Words,
+) -> Told
+    requires bound { Bound units.words.now b shape.vars }
+    requires variable { (var < 16) × (length words.old ≡ 16) }
+    ensures value { result.value ≡ get_or b var nothing }
+    ensures tells { (result.all ≡ true → Tells shape.origins units.entry.words.now b shape.vars but words.new) }
 {
-    let mut words = [0i32; VARIABLES];
+    let value = b[var];
     for v in 0..shape.vars {
         if v != but {
             let at = b[v].at;
             let tag = number_at(units.words, at);
             if tag != 0 {
-                return None;
+                return Told {
+                    all: false,
+                    value: value,
+                };
             }
             words[v] = word_of(shape.origins, units.words, at);
         }
     }
-    Some(words)
+    Told {
+        all: true,
+        value: value,
+    }
 }
 
 // The variable that a line binds, whose word is not asked for; or none.

@@ -1,5 +1,5 @@
 // Where the values of a target stand, and the tables by which element k of a collection and part k of a tuple are found at once.
-ghost use Rattle.std.specs.Prelude.{◌≡◌, ◌+◌, ◌<◌, ◌≤◌, length};
+ghost use Rattle.std.specs.Prelude.{◌≡◌, ◌+◌, ◌<◌, ◌≤◌};
 ghost use Rattle.words.specs.Words.{tag_at};
 ghost use Rattle.tables.specs.Place.{sections_of, Whole};
 ghost use Rattle.value_places.specs.Places.{count_at, marks_at, Target, Tag, Standing, hops, element_at};
@@ -15,7 +15,6 @@ use words::marks::full;
 pub struct Units<'a> {
     pub words: &'a [i32],
     ghost target: { Target words.now },
-    ghost some: { 0 < length words.now },
 }
 
 // A word that is not negative, as a number.

@@ -22,7 +22,7 @@ fn high_word(m: u64) -> i32
 }
 
 // An index as a word.
-pub fn index_word(at: usize) -> i32
+fn index_word(at: usize) -> i32
     requires { at < 1024 }
     ensures { result ≡ pos at }
 {

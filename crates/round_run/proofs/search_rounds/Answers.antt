@@ -7,7 +7,7 @@ pub returns-then-limit-eq0 : goal.returns-then-limit-eq0
 returns-then-limit-eq0 c = no_table_lem _ _ _ _ _ c.most_states-limit.ensures c.if-limit-eq0.true _ c.without_table.ensures
 
 pub invariant_of-units : goal.invariant_of-units
-invariant_of-units c = record { target = c.requires.ruled.target_is; some = c.requires.ruled.some_words }
+invariant_of-units c = record { target = c.requires.ruled.target_is }
 
 pub places_of-requires : goal.places_of-requires
 places_of-requires c = no_places_lem _ c.no_places-places.ensures
@@ -17,6 +17,9 @@ slots_used-requires c = c.requires.ruled.fine.slot
 
 pub invariant_of-used : goal.invariant_of-used
 invariant_of-used c = record { bindings = c.slots_used.ensures.variables; most = c.slots_used.ensures.most }
+
+pub open-first-requires : goal.open-first-requires
+open-first-requires c = c.requires.ruled.some_words
 
 pub keep-requires : goal.keep-requires
 keep-requires c = let R = c.requires.ruled in record { framed = first_framed _ R _ c.open-first.ensures.state _ c.open-first.ensures.binds _ c.no_slots-slots.ensures; few_variables = R.fine.few; table_long = table_some _ _ c.most_states-limit.ensures c.if-limit-eq0.false }

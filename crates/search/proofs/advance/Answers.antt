@@ -174,7 +174,7 @@ pub is_equal_at-same-requires : goal.is_equal_at-same-requires
 is_equal_at-same-requires c = let h = stands c.before.before.before.before.before.before.before in record { given = c.requires.given; held_y = ready_bound _ _ _ _ _ h _ c.op_at-o.ensures c.if-o-gt-DROP.true c.if-o-lt-NIL.true _ c.arg_at-v.ensures; held_x = h.valid.held; line = ready_place _ _ _ _ _ h }
 
 pub take_end-x-requires : goal.take_end-x-requires
-take_end-x-requires c = let h = stands c.before.before.before.before in record { given = c.requires.given; rows = rows c }
+take_end-x-requires c = let h = stands c.before.before.before.before in record { given = c.requires.given; some_words = omega (arith, h.valid.held.tag.inside); rows = rows c }
 
 pub step-x-requires : goal.step-x-requires
 step-x-requires c = let h = stands c.before.before.before.before in record { placed = c.requires.given.placed; steps = turn_steps _ _ _ _ _ _ _ (joined c) h.fine h.target h.valid h.count _ refl }

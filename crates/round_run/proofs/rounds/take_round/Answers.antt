@@ -16,7 +16,7 @@ pub returns-in-Some : goal.returns-in-Some
 returns-in-Some c = let P = c.requires.begins in round_halts P.going P.some P.steps c.sweep-w.ensures _ c.in-Some.is _ c.halt.ensures
 
 pub pull-requires : goal.pull-requires
-pull-requires c = let P = c.requires.begins in record { fresh = begins_fresh P c.sweep-w.ensures c.in_default.is; table_long = begins_there P c.sweep-w.ensures c.in_default.is }
+pull-requires c = let P = c.requires.begins in record { fresh = begins_fresh P c.sweep-w.ensures c.in_default.is; few_slots = P.journey.uses.most; table_long = begins_there P c.sweep-w.ensures c.in_default.is }
 
 pub overflow_add-result : goal.overflow_add-result
 overflow_add-result c = let P = c.requires.begins in

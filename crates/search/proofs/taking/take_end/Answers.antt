@@ -12,7 +12,7 @@ pub overflow_sub-room : goal.overflow_sub-room
 overflow_sub-room c = c.requires.rows.words
 
 pub is_short-requires : goal.is_short-requires
-is_short-requires c = record { given = c.requires.given; bound = c.requires.rows.bound }
+is_short-requires c = record { given = c.requires.given; bound = c.requires.rows.bound; some_words = c.requires.some_words }
 
 pub filled-requires : goal.filled-requires
 filled-requires c = c.requires.rows.steps

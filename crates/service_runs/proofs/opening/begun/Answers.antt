@@ -4,8 +4,11 @@ use Rattle.services.proofs.Matches.{matcher_few, pattern_few, ready_target, read
 use Rattle.service_runs.proofs.First.{target_few, begun_rules}
 use Rattle.service_runs.proofs.opening.begun.Goals as goal
 
+pub open-first-requires : goal.open-first-requires
+open-first-requires c = ready_some _ _ _ c.requires
+
 pub invariant_of-units : goal.invariant_of-units
-invariant_of-units c = record { target = ready_target _ _ _ c.requires; some = ready_some _ _ _ c.requires }
+invariant_of-units c = record { target = ready_target _ _ _ c.requires }
 
 pub kept-matchers-requires : goal.kept-matchers-requires
 kept-matchers-requires c = (omega arith, matcher_few _ _ _ c.requires)

@@ -11,10 +11,11 @@ pub invariant_of-pattern : goal.invariant_of-pattern
 invariant_of-pattern c = record { short = pattern_few _ _ _ c.requires.ready }
 
 pub invariant_of-units : goal.invariant_of-units
-invariant_of-units c = record { target = ready_target _ _ _ c.requires.ready; some = ready_some _ _ _ c.requires.ready }
+invariant_of-units c = record { target = ready_target _ _ _ c.requires.ready }
 
 pub search-requires : goal.search-requires
 search-requires c = record {
+  some_words = ready_some _ _ _ c.requires.ready;
   fine = ready_fine _ _ _ _ _ _ _ _ c.requires.ready c.no_lines-lines.ensures c.compile-vars.ensures.value c.compile-vars.ensures.lines;
 }
 
