@@ -18,7 +18,7 @@ pub enum Row {
     },
 }
 
-// The row of a pattern's tag under a matcher's tag; none for a number that is no tag.
+// The row of a pattern's tag under a matcher's tag; none for a number that is no tag: those are a range, a form that the customers ask for by name.
 pub fn row_of(m: u32, t: u32) -> Option<Row>
     ensures { result ≡ row_of m t }
 {
@@ -37,7 +37,7 @@ pub fn row_of(m: u32, t: u32) -> Option<Row>
         pattern::AND => (0, 2, matcher::SOMETHING, matcher::TUPLE),
         pattern::OR => (0, 2, matcher::SOMETHING, matcher::TUPLE),
         pattern::NOT => (0, 1, matcher::SOMETHING, matcher::TUPLE),
-        _ => return None,
+        11..=4294967295 => return None,
     };
     let taken = between(low, m, high);
     Some(Row::Known {

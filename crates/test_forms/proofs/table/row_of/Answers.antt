@@ -12,8 +12,8 @@ pub returns-in-7 : goal.returns-in-7
 unfolding pattern_tags row_in within taken_of five
 returns-in-7 c = rw c.in-7.is (row_is _ _ 7 4 4 (omega arith) (omega arith) refl c.between-taken.ensures)
 
-pub returns-in_default : goal.returns-in_default
-returns-in_default c = row_none _ _ (omega arith)
+pub returns-in-11-to-4294967295 : goal.returns-in-11-to-4294967295
+returns-in-11-to-4294967295 c = row_none _ _ (omega arith)
 
 pub returns : goal.returns
 unfolding pattern_tags row_in within taken_of five
