@@ -41,6 +41,7 @@ fn send(rt: &impl Print, out: &[u8], rest: Rest) -> Option<Rest>
 fn respond(rt: &impl Print, read: &[u8], n: usize, out: &mut [u8]) -> Option<Rest>
     requires longer_is_seen { 32768 < length read.now }
     requires n_in_bounds { n ≤ length read.now }
+    requires page_whole { 98304 ≤ length out.old }
     ensures { Whole (printed (take n read.now)) out.new result }
 {
     let rest = text::answer(&read[..n], out)?;
