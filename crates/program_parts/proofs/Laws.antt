@@ -204,7 +204,7 @@ module _ (w : Parts) where
   end_none h = (rw behind_is h, refl)
 
   pub end_some : 3 < on_top.behind → Ended (stack_of w) (Some on_top) (stack_of (record { waiting = w.waiting; depth = d - 1 }))
-  end_some h = (rw behind_is h, sym behind_is, sym slot_is, refl)
+  end_some h = (rw behind_is h, sym behind_is, sym slot_is, refl, sym under_is)
 
   pub pop_to_lower : (ms : List ℤ) → on_top.behind ≡ 0 → stack_of (record { waiting = w.waiting; depth = d - 1 }) ≡ popped ms (stack_of w)
   pop_to_lower ms e = pop_last ms _ _ _ d (behind_is ∙ e)

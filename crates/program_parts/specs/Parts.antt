@@ -28,4 +28,4 @@ abbrev pub Ended : Stack → Option Part → Stack → Type 0
 Ended t r t' =
     MatchOption r ((get_or t.behind t.depth 0 ≤ 3) × (t' ≡ t))
     (λ p. (3 < get_or t.behind t.depth 0) × (p.behind ≡ get_or t.behind t.depth 0) × (p.slot ≡ get_or t.slots t.depth 0)
-    × (t' ≡ stack t.under t.slots t.behind (t.depth - 1)))
+    × (t' ≡ stack t.under t.slots t.behind (t.depth - 1)) × (p.under ≡ get_or t.under t.depth 0))
