@@ -1,11 +1,12 @@
-// What a program reads, into a slice that it lends.
+// What a program reads, into a slice that it lends, and what it prints on.
 #![tactic(auto)]
 
-ghost use Rattle.std.specs.Prelude.{◌≤◌, length, take};
+ghost use Rattle.std.specs.Prelude.{◌≤◌, length, take, IsOk};
 ghost use Rattle.std.specs.Io.KnownBytes.{Consumes};
 
 use std::env::Env;
-use std::io::Read;
+use std::fmt::Display;
+use std::io::{Read, Result};
 
 // Reads until the slice is full, the input ends or a read fails, and tells how many bytes it put at the start.
 pub fn read_full<R: Read>(from: &mut R, into: &mut [u8]) -> usize
@@ -28,4 +29,33 @@ pub fn arg(rt: &impl Env, i: usize, into: &mut [u8]) -> usize
     ensures { result ≤ length into.new }
 {
     rt.arg(i, into).unwrap_or(0)
+}
+
+// An output that goes on where a write fails: that piece is let go, and the next one is tried.
+#[derive(Clone, Copy)]
+pub struct Onward<'a, P: Print> {
+    pub to: &'a P,
+}
+
+impl<P: Print> Print for Onward<'_, P> {
+    fn print<D: Display + Drop>(&self, value: D) -> Result<()>
+        ensures { IsOk result }
+    {
+        let _ = self.to.print(value);
+        Ok(())
+    }
+
+    fn println<D: Display + Drop>(&self, value: D) -> Result<()>
+        ensures { IsOk result }
+    {
+        let _ = self.to.println(value);
+        Ok(())
+    }
+
+    fn write_all(&self, bytes: &[u8]) -> Result<()>
+        ensures { IsOk result }
+    {
+        let _ = self.to.write_all(bytes);
+        Ok(())
+    }
 }

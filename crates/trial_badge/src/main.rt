@@ -12,7 +12,7 @@ use services::matching::{Matched, match_units, match_units_with};
 use services::refusal::ALWAYS_TRUE;
 use services::review::review;
 use std::io;
-use streams::read_full;
+use streams::{Onward, read_full};
 use tests::{MISFIT, TARGET as TARGET_REFUSED, UNFIT};
 use words::dialect::EVERY_PLACE;
 use words::tag_at;
@@ -189,21 +189,22 @@ impl<'a> Iterator for Names<'a> {
     }
 }
 
-// What the rows are told by: the names of the variables, the units, and the words of the rows.
+// What the rows are told by: the names of the variables and their number, the units, and the words of the rows.
 #[derive(Clone, Copy)]
 struct Rows<'a> {
     names: Names<'a>,
+    variables: usize,
     units: &'a [i32],
     words: &'a [i32],
 }
 
 // A row from an index of the rows on: each variable's name, its value and its units. What is given back is the index behind the row.
 fn say_row(rt: &impl Print, rows: Rows<'_>, at: usize, origins: &[i32]) -> io::Result<usize> {
-    if rows.names.count() == 0 {
+    if rows.variables == 0 {
         print!(rt; "(no variable)")?;
     }
     let mut end = at;
-    for (i, name) in rows.names.enumerate() {
+    for (i, name) in rows.names.take(rows.variables).enumerate() {
         if 0 < i {
             print!(rt; ", ")?;
         }
@@ -234,7 +235,7 @@ fn say_found(rt: &impl Print, found: &Matched) -> io::Result<()> {
 
 // So many rows, one behind the other; the units that their variables took stand in `origins` likewise.
 fn say_rows(rt: &impl Print, rows: Rows<'_>, count: u64, origins: &[i32]) -> io::Result<()> {
-    let width = rows.names.count().saturating_mul(ORIGIN_WORDS);
+    let width = rows.variables.saturating_mul(ORIGIN_WORDS);
     let mut at = 0;
     let mut taken = origins;
     for _ in 0..count {
@@ -278,6 +279,7 @@ fn play(rt: &impl Print, rule: Rule<'_>) -> io::Result<()> {
     };
     let rows = Rows {
         names,
+        variables: names.count(),
         units,
         words: &words,
     };
@@ -326,9 +328,9 @@ fn answer(rt: &impl Print, text: &[u8]) -> io::Result<()> {
     tell(rt, rule)
 }
 
-// What can't be written is let go.
+// What can't be written is let go, and what comes after it is tried.
 fn main(rt: HostRuntime) {
     let mut input = [0u8; INPUT];
     let n = read_full(&mut rt.stdin(), &mut input);
-    let _ = answer(&rt, &input[..n]);
+    let _ = answer(&Onward { to: &rt }, &input[..n]);
 }

@@ -3,6 +3,7 @@
 
 use notation_write::write_rule;
 use std::io;
+use streams::Onward;
 use test_target::test_target;
 use tests::{Refusal, rule_refused};
 use text_ask::LINE_WORDS;
@@ -45,7 +46,7 @@ impl Game<'_> {
     }
 }
 
-// What can't be written is let go.
+// What can't be written is let go, and what comes after it is tried.
 fn main(rt: HostRuntime) {
     let mut m = [0; LINE_WORDS];
     let mut p = [0; LINE_WORDS];
@@ -58,7 +59,7 @@ fn main(rt: HostRuntime) {
                 pattern: &p[..asked.pattern],
                 units: &t[..asked.target],
             };
-            game.explain(&rt)
+            game.explain(&Onward { to: &rt })
         }
     };
 }
