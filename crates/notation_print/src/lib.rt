@@ -1,7 +1,7 @@
 // A rule's tokens as characters, put one behind the other on a lent page. A page that is full takes no more.
 #![tactic(auto)]
 
-ghost use Rattle.std.specs.Prelude.{◌≡◌, ◌+◌, ◌<◌, [], ◌∷◌};
+ghost use Rattle.std.specs.Prelude.{◌≡◌, ◌+◌, ◌<◌, [], ◌∷◌, cond, ltb};
 ghost use Rattle.notation_rules.specs.Letters.{decimal};
 ghost use Rattle.notation_print.specs.Inks.{mark_of, name_of, joins as Inks·joins, after as Inks·after, spelt, spaced_on, sheet, draw};
 ghost use Rattle.notation_print.specs.Kinds.{number_of, asked};
@@ -43,6 +43,21 @@ pub enum Asks {
     Apart,
     Named,
     Negative,
+}
+
+// By the numbers of `asked`; another asks for a space, as most tokens do.
+impl From<u32> for Asks {
+    ghost from_gives = { λ number asks. asked asks ≡ cond (ltb number 4) number 1 };
+
+    #[tactic(auto, unfolding(crate::specs::Kinds::asked))]
+    fn from(number: u32) -> Asks {
+        match number {
+            0 => Asks::AtOnce,
+            2 => Asks::Named,
+            3 => Asks::Negative,
+            _ => Asks::Apart,
+        }
+    }
 }
 
 // The characters of the marks in the order of their numbers, then of the signs.

@@ -91,7 +91,7 @@ const NOTHING: Waiting = Waiting {
     parts: 0,
 };
 
-type Stack = [Waiting; 16384];
+pub type Stack = [Waiting; 16384];
 
 // The automaton: what waits, in fixed memory since the library has no heap, and where it stands.
 #[derive(Drop)]
@@ -105,7 +105,7 @@ const ROUND: usize = 0;
 const SQUARE: usize = 8;
 
 // The places. Three more rows of the table are places inside a bracket: 2 after a `[`, 5 and 6, 10, 21 after a part.
-const START: u32 = 0;
+pub const START: u32 = 0;
 
 const MATCHER_READ: u32 = 9;
 
