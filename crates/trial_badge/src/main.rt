@@ -204,6 +204,7 @@ fn say_row(rt: &impl Print, rows: Rows<'_>, at: usize, origins: &[i32]) -> io::R
         print!(rt; "(no variable)")?;
     }
     let mut end = at;
+    // By their number, so that the text behind the last name is not scanned to its end for each row.
     for (i, name) in rows.names.take(rows.variables).enumerate() {
         if 0 < i {
             print!(rt; ", ")?;
